@@ -1,0 +1,11 @@
+use Rattle.std.proofs.Common.{refl}
+use Rattle.f11_dev.specs.Block.{word_sum}
+use Rattle.f11_dev.proofs.BlockLemmas.{word_sum-more}
+use Rattle.f11_dev.proofs.words.sum_words.Goals as goal
+
+pub loop-i-init : goal.loop-i-init
+unfolding word_sum
+loop-i-init c = refl
+
+pub loop-i-preserved : goal.loop-i-preserved
+loop-i-preserved c = word_sum-more _ _ _ _ c.loop-i.invariant c.read_word-sum.ensures

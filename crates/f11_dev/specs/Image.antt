@@ -1,0 +1,16 @@
+-- An image: the blocks of a device, in the order of their logical block numbers (LBN), from 0.
+use Rattle.std.specs.Prelude.{◌≡◌, ℕ, ◌^◌, ◌<◌, List, length, replicate, Some}
+use Rattle.std.specs.List.{slice_get}
+use Rattle.f11_dev.specs.Block.{IsBlock, zero_block}
+
+abbrev pub Image : Type 0
+Image = List (List ℕ)
+
+-- an image has fewer than 2^32 blocks, and each of them is a block
+pub record IsImage (image : Image) : Type 0 where
+  pub size : length image < 2 ^ 32
+  pub each : (lbn : ℕ) (b : List ℕ) → slice_get image lbn ≡ Some b → IsBlock b
+
+-- n blocks of zeros
+abbrev pub zero_image : ℕ → Image
+zero_image n = replicate n zero_block

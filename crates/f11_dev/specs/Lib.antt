@@ -1,0 +1,9 @@
+pub mod Block
+pub mod Image
+pub mod Disk
+pub mod Looked
+pub mod Went
+pub mod Outcomes
+pub mod Memory
+pub mod Written
+pub mod FileImage

@@ -1,0 +1,44 @@
+//! The trait of block devices.
+ghost use Rattle.std.specs.Prelude.{◌≡◌, ◌<◌, length};
+ghost use Rattle.f11_dev.specs.Image.{IsImage};
+ghost use Rattle.f11_dev.specs.Disk.{Disk, Reads, Writes};
+
+use crate::Block;
+use std::error::Error;
+use std::fmt;
+
+/// A transfer failed.
+#[derive(Clone, Copy, Debug, PartialEq, Eq, Hash)]
+pub struct DeviceFault;
+
+impl fmt::Display for DeviceFault {
+    fn fmt<W: fmt::Write>(&self, f: &mut fmt::Formatter<W>) -> fmt::Result {
+        write!(f, "device fault")
+    }
+}
+
+impl Error for DeviceFault {}
+
+/// A device of blocks, numbered from 0 by their logical block number (LBN).
+pub trait Device {
+    /// What contracts know of the device: its image, the images at each moment, its transfers and failures,
+    /// and whether it is honest.
+    ghost disk: { Self → Disk };
+
+    /// The number of blocks, which no call changes.
+    fn blocks(&self) -> u32
+        ensures count { result ≡ length (disk self.now).image };
+
+    /// Reads block `lbn` in one transfer, which changes no block. After a failure `into` may hold any bytes.
+    fn read(&mut self, lbn: u32, into: &mut Block) -> Result<(), DeviceFault>
+        requires { lbn < length (disk self.old).image }
+        ensures reads { Reads result lbn into.new (disk self.old) (disk self.new) };
+
+    /// Writes block `lbn` in one transfer, which changes no other block. After a failure the block is the
+    /// old one or the new one.
+    fn write(&mut self, lbn: u32, from: &Block) -> Result<(), DeviceFault>
+        requires { lbn < length (disk self.old).image }
+        ensures writes { Writes result lbn from.now (disk self.old) (disk self.new) };
+
+    ghost is_image: { (device : Self) → IsImage (disk device).image };
+}

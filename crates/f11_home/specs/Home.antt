@@ -1,0 +1,46 @@
+-- The home block of an image (Files-11 On-Disk Structure Level 1, "Home Block"; profile: the search).
+use Rattle.std.specs.Prelude.{◌≡◌, ℕ, zero, suc, ◌+◌, ◌*◌, ◌/◌, ◌<◌, nat_le, if◌then◌else◌, List, length, Some}
+use Rattle.std.specs.List.{slice_get}
+use Rattle.f11_dev.specs.Image.{Image}
+use Rattle.f11_home.specs.HomeBlock.{IsHomeBlock, index_lbn, index_blocks, max_files, label}
+
+-- candidate k for the home block: LBN 1, 256, 512 and each further multiple of 256
+abbrev pub candidate : ℕ → ℕ
+candidate zero = 1
+candidate (suc k) = 256 * suc k
+
+-- how many candidates are below the end of a device of so many blocks
+abbrev pub candidates : ℕ → ℕ
+candidates blocks = if nat_le blocks 1 then 0 else (blocks + 255) / 256
+
+-- candidate k of the image is a valid home block
+pub record IsCandidate (image : Image) (k : ℕ) (b : List ℕ) : Type 0 where
+  pub stands : slice_get image (candidate k) ≡ Some b
+  pub valid : IsHomeBlock b (length image)
+
+-- none of the first n candidates is a valid home block
+abbrev pub NoneBelow : Image → ℕ → Type 0
+NoneBelow image n = (k : ℕ) (b : List ℕ) → k < n → ¬ IsCandidate image k b
+
+-- what is read off a home block, and its place
+pub record HomeFields : Type 0 where
+  pub lbn : ℕ
+  pub index_lbn : ℕ
+  pub index_blocks : ℕ
+  pub max_files : ℕ
+  pub label : List ℕ
+
+abbrev pub fields_of : ℕ → List ℕ → HomeFields
+fields_of lbn b = record { lbn = lbn; index_lbn = index_lbn b; index_blocks = index_blocks b; max_files = max_files b; label = label b }
+
+-- the home block of an image is its first candidate that is a valid home block
+pub record IsHomeOf (image : Image) (home : HomeFields) : Type 0 where
+  pub place : ℕ
+  pub block : List ℕ
+  pub found : IsCandidate image place block
+  pub first : NoneBelow image place
+  pub fields : home ≡ fields_of (candidate place) block
+
+-- an image has no home block where no candidate is valid
+abbrev pub HasNoHome : Image → Type 0
+HasNoHome image = (k : ℕ) (b : List ℕ) → ¬ IsCandidate image k b
