@@ -1,0 +1,12 @@
+use Rattle.std.proofs.Common.{rules, refl}
+use Rattle.f11_rad50.specs.Name.{IsName}
+use Rattle.f11_rad50.proofs.Words.{found_at, IsName-from_parts}
+use Rattle.f11_rad50.proofs.file_name.Name.from_words.Goals as goal
+
+pub returns-in_err-name-clause-every : goal.returns-in_err-name-clause-every
+returns-in_err-name-clause-every c = λ name kind version p e.
+    found_at c.from_residual.result (IsName c.args.words) c.args.words c.args.words (search rules) (IsName-from_parts c.args.words name kind version p e) refl
+
+pub returns-clause-every : goal.returns-clause-every
+returns-clause-every c = λ name kind version p e.
+    found_at c.then_some.result (IsName c.args.words) c.args.words c.args.words (search rules) (IsName-from_parts c.args.words name kind version p e) refl
