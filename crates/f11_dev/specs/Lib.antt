@@ -7,3 +7,7 @@ pub mod Outcomes
 pub mod Memory
 pub mod Written
 pub mod FileImage
+pub mod Wrapped
+pub mod Fuse
+pub mod FailOnce
+pub mod Liar

@@ -1,12 +1,12 @@
 //! A device in memory.
 ghost use Rattle.std.specs.Prelude.{◌≡◌, ◌<◌, ◌^◌, ◌-◌, [], ◌∷◌, reverse, slice_set, min, true, false, IfOk, IsOk, OnOk, OnErr, length};
-ghost use Rattle.f11_dev.specs.Block.{zero_block};
 ghost use Rattle.f11_dev.specs.Image.{IsImage, zero_image};
 ghost use Rattle.f11_dev.specs.Disk.{fresh, counted, Reads, Writes};
 ghost use Rattle.f11_dev.specs.Outcomes.{transfers_of};
 
+use crate::block::zeros;
 use crate::outcomes::Outcomes;
-use crate::{BLOCK_SIZE, Block, Device, DeviceFault, NoMemory};
+use crate::{Block, Device, DeviceFault, NoMemory};
 use std::alloc::Global;
 
 /// A device in memory. It is honest, and keeps a record of its writes: a write that finds no memory for its
@@ -122,12 +122,4 @@ fn zero_blocks(alloc: Global, count: u32) -> Result<Vec<Block>, NoMemory>
         blocks.push(zeros())?;
     }
     Ok(blocks)
-}
-
-/// The block of zeros.
-#[tactic(auto, unfolding(crate::specs::Block::zero_block))]
-fn zeros() -> Block
-    ensures { result ≡ zero_block }
-{
-    [0; BLOCK_SIZE]
 }

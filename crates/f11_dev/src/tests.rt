@@ -147,3 +147,73 @@ fn a_file_keeps_blocks(rt: HostRuntime) -> Result<(), Fail> {
     fs::remove_file(&protected.0, PATH)?;
     Ok(())
 }
+
+/// Reads a block, where the device has it.
+fn get(device: &mut impl Device, lbn: u32) -> Result<Block, DeviceFault> {
+    let mut block = SEVENS;
+    if lbn >= device.blocks() {
+        return Err(DeviceFault);
+    }
+    device.read(lbn, &mut block)?;
+    Ok(block)
+}
+
+/// Writes a block, where the device has it.
+fn put(device: &mut impl Device, lbn: u32, block: &Block) -> Result<(), DeviceFault> {
+    if lbn >= device.blocks() {
+        return Err(DeviceFault);
+    }
+    device.write(lbn, block)
+}
+
+#[test]
+fn a_fuse_passes_so_many_transfers(rt: HostRuntime) -> Result<(), Fail> {
+    let mut device = Fuse::new(memory(rt.alloc(), 2)?, 3);
+    assert_eq!(rt; get(&mut device, 0)?, ZEROS);
+    assert_eq!(rt; get(&mut device, 1)?, ZEROS);
+    let written = put(&mut device, 1, &SEVENS).is_ok();
+    assert!(rt; put(&mut device, 0, &SEVENS).is_err());
+    assert!(rt; get(&mut device, 1).is_err());
+    let mut inner = device.into_inner();
+    assert_eq!(rt; inner.transfers(), 3);
+    assert_eq!(rt; get(&mut inner, 0)?, ZEROS);
+    assert_eq!(rt; get(&mut inner, 1)? == SEVENS, written);
+    Ok(())
+}
+
+#[test]
+fn one_transfer_fails(rt: HostRuntime) -> Result<(), Fail> {
+    let mut device = FailOnce::new(memory(rt.alloc(), 1)?, 1, true);
+    assert!(rt; get(&mut device, 0).is_err());
+    assert_eq!(rt; get(&mut device, 0)?, ZEROS);
+    assert_eq!(rt; device.into_inner().transfers(), 1);
+
+    for (lands, want) in [(true, SEVENS), (false, ZEROS)] {
+        let mut device = FailOnce::new(memory(rt.alloc(), 1)?, 2, lands);
+        assert_eq!(rt; get(&mut device, 0)?, ZEROS);
+        assert!(rt; put(&mut device, 0, &SEVENS).is_err());
+
+        // The write that lands may find no memory for its record.
+        let after = get(&mut device, 0)?;
+        assert!(rt; after == want || after == ZEROS, "where it lands: {lands}");
+        assert_eq!(rt; device.into_inner().transfers(), 2 + u64::from(lands));
+    }
+    Ok(())
+}
+
+#[test]
+fn a_liar_lies_once_begun(rt: HostRuntime) -> Result<(), Fail> {
+    let mut inner = memory(rt.alloc(), 2)?;
+    for lbn in 0..2 {
+        if put(&mut inner, lbn, &SEVENS).is_err() {
+            put(&mut inner, lbn, &SEVENS)?;
+        }
+    }
+    let mut device = Liar::new(inner, 1);
+    assert_eq!(rt; get(&mut device, 1)?, SEVENS);
+    device.begin();
+    assert_eq!(rt; get(&mut device, 1)?, ZEROS);
+    assert_eq!(rt; get(&mut device, 0)?, SEVENS);
+    assert_eq!(rt; get(&mut device.into_inner(), 1)?, SEVENS);
+    Ok(())
+}

@@ -1,0 +1,116 @@
+//! A device of which one transfer fails.
+ghost use Rattle.std.specs.Prelude.{◌≡◌, ◌≢◌, ◌<◌, ◌-◌, length, true, false, IsErr, OnOk, OnErr, Result};
+ghost use Rattle.f11_dev.specs.declared.device.DeviceFault.{DeviceFault as Fault};
+ghost use Rattle.f11_dev.specs.Disk.{Reads, Writes};
+ghost use Rattle.f11_dev.specs.Wrapped.{unused};
+
+use crate::outcomes::Outcomes;
+use crate::{Block, Device, DeviceFault};
+
+/// A device around another of which one transfer fails, and each other one is passed on. It counts the
+/// transfers through it.
+#[derive(Drop)]
+pub struct FailOnce<D> {
+    inner: D,
+    /// Which transfer from now on fails, from 1; 0 where none does any more.
+    fails_at: u64,
+    lands: bool,
+    outcomes: Outcomes,
+}
+
+impl<D: Device> FailOnce<D> {
+    ghost use Rattle.f11_dev.specs.FailOnce.{failing, fails_at, is_landing, fail_once_disk, fail_once_outcomes};
+
+    /// A device whose transfer number `transfer`, from 1, fails; where it is a write, it replaces its block if
+    /// `lands` is true, and changes nothing otherwise.
+    pub fn new(inner: D, transfer: u64, lands: bool) -> FailOnce<D>
+        ensures inner { failing result ≡ inner }
+        ensures fails_at { fails_at result ≡ transfer }
+        ensures lands { is_landing result ≡ lands }
+        ensures disk { fail_once_disk D.disk result ≡ unused (D.disk inner) }
+    {
+        FailOnce {
+            inner,
+            fails_at: transfer,
+            lands,
+            outcomes: Outcomes::None,
+        }
+    }
+
+    /// The write that fails.
+    fn fail_to_write(&mut self, lbn: u32, from: &Block) -> Result<(), DeviceFault>
+        requires { lbn < length (D.disk (failing self.old)).image }
+        ensures fails { IsErr result }
+        ensures lands { is_landing self.old ≡ true → (inner : Result Unit Fault) × Writes inner lbn from.now (D.disk (failing self.old)) (D.disk (failing self.new)) }
+        ensures stays { is_landing self.old ≡ false → failing self.new ≡ failing self.old }
+        ensures next { (fails_at self.new ≡ fails_at self.old) × (is_landing self.new ≡ is_landing self.old) }
+        ensures outcomes { fail_once_outcomes self.new ≡ fail_once_outcomes self.old }
+    {
+        if self.lands {
+            let _ = self.inner.write(lbn, from);
+        }
+        Err(DeviceFault)
+    }
+
+    /// The device as it is.
+    pub fn into_inner(self) -> D
+        ensures { result ≡ failing self }
+    {
+        let FailOnce {
+            inner,
+            fails_at: _,
+            lands: _,
+            outcomes: _,
+        } = self;
+        inner
+    }
+}
+
+impl<D: Device> Device for FailOnce<D> {
+    ghost use Rattle.f11_dev.specs.FailOnce.{failing, fails_at, is_landing, fail_once_disk};
+
+    ghost disk = { fail_once_disk D.disk };
+
+    ghost is_image = { λ f. D.is_image f.inner };
+
+    fn blocks(&self) -> u32 {
+        self.inner.blocks()
+    }
+
+    fn read(&mut self, lbn: u32, into: &mut Block) -> Result<(), DeviceFault>
+        requires { lbn < length (fail_once_disk D.disk self.old).image }
+        ensures reads { Reads result lbn into.new (fail_once_disk D.disk self.old) (fail_once_disk D.disk self.new) }
+        ensures passes { fails_at self.old ≢ 1 → Reads result lbn into.new (D.disk (failing self.old)) (D.disk (failing self.new)) }
+        ensures fails { fails_at self.old ≡ 1 → IsErr result × (failing self.new ≡ failing self.old) }
+        ensures next { (fails_at self.new ≡ fails_at self.old - 1) × (is_landing self.new ≡ is_landing self.old) }
+    {
+        let done = if self.fails_at == 1 {
+            Err(DeviceFault)
+        } else {
+            self.inner.read(lbn, into)
+        };
+        self.fails_at = self.fails_at.saturating_sub(1);
+        self.outcomes.add(done.is_ok());
+        done
+    }
+
+    fn write(&mut self, lbn: u32, from: &Block) -> Result<(), DeviceFault>
+        requires { lbn < length (fail_once_disk D.disk self.old).image }
+        ensures writes { Writes result lbn from.now (fail_once_disk D.disk self.old) (fail_once_disk D.disk self.new) }
+        ensures passes { fails_at self.old ≢ 1 → Writes result lbn from.now (D.disk (failing self.old)) (D.disk (failing self.new)) }
+        ensures fails { fails_at self.old ≡ 1 → IsErr result }
+        ensures lands { fails_at self.old ≡ 1 → is_landing self.old ≡ true
+            → (inner : Result Unit Fault) × Writes inner lbn from.now (D.disk (failing self.old)) (D.disk (failing self.new)) }
+        ensures stays { fails_at self.old ≡ 1 → is_landing self.old ≡ false → failing self.new ≡ failing self.old }
+        ensures next { (fails_at self.new ≡ fails_at self.old - 1) × (is_landing self.new ≡ is_landing self.old) }
+    {
+        let done = if self.fails_at == 1 {
+            self.fail_to_write(lbn, from)
+        } else {
+            self.inner.write(lbn, from)
+        };
+        self.fails_at = self.fails_at.saturating_sub(1);
+        self.outcomes.add(done.is_ok());
+        done
+    }
+}

@@ -1,0 +1,87 @@
+//! A device that lies.
+ghost use Rattle.std.specs.Prelude.{◌≡◌, ◌≢◌, ◌⊎◌, ◌<◌, length, OnOk, OnErr};
+ghost use Rattle.f11_dev.specs.Block.{zero_block};
+ghost use Rattle.f11_dev.specs.Disk.{Reads, Writes};
+
+use crate::block::zeros;
+use crate::{Block, Device, DeviceFault};
+use std::cell::Cell;
+
+/// A device around another that lies about one block once [`Liar::begin`] was called: reads of it give zeros.
+/// It isn't honest.
+///
+/// No contract can say what a cell holds, so that it lies from `begin` on and no earlier is tested and not proved.
+#[derive(Drop)]
+pub struct Liar<D> {
+    inner: D,
+    lbn: u32,
+    begun: Cell<bool>,
+}
+
+impl<D: Device> Liar<D> {
+    ghost use Rattle.f11_dev.specs.Liar.{lied_about, lies_at, liar_disk};
+
+    /// A device that is to lie about block `lbn`.
+    pub fn new(inner: D, lbn: u32) -> Liar<D>
+        ensures inner { lied_about result ≡ inner }
+        ensures lbn { lies_at result ≡ lbn }
+    {
+        Liar {
+            inner,
+            lbn,
+            begun: Cell::new(false),
+        }
+    }
+
+    /// From now on reads of the block give zeros.
+    pub fn begin(&self) {
+        self.begun.set(true);
+    }
+
+    /// The device as it is.
+    pub fn into_inner(self) -> D
+        ensures { result ≡ lied_about self }
+    {
+        let Liar {
+            inner,
+            lbn: _,
+            begun: _,
+        } = self;
+        inner
+    }
+}
+
+impl<D: Device> Device for Liar<D> {
+    ghost use Rattle.f11_dev.specs.Liar.{lied_about, lies_at, liar_disk};
+
+    ghost disk = { liar_disk D.disk };
+
+    ghost is_image = { λ l. D.is_image l.inner };
+
+    fn blocks(&self) -> u32 {
+        self.inner.blocks()
+    }
+
+    fn read(&mut self, lbn: u32, into: &mut Block) -> Result<(), DeviceFault>
+        requires { lbn < length (liar_disk D.disk self.old).image }
+        ensures reads { Reads result lbn into.new (liar_disk D.disk self.old) (liar_disk D.disk self.new) }
+        ensures true_elsewhere { lbn ≢ lies_at self.old → Reads result lbn into.new (D.disk (lied_about self.old)) (D.disk (lied_about self.new)) }
+        ensures zeros_or_true { OnOk result ((into.new ≡ zero_block) ⊎ Reads result lbn into.new (D.disk (lied_about self.old)) (D.disk (lied_about self.new))) }
+        ensures place { lies_at self.new ≡ lies_at self.old }
+    {
+        self.inner.read(lbn, into)?;
+        if lbn == self.lbn && self.begun.get() {
+            *into = zeros();
+        }
+        Ok(())
+    }
+
+    fn write(&mut self, lbn: u32, from: &Block) -> Result<(), DeviceFault>
+        requires { lbn < length (liar_disk D.disk self.old).image }
+        ensures writes { Writes result lbn from.now (liar_disk D.disk self.old) (liar_disk D.disk self.new) }
+        ensures passes { Writes result lbn from.now (D.disk (lied_about self.old)) (D.disk (lied_about self.new)) }
+        ensures place { lies_at self.new ≡ lies_at self.old }
+    {
+        self.inner.write(lbn, from)
+    }
+}
