@@ -1,0 +1,135 @@
+-- Laws of files that are created, deleted, cut and extended.
+use Rattle.std.proofs.Common.{◌≡◌, ℕ, ◌+◌, ◌-◌, ◌<◌, ◌≤◌, ◌==◌, Bool, true, false, List, [], Option, Some, length, take, get_or, refl, sym, ◌∙◌, subst, arith, if◌then◌else◌, IsSomeAnd, ◌∷◌, None, zero, suc, ◌++◌, not, filter}
+use Rattle.std.proofs.lemmas.Bool.{ltb-false}
+use Rattle.std.proofs.lemmas.List.{get_or-replicate, get_or-append_right, length-take}
+use Rattle.f11_store.specs.declared.callers.Uic.{Uic}
+use Rattle.f11_store.specs.declared.files.FileId.{FileId}
+use Rattle.f11_store.specs.declared.requests.Reply.{Reply}
+use Rattle.f11_store.specs.declared.requests.Reply.TheVariants as reply
+use Rattle.f11_store.specs.declared.requests.Request.TheVariants as request
+use Rattle.f11_store.specs.File.{File, length_of, with_mark, zero_block, zero_blocks}
+use Rattle.std.specs.List.{range_with_len}
+use Rattle.f11_store.specs.declared.refusals.Refusal.TheVariants.{NoHeader}
+use Rattle.f11_store.specs.Store.{Store, named, id_held, held, is_accessed, free_slots, free_headers, least_free}
+use Rattle.f11_store.specs.Changes.{Truncates, Grows, next_sequence, with_file, marked, deleted, shortened}
+use Rattle.f11_store.specs.Step.{Serves, next_id, block_at}
+use Rattle.f11_store.specs.Laws.{NewSlotWasFree, NewFileIsNext, AccessedKeepsBlocks, CutComesBackZero}
+use Rattle.f11_store.proofs.StoreLemmas.{none_first, none_rest, same_number, kept-with_change, length-named}
+
+-- the identification that was created
+created_id : (id next : FileId) → reply.Created id ≡ reply.Created next → id ≡ next
+created_id id next h = cc
+
+-- the first number that passes is one that does
+first_passes :
+    (p : ℕ → Bool) (a m : ℕ) → (length (filter p (range_with_len a m)) == 0) ≡ false →
+    (a ≤ get_or (filter p (range_with_len a m)) 0 0) × (get_or (filter p (range_with_len a m)) 0 0 < a + m)
+    × (p (get_or (filter p (range_with_len a m)) 0 0) ≡ true)
+first_passes p a zero h = absurd (cc)
+first_passes p a (suc m) h = by_test (p a) refl (first_passes p (a + 1) m) h
+  where
+    rest : List ℕ
+    rest = filter p (range_with_len (a + 1) m)
+
+    by_test : (b : Bool) → p a ≡ b →
+        ((length rest == 0) ≡ false → (a + 1 ≤ get_or rest 0 0) × (get_or rest 0 0 < a + 1 + m) × (p (get_or rest 0 0) ≡ true)) →
+        (length (if b then a ∷ rest else rest) == 0) ≡ false →
+        (a ≤ get_or (if b then a ∷ rest else rest) 0 0) × (get_or (if b then a ∷ rest else rest) 0 0 < a + suc m)
+        × (p (get_or (if b then a ∷ rest else rest) 0 0) ≡ true)
+    by_test true e later some = (omega arith, omega arith, e)
+    by_test false e later some = let l = later some in (omega (arith, l.0), omega (arith, l.1), l.2)
+
+-- a slot that is free
+pub record IsFreeSlot (s : Store) (n : ℕ) : Type 0 where
+  pub low : 6 ≤ n
+  pub high : n ≤ s.slots
+  pub unused : s.in_use n ≡ false
+
+least_free_is_free : (s : Store) → (free_headers s == 0) ≡ false → IsFreeSlot s (least_free s)
+unfolding free_slots
+least_free_is_free s h =
+    let l = first_passes (λ n. not (s.in_use n)) 6 (s.slots - 5) h in
+    record { low = l.0; high = omega (arith, l.0, l.1); unused = not_in_use (s.in_use (least_free s)) l.2 }
+  where
+    not_in_use : (b : Bool) → not b ≡ true → b ≡ false
+    not_in_use false e = refl
+    not_in_use true e = absurd (cc)
+
+pub new_slot_was_free : NewSlotWasFree
+new_slot_was_free s task caller word ident attr block id s' block' h =
+    let free : IsFreeSlot s (least_free s) = least_free_is_free s (none_first (free_headers s == 0) NoHeader None h.no_cause) in
+    subst (λ (i : FileId). (6 ≤ i.number) × (i.number ≤ s.slots) × (s.in_use i.number ≡ false))
+    (sym (created_id id (next_id s) h.reply_is)) (free.low, free.high, free.unused)
+
+pub new_file_is_next : NewFileIsNext
+new_file_is_next s task caller word ident attr block id s' block' h =
+    subst (λ (i : FileId). (i.sequence ≡ next_sequence (s.last i.number)) × (s'.last i.number ≡ i.sequence))
+    (sym (created_id id (next_id s) h.reply_is)) (
+      refl,
+      subst (λ (x : Store). x.last (next_id s).number ≡ (next_id s).sequence) (sym h.changes)
+          (rw (same_number (next_id s).number) refl),
+    )
+
+pub accessed_keeps_blocks : AccessedKeepsBlocks
+accessed_keeps_blocks s task caller id block a s' block' h accessed =
+    subst (λ (x : Store). ((named x id).blocks ≡ (named s id).blocks) × (x.access ≡ s.access)) (sym is_marked)
+    (kept-with_change s id (λ f. record f { characteristics = with_mark f.characteristics }) (λ f. refl) (λ f. f.blocks) (λ f. refl), refl)
+  where
+    by_test : (b : Bool) → b ≡ true → (if b then marked s id.number else deleted s id.number) ≡ marked s id.number
+    by_test true e = refl
+    by_test false e = absurd (cc)
+
+    is_marked : s' ≡ marked s id.number
+    is_marked = h.changes ∙ by_test (is_accessed s id) accessed
+
+-- a block among n zeros past the first ones
+zero_past : (bs : List (List ℕ)) (to n vbn : ℕ) → to ≤ length bs → to < vbn → vbn ≤ to + n →
+    get_or (take to bs ++ zero_blocks n) (vbn - 1) [] ≡ zero_block
+unfolding zero_blocks
+zero_past bs to n vbn long above below =
+    get_or-append_right (take to bs) (zero_blocks n) to (vbn - 1) [] (length-taken) (omega arith)
+    ∙ get_or-replicate n (vbn - 1 - to) zero_block [] (omega arith)
+  where
+    length-taken : length (take to bs) ≡ to
+    length-taken = simp length-take (omega arith)
+
+-- the file in the place that was just given it
+file_there : (s : Store) (k : ℕ) (f g : File) → (with_file s k (Some f)).file k ≡ Some g → f ≡ g
+file_there s k f g h = by_test (k == k) (same_number k) (s.file k) h
+  where
+    by_test : (b : Bool) → b ≡ true → (o : Option File) → (if b then Some f else o) ≡ Some g → f ≡ g
+    by_test true t o e = cc
+    by_test false t o e = absurd (cc)
+
+-- a served Truncate is within the file
+can_cut :
+    (s : Store) (task : ℕ) (caller : Uic) (lun to : ℕ) (block : List ℕ) (a : Reply) (s' : Store) (block' : List ℕ) →
+    Serves s task caller (request.Truncate lun to) block a s' block' → to ≤ length_of (held s task lun)
+can_cut s task caller lun to block a s' block' h =
+    ltb-false (length_of (held s task lun)) to (none_first _ _ _ (none_rest _ _ _ h.no_cause))
+
+-- a file that was cut and then extended
+cut_then_grown :
+    (s s'' : Store) (k to n vbn : ℕ) (f : File) (headers pointers room : ℕ) →
+    Grows (shortened s k f to headers pointers room) k n (zero_blocks n) s'' →
+    to ≤ length f.blocks → to < vbn → vbn ≤ to + n → IsSomeAnd (s''.file k) (λ g. block_at g vbn ≡ zero_block)
+cut_then_grown s s'' k to n vbn f headers pointers room grows long above below =
+    subst (λ (x : Store). IsSomeAnd (x.file k) (λ g. block_at g vbn ≡ zero_block)) (sym grows.store_is)
+    (rw (same_number k) (subst (λ (g : File). get_or (g.blocks ++ zero_blocks n) (vbn - 1) [] ≡ zero_block) before
+    (zero_past f.blocks to n vbn long above below)))
+  where
+    before : record f { held = take headers f.held; pointers = pointers; room = room; blocks = take to f.blocks } ≡ grows.before
+    before = file_there s k _ grows.before grows.was
+
+pub cut_comes_back_zero : CutComesBackZero
+cut_comes_back_zero s task caller lun to n block a b s' s'' block' block'' vbn h k above below =
+    cut_then_grown s s'' (id_held s task lun).number to n vbn cut.before cut.headers cut.pointers cut.room
+    (subst (λ (x : Store). Grows x (id_held x task lun).number n (zero_blocks n) s'') cut.store_is k.changes)
+    long above below
+  where
+    cut : Truncates s (id_held s task lun).number to s'
+    cut = h.changes
+
+    long : to ≤ length cut.before.blocks
+    long =
+        omega (arith, can_cut s task caller lun to block a s' block' h, length-named s (id_held s task lun) cut.before cut.was)

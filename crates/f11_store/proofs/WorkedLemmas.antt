@@ -1,0 +1,98 @@
+-- The worked examples, computed.
+use Rattle.std.proofs.Common.{◌≡◌, ℕ, List, Some, None, refl, arith}
+use Rattle.f11_store.specs.declared.callers.Uic.{Uic}
+use Rattle.f11_store.specs.declared.refusals.Refusal.{Refusal}
+use Rattle.f11_store.specs.declared.requests.Request.{Request}
+use Rattle.f11_store.specs.File.{File, zero_blocks, stated_end}
+use Rattle.f11_store.specs.Store.{Store, free_slots, is_held}
+use Rattle.f11_store.specs.Directory.{is_directory, record_at, entries_of, has_name, record_bytes, with_record, with_end}
+use Rattle.f11_store.specs.Causes.{first_refusal}
+use Rattle.f11_store.specs.Changes.{Changes, MayGrow, Grows, extended}
+use Rattle.f11_store.specs.Step.{MayRefuse, Refuses, Serves, reply_of, block_after}
+use Rattle.f11_store.specs.Worked.{mfd_block, SequenceNumbers, FullVolume, TooLong, DeferredDelete, TruncatedUnderAReader, Conflicts, EnteredAndRemoved, EndMoves, HeadersRunOut, Bounds}
+
+-- a step that is refused
+refused :
+    {s : Store} {task : ℕ} {caller : Uic} {r : Request} {block : List ℕ} {e : Refusal} →
+    MayRefuse (first_refusal s task caller r) r e → Refuses s task caller r block e s block
+refused h = record { may_refuse = h; store_stays = refl; block_stays = refl }
+
+-- a step that is served
+served :
+    {s : Store} {task : ℕ} {caller : Uic} {r : Request} {block : List ℕ} {s' : Store} →
+    first_refusal s task caller r ≡ None → Changes s task caller r block s' →
+    Serves s task caller r block (reply_of s task r) s' (block_after s task r block)
+served h k = record { no_cause = h; reply_is = refl; changes = k; block_is = refl }
+
+-- a file that grows, by so many headers, to so many pointers and so much room
+grows :
+    {s : Store} {k n : ℕ} {blocks : List (List ℕ)} {f : File} (added pointers room : ℕ) →
+    s.file k ≡ Some f → MayGrow f n added pointers room → Grows s k n blocks (extended s k f n blocks added pointers room)
+grows added pointers room h may = record {
+  before = _;
+  added = added;
+  pointers = pointers;
+  room = room;
+  was = h;
+  may_grow = may;
+  store_is = refl;
+}
+
+pub sequence_numbers : SequenceNumbers
+unfolding free_slots is_held zero_blocks
+sequence_numbers =
+    (_, (_, served refl refl, (_, served refl refl, (_, served refl refl, (_, refused refl, (_, served refl refl, refl))))))
+
+pub full_volume : FullVolume
+unfolding free_slots is_held zero_blocks
+full_volume =
+    (_, (_, served refl refl, (_, served refl refl, (_, served refl (grows 0 2 100 refl (record { headers = omega arith; no_fewer = omega arith; no_more = omega arith; places = refl; filled = λ h. omega arith })), (_, refused refl, (_, served refl refl, refl))))))
+
+pub too_long : TooLong
+unfolding free_slots is_held zero_blocks
+too_long =
+    (_, (_, served refl refl, (_, served refl refl, (_, refused refl, (_, refused refl, (_, refused refl, refl))))))
+
+pub deferred_delete : DeferredDelete
+unfolding free_slots is_held zero_blocks
+deferred_delete =
+    (_, (_, served refl refl, (_, served refl refl, (_, served refl (grows 0 1 101 refl (record { headers = omega arith; no_fewer = omega arith; no_more = omega arith; places = refl; filled = λ h. omega arith })), (_, served refl refl, (_, served refl refl, (_, served refl refl, (_, served refl refl, (_, refused refl, (_, refused refl, (_, served refl refl, (_, served refl refl, (_, served refl refl, refl)))))))))))))
+
+pub truncated_under_a_reader : TruncatedUnderAReader
+unfolding free_slots is_held zero_blocks
+truncated_under_a_reader =
+    (_, (_, served refl refl, (_, served refl refl, (_, served refl (grows 0 1 101 refl (record { headers = omega arith; no_fewer = omega arith; no_more = omega arith; places = refl; filled = λ h. omega arith })), (_, served refl refl, (_, served refl refl, (_, served refl (record { before = _; headers = 1; pointers = 1; room = 101; was = refl; some_header = omega arith; no_more_headers = omega arith; no_more_pointers = omega arith; store_is = refl }), (_, served refl refl, (_, served refl refl, (_, served refl (grows 0 1 101 refl (record { headers = omega arith; no_fewer = omega arith; no_more = omega arith; places = refl; filled = λ h. omega arith })), (_, served refl refl, (_, refused refl, refl))))))))))))
+
+pub conflicts : Conflicts
+unfolding free_slots is_held zero_blocks
+conflicts =
+    (_, (_, served refl refl, (_, served refl refl, (_, refused refl, (_, served refl refl, (_, served refl refl, (_, refused refl, (_, refused refl, (_, refused refl, (_, refused refl, refl))))))))))
+
+pub headers_run_out : HeadersRunOut
+unfolding free_slots is_held zero_blocks
+headers_run_out =
+    (_, (_, refused refl, (_, refused refl, (_, served refl (grows 0 1 101 refl (record { headers = omega arith; no_fewer = omega arith; no_more = omega arith; places = refl; filled = λ h. omega arith })), (_, refused refl, (_, served refl (record { grown = _; grows = grows 0 2 100 refl (record { headers = omega arith; no_fewer = omega arith; no_more = omega arith; places = refl; filled = λ h. omega arith }); store_is = refl }), (_, refused refl, (_, refused refl, (_, refused refl, refl)))))))))
+
+pub entered_and_removed : EnteredAndRemoved
+unfolding free_slots is_held zero_blocks stated_end is_directory record_at entries_of has_name record_bytes with_record with_end mfd_block
+entered_and_removed =
+    (_, (_, refused refl, (_, served refl refl, (_, served refl refl, (_, refused refl, (_, served refl refl, (_, refused refl, (_, served refl refl, (_, refused refl, (_, refused refl, refl))))))))))
+
+pub end_moves : EndMoves
+unfolding with_end
+end_moves = refl
+
+pub bounds : Bounds
+unfolding stated_end with_end is_held
+bounds = record {
+  create = refl;
+  find = refl;
+  enter = refl;
+  remove = refl;
+  delete = refl;
+  grow = refl;
+  extend = refl;
+  read = refl;
+  close = refl;
+  release = refl;
+}

@@ -1,0 +1,241 @@
+-- What a request that is served changes in the store (profile). Whatever isn't named stays.
+-- A section in parentheses is one of the Files-11 On-Disk Structure Level 1 specification; 'profile' is a rule of this project.
+use Rattle.std.specs.Prelude.{◌≡◌, ℕ, ◌+◌, ◌-◌, ◌*◌, ◌<◌, ◌≤◌, ◌==◌, ◌&&◌, ◌||◌, Bool, true, false, not, nat_lt, nat_le, List, [], ◌∷◌, ◌++◌, length, take, drop, Option, Some, None, unwrap_or, option_map, if◌then◌else◌, slice_set, fold}
+use Rattle.std.specs.List.{list_any, range_with_len}
+use Rattle.f11_store.specs.declared.callers.Uic.{Uic}
+use Rattle.f11_store.specs.declared.files.FileId.{FileId}
+use Rattle.f11_store.specs.declared.files.Change.{Change}
+use Rattle.f11_store.specs.declared.files.Change.TheVariants as change
+use Rattle.f11_store.specs.declared.requests.Request.{Request}
+use Rattle.f11_store.specs.declared.requests.Request.TheVariants as request
+use Rattle.f11_store.specs.File.{File, no_file, length_of, is_marked, with_mark, without_contiguous, need, zero_blocks}
+use Rattle.f11_store.specs.Store.{Store, Access, named, id_held, free_slots, least_free, is_accessed}
+use Rattle.f11_store.specs.Directory.{place_of, empty_place, entry_count, needs_block, record_bytes, empty_record, with_record, with_end}
+
+-- the slot is in the list
+abbrev pub is_in : List ℕ → ℕ → Bool
+is_in slots n = list_any (λ m. m == n) slots
+
+-- the sequence number after this one: 1 after 65535 (profile)
+abbrev pub next_sequence : ℕ → ℕ
+next_sequence n = if n == 65535 then 1 else n + 1
+
+-- the file with this number becomes f, or goes
+abbrev pub with_file : Store → ℕ → Option File → Store
+with_file s k f = record s { file = λ n. if n == k then f else s.file n }
+
+-- the file with this number, if there is one, is changed
+abbrev pub with_change : Store → ℕ → (File → File) → Store
+with_change s k change = with_file s k (option_map change (s.file k))
+
+-- the slots come into use, each with its next sequence number
+abbrev pub with_slots : Store → List ℕ → Store
+with_slots s slots = record s {
+  in_use = λ n. is_in slots n || s.in_use n;
+  last = λ n. if is_in slots n then next_sequence (s.last n) else s.last n;
+}
+
+-- the slots leave use
+abbrev pub without_slots : Store → List ℕ → Store
+without_slots s slots = record s { in_use = λ n. not (is_in slots n) && s.in_use n }
+
+-- a new file in a slot, without blocks
+abbrev pub new_file : ℕ → ℕ → Uic → ℕ → List ℕ → List ℕ → File
+new_file slot sequence owner protection ident attr = record {
+  sequence = sequence;
+  owner = owner;
+  protection = protection;
+  characteristics = 0;
+  ident = ident;
+  attr = attr;
+  held = slot ∷ [];
+  pointers = 0;
+  room = 102;
+  blocks = [];
+}
+
+-- the store with a new file in a slot, with the slot's next sequence number
+abbrev pub created_in : Store → ℕ → Uic → ℕ → List ℕ → List ℕ → Store
+created_in s slot owner protection ident attr =
+    with_file (with_slots s (slot ∷ [])) slot (Some (new_file slot (next_sequence (s.last slot)) owner protection ident attr))
+
+-- Create: in the least free slot
+abbrev pub created : Store → Uic → ℕ → List ℕ → List ℕ → Store
+created s caller protection ident attr = created_in s (least_free s) caller protection ident attr
+
+-- the headers, pointers and room that a file may have after n more blocks; each header added has 102 places
+pub record MayGrow (before : File) (n added pointers room : ℕ) : Type 0 where
+  pub headers : added ≤ need before.room n
+  pub no_fewer : before.pointers ≤ pointers
+  pub no_more : pointers ≤ before.pointers + n
+  pub places : pointers + room ≡ before.pointers + before.room + 102 * added
+  pub filled : 0 < added → room ≤ 101
+
+-- the file with n more blocks, and so many headers, pointers and places
+abbrev pub lengthened : Store → File → List (List ℕ) → ℕ → ℕ → ℕ → File
+lengthened s f blocks added pointers room = record f {
+  characteristics = without_contiguous f.characteristics;
+  held = f.held ++ take added (free_slots s);
+  pointers = pointers;
+  room = room;
+  blocks = f.blocks ++ blocks;
+}
+
+-- the store with that file, the least free slots taken for its headers, n blocks fewer free
+abbrev pub extended : Store → ℕ → File → ℕ → List (List ℕ) → ℕ → ℕ → ℕ → Store
+extended s k f n blocks added pointers room =
+    record (with_file (with_slots s (take added (free_slots s))) k (Some (lengthened s f blocks added pointers room))) {
+      free = s.free - n;
+    }
+
+-- file k grows by n blocks, whose contents are these
+pub record Grows (s : Store) (k n : ℕ) (blocks : List (List ℕ)) (s' : Store) : Type 0 where
+  pub before : File
+  pub added : ℕ
+  pub pointers : ℕ
+  pub room : ℕ
+  pub was : s.file k ≡ Some before
+  pub may_grow : MayGrow before n added pointers room
+  pub store_is : s' ≡ extended s k before n blocks added pointers room
+
+-- Extend: n blocks of zeros
+abbrev pub Extends : Store → ℕ → ℕ → Store → Type 0
+Extends s k n s' = Grows s k n (zero_blocks n) s'
+
+-- n slots more, which were given no sequence number yet
+abbrev pub with_more_slots : Store → ℕ → Store
+with_more_slots s n = record s {
+  slots = s.slots + n;
+  last = λ m. if nat_lt s.slots m && nat_le m (s.slots + n) then 0 else s.last m;
+}
+
+-- GrowIndex: the index file grows by n blocks, whose contents no request reaches, and by n slots
+pub record GrowsIndex (s : Store) (n : ℕ) (s' : Store) : Type 0 where
+  pub grown : Store
+  pub grows : Grows s 1 n [] grown
+  pub store_is : s' ≡ with_more_slots grown n
+
+-- the store with a file cut: its first blocks and headers stay, the others are free
+abbrev pub shortened : Store → ℕ → File → ℕ → ℕ → ℕ → ℕ → Store
+shortened s k f to headers pointers room =
+    record (with_file (without_slots s (drop headers f.held)) k (Some (record f {
+      held = take headers f.held;
+      pointers = pointers;
+      room = room;
+      blocks = take to f.blocks;
+    }))) { free = s.free + (length_of f - to) }
+
+-- Truncate: the first blocks stay, and of the headers at least the first
+pub record Truncates (s : Store) (k to : ℕ) (s' : Store) : Type 0 where
+  pub before : File
+  pub headers : ℕ
+  pub pointers : ℕ
+  pub room : ℕ
+  pub was : s.file k ≡ Some before
+  pub some_header : 1 ≤ headers
+  pub no_more_headers : headers ≤ length before.held
+  pub no_more_pointers : pointers ≤ before.pointers
+  pub store_is : s' ≡ shortened s k before to headers pointers room
+
+-- the file that goes: its slots and its blocks are free
+abbrev pub without_file : Store → ℕ → File → Store
+without_file s k f = record (with_file (without_slots s f.held) k None) { free = s.free + length_of f }
+
+-- the file with this number goes
+abbrev pub deleted : Store → ℕ → Store
+deleted s k = without_file s k (unwrap_or (s.file k) no_file)
+
+-- the file is marked for delete
+abbrev pub marked : Store → ℕ → Store
+marked s k = with_change s k (λ f. record f { characteristics = with_mark f.characteristics })
+
+-- Delete: gone, or marked where it is accessed
+abbrev pub after_delete : Store → FileId → Store
+after_delete s id = if is_accessed s id then marked s id.number else deleted s id.number
+
+-- what the task holds by the lun becomes this
+abbrev pub with_access : Store → ℕ → ℕ → Option Access → Store
+with_access s task lun a =
+    record s { access = λ t l. if (t == task) && (l == lun) then a else s.access t l }
+
+-- the file is marked for delete, and nobody accesses it
+abbrev pub is_due : Store → FileId → Bool
+is_due s id = is_marked (named s id) && not (is_accessed s id)
+
+-- the file goes if it is due
+abbrev pub settled : Store → FileId → Store
+settled s id = if is_due s id then deleted s id.number else s
+
+-- what is held is given up, and with the last access a marked file goes
+abbrev pub given_up : Store → ℕ → ℕ → Option Access → Store
+given_up s task lun None = s
+given_up s task lun (Some a) = settled (with_access s task lun None) a.file
+
+-- Deaccess
+abbrev pub deaccessed : Store → ℕ → ℕ → Store
+deaccessed s task lun = given_up s task lun (s.access task lun)
+
+-- Release: Deaccess of each lun, from 0
+abbrev pub released : Store → ℕ → Store
+released s task = fold (λ t lun. deaccessed t task lun) s (range_with_len 0 4)
+
+-- WriteBlock: the block at the VBN is this one
+abbrev pub with_block : ℕ → List ℕ → File → File
+with_block vbn block f = record f { blocks = slice_set f.blocks (vbn - 1) block }
+
+-- the directory with record i replaced
+abbrev pub with_entry : ℕ → List ℕ → File → File
+with_entry i r f = record f { blocks = with_record f.blocks i r }
+
+-- the directory with its end moved past record i
+abbrev pub with_end_after : ℕ → File → File
+with_end_after i f = record f { attr = with_end f.attr (length_of f) (16 * (i + 1)) }
+
+-- the record stands at the directory's end, which moves past it
+abbrev pub appended : Store → ℕ → ℕ → List ℕ → Store
+appended s k i r = with_change s k (λ f. with_end_after i (with_entry i r f))
+
+-- Enter where no record is empty: at the end, with one more block where the allocation ends there
+abbrev pub EntersAtEnd : Bool → Store → ℕ → ℕ → List ℕ → Store → Type 0
+EntersAtEnd false s k i r s' = s' ≡ appended s k i r
+EntersAtEnd true s k i r s' = (grown : Store) × (Extends s k 1 grown) × (s' ≡ appended grown k i r)
+
+-- Enter: in place of the first empty record, or at the end
+abbrev pub EntersAt : Option ℕ → Store → FileId → List ℕ → Store → Type 0
+EntersAt (Some i) s d r s' = s' ≡ with_change s d.number (with_entry i r)
+EntersAt None s d r s' = EntersAtEnd (needs_block (named s d)) s d.number (entry_count (named s d)) r s'
+
+-- Enter
+abbrev pub Enters : Store → FileId → List ℕ → Store → Type 0
+Enters s d r s' = EntersAt (empty_place (named s d)) s d r s'
+
+-- Remove: the first record with the name is empty
+abbrev pub removed : Store → FileId → List ℕ → Store
+removed s d name =
+    with_change s d.number (with_entry (unwrap_or (place_of name (named s d)) 0) empty_record)
+
+-- WriteAttr: the part is replaced
+abbrev pub with_attributes : Change → File → File
+with_attributes (change.Attr attr) f = record f { attr = attr }
+with_attributes (change.Ident ident) f = record f { ident = ident }
+with_attributes (change.Protect word) f = record f { protection = word }
+
+-- the store after a request that is served; ReadBlock, Find, ReadAttr and Space change nothing
+abbrev pub Changes : Store → ℕ → Uic → Request → List ℕ → Store → Type 0
+Changes s task caller (request.Create protection ident attr) block s' = s' ≡ created s caller protection ident attr
+Changes s task caller (request.Extend lun n) block s' = Extends s (id_held s task lun).number n s'
+Changes s task caller (request.Truncate lun to) block s' = Truncates s (id_held s task lun).number to s'
+Changes s task caller (request.Delete id) block s' = s' ≡ after_delete s id
+Changes s task caller (request.GrowIndex n) block s' = GrowsIndex s n s'
+Changes s task caller (request.Access id m lun) block s' = s' ≡ with_access s task lun (Some (record { file = id; mode = m }))
+Changes s task caller (request.Deaccess lun) block s' = s' ≡ deaccessed s task lun
+Changes s task caller request.Release block s' = s' ≡ released s task
+Changes s task caller (request.ReadBlock lun vbn) block s' = s' ≡ s
+Changes s task caller (request.WriteBlock lun vbn) block s' =
+    s' ≡ with_change s (id_held s task lun).number (with_block vbn block)
+Changes s task caller (request.Find d name) block s' = s' ≡ s
+Changes s task caller (request.Enter d name id) block s' = Enters s d (record_bytes id name) s'
+Changes s task caller (request.Remove d name) block s' = s' ≡ removed s d name
+Changes s task caller (request.ReadAttr id) block s' = s' ≡ s
+Changes s task caller (request.WriteAttr id c) block s' = s' ≡ with_change s id.number (with_attributes c)
+Changes s task caller request.Space block s' = s' ≡ s

@@ -1,0 +1,69 @@
+-- A file of the plain store, and how far its bytes go.
+-- A section in parentheses is one of the Files-11 On-Disk Structure Level 1 specification; 'profile' is a rule of this project.
+use Rattle.std.specs.Prelude.{ℕ, ◌+◌, ◌-◌, ◌*◌, ◌/◌, ◌==◌, Bool, List, [], length, min, slice_index, bit_and, bit_or, if◌then◌else◌, replicate}
+use Rattle.std.specs.Int.{bit_at}
+use Rattle.f11_store.specs.declared.callers.Uic.{Uic}
+
+-- a file, by what its headers say of it (file header)
+pub record File : Type 0 where
+  pub sequence : ℕ
+  pub owner : Uic
+  pub protection : ℕ
+  pub characteristics : ℕ
+  pub ident : List ℕ
+  pub attr : List ℕ
+  -- the slots of its headers, its own first
+  pub held : List ℕ
+  -- its retrieval pointers, and the places for more in its last header
+  pub pointers : ℕ
+  pub room : ℕ
+  -- its blocks, each of 512 bytes; none for files 1 to 3, whose contents no request reaches
+  pub blocks : List (List ℕ)
+
+-- an empty file of nobody, which stands in where a file is missing
+abbrev pub no_file : File
+no_file = record { sequence = 0; owner = record { group = 0; member = 0 }; protection = 0; characteristics = 0; ident = []; attr = []; held = []; pointers = 0; room = 0; blocks = [] }
+
+-- its length in blocks
+abbrev pub length_of : File → ℕ
+length_of f = length f.blocks
+
+-- marked for delete: SC.MDL, bit 15 of the characteristics (file header, H.SCHA)
+abbrev pub is_marked : File → Bool
+is_marked f = bit_at f.characteristics 15 == 1
+
+-- the characteristics with SC.MDL set (file header, H.SCHA)
+abbrev pub with_mark : ℕ → ℕ
+with_mark c = bit_or c 32768
+
+-- the characteristics with UC.CON, bit 7, cleared (file header, H.UCHA)
+abbrev pub without_contiguous : ℕ → ℕ
+without_contiguous c = bit_and c 65407
+
+-- the headers that n more blocks may need beside the room: one for each 102 blocks past it (profile)
+abbrev pub need : ℕ → ℕ → ℕ
+need room n = (n - room + 101) / 102
+
+-- the word at a byte: low byte first
+abbrev pub word_at : List ℕ → ℕ → ℕ
+word_at bytes i = slice_index bytes i + 256 * slice_index bytes (i + 1)
+
+-- the two words at a byte: high word first
+abbrev pub long_at : List ℕ → ℕ → ℕ
+long_at bytes i = 65536 * word_at bytes i + word_at bytes (i + 2)
+
+-- the end in bytes that F.EFBK (byte 8) and F.FFBY (byte 12) state (file attributes)
+unfoldable pub stated_end : List ℕ → ℕ
+stated_end attr = if long_at attr 8 == 0 then 0 else (long_at attr 8 - 1) * 512 + word_at attr 12
+
+-- the end in bytes: as stated, but no further than the allocation (profile)
+abbrev pub end_of : File → ℕ
+end_of f = min (stated_end f.attr) (512 * length_of f)
+
+-- a block of zeros
+unfoldable pub zero_block : List ℕ
+zero_block = replicate 512 0
+
+-- n blocks of zeros
+unfoldable pub zero_blocks : ℕ → List (List ℕ)
+zero_blocks n = replicate n zero_block

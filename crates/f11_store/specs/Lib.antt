@@ -1,0 +1,13 @@
+pub mod Causes
+pub mod Changes
+pub mod Cost
+pub mod Directory
+pub mod File
+pub mod Lags
+pub mod Laws
+pub mod Refusal
+pub mod Rights
+pub mod Run
+pub mod Step
+pub mod Store
+pub mod Worked

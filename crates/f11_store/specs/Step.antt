@@ -1,0 +1,82 @@
+-- One request: what it may answer, and the store and the block after it (profile).
+use Rattle.std.specs.Prelude.{◌≡◌, ℕ, ◌+◌, ◌-◌, List, [], Option, Some, None, Result, Ok, Err, slice_index_or}
+use Rattle.f11_store.specs.declared.callers.Uic.{Uic}
+use Rattle.f11_store.specs.declared.files.FileId.{FileId}
+use Rattle.f11_store.specs.declared.files.Attr.{Attr}
+use Rattle.f11_store.specs.declared.refusals.Refusal.{Refusal}
+use Rattle.f11_store.specs.declared.refusals.Refusal.TheVariants.{NoMemory}
+use Rattle.f11_store.specs.declared.requests.Request.{Request}
+use Rattle.f11_store.specs.declared.requests.Request.TheVariants as request
+use Rattle.f11_store.specs.declared.requests.Reply.{Reply}
+use Rattle.f11_store.specs.declared.requests.Reply.TheVariants as reply
+use Rattle.f11_store.specs.File.{File, length_of}
+use Rattle.f11_store.specs.Store.{Store, named, held, free_headers, least_free}
+use Rattle.f11_store.specs.Directory.{record_of, record_id}
+use Rattle.f11_store.specs.Causes.{first_refusal}
+use Rattle.f11_store.specs.Changes.{Changes, next_sequence}
+
+-- the attributes of a file
+abbrev pub attributes_of : File → Attr
+attributes_of f = record {
+  owner = f.owner;
+  protection = f.protection;
+  characteristics = f.characteristics;
+  ident = f.ident;
+  attr = f.attr;
+}
+
+-- the identification that the next file to be created gets
+abbrev pub next_id : Store → FileId
+next_id s = record { number = least_free s; sequence = next_sequence (s.last (least_free s)); volume = 0 }
+
+-- the reply to a request that is served
+abbrev pub reply_of : Store → ℕ → Request → Reply
+reply_of s task (request.Create _ _ _) = reply.Created (next_id s)
+reply_of s task (request.Extend lun n) = reply.Length (length_of (held s task lun) + n)
+reply_of s task (request.Truncate lun to) = reply.Length to
+reply_of s task (request.Delete id) = reply.Done
+reply_of s task (request.GrowIndex n) = reply.Slots (s.slots + n)
+reply_of s task (request.Access id m lun) = reply.Done
+reply_of s task (request.Deaccess lun) = reply.Done
+reply_of s task request.Release = reply.Done
+reply_of s task (request.ReadBlock lun vbn) = reply.Done
+reply_of s task (request.WriteBlock lun vbn) = reply.Done
+reply_of s task (request.Find d name) = reply.Found (record_id (record_of name (named s d)))
+reply_of s task (request.Enter d name id) = reply.Done
+reply_of s task (request.Remove d name) = reply.Done
+reply_of s task (request.ReadAttr id) = reply.Attr (attributes_of (named s id))
+reply_of s task (request.WriteAttr id c) = reply.Done
+reply_of s task request.Space = reply.Space s.free (free_headers s) s.slots
+
+-- block number vbn, from 1, of a file
+abbrev pub block_at : File → ℕ → List ℕ
+block_at f vbn = slice_index_or f.blocks (vbn - 1) []
+
+-- the caller's block after a request that is served: ReadBlock fills it
+abbrev pub block_after : Store → ℕ → Request → List ℕ → List ℕ
+block_after s task (request.ReadBlock lun vbn) block = block_at (held s task lun) vbn
+block_after s task _ block = block
+
+-- the refusal may be the answer: the first one whose cause holds, or NoMemory to GrowIndex where none does
+abbrev pub MayRefuse : Option Refusal → Request → Refusal → Type 0
+MayRefuse (Some first) _ r = r ≡ first
+MayRefuse None (request.GrowIndex _) r = r ≡ NoMemory
+MayRefuse None _ r = ⊥
+
+-- the request is refused, and changes nothing
+pub record Refuses (s : Store) (task : ℕ) (caller : Uic) (r : Request) (block : List ℕ) (refusal : Refusal) (s' : Store) (block' : List ℕ) : Type 0 where
+  pub may_refuse : MayRefuse (first_refusal s task caller r) r refusal
+  pub store_stays : s' ≡ s
+  pub block_stays : block' ≡ block
+
+-- the request is served, since no cause against it holds
+pub record Serves (s : Store) (task : ℕ) (caller : Uic) (r : Request) (block : List ℕ) (reply : Reply) (s' : Store) (block' : List ℕ) : Type 0 where
+  pub no_cause : first_refusal s task caller r ≡ None
+  pub reply_is : reply ≡ reply_of s task r
+  pub changes : Changes s task caller r block s'
+  pub block_is : block' ≡ block_after s task r block
+
+-- one request of a task for a caller, with the answer, and the store and the block before and after
+abbrev pub Step : Store → ℕ → Uic → Request → List ℕ → Result Reply Refusal → Store → List ℕ → Type 0
+Step s task caller r block (Ok reply) s' block' = Serves s task caller r block reply s' block'
+Step s task caller r block (Err refusal) s' block' = Refuses s task caller r block refusal s' block'

@@ -1,0 +1,52 @@
+//! What a request says of a file.
+
+use crate::callers::Uic;
+
+/// A file identification: slot number, sequence number, relative volume
+/// (Files-11 On-Disk Structure Level 1, file identification).
+#[derive(Clone, Copy, PartialEq, Eq, Debug)]
+pub struct FileId {
+    /// The slot of the file's first header, from 1.
+    pub number: u16,
+    /// The sequence number, which tells the files apart that a slot has held one after another.
+    pub sequence: u16,
+    /// The relative volume, 0 on a volume that stands alone.
+    pub volume: u16,
+}
+
+/// How a file is accessed (profile).
+#[derive(Clone, Copy, PartialEq, Eq, Debug)]
+pub enum Mode {
+    /// To read, whoever else reads or writes.
+    Read,
+    /// To read, while nobody writes.
+    Locked,
+    /// To read, write, extend and truncate, while nobody else writes or locks.
+    Write,
+}
+
+/// A change of a file's attributes (profile).
+#[derive(Clone, Copy, PartialEq, Eq, Debug)]
+pub enum Change {
+    /// The user attributes (Files-11 On-Disk Structure Level 1, file header, H.UFAT).
+    Attr([u8; 32]),
+    /// The ident area (Files-11 On-Disk Structure Level 1, ident area).
+    Ident([u8; 46]),
+    /// The protection word (Files-11 On-Disk Structure Level 1, file header, H.FPRO).
+    Protect(u16),
+}
+
+/// The attributes of a file (Files-11 On-Disk Structure Level 1, file header).
+#[derive(Clone, Copy, PartialEq, Eq, Debug)]
+pub struct Attr {
+    /// The owner, H.FOWN.
+    pub owner: Uic,
+    /// The protection word, H.FPRO.
+    pub protection: u16,
+    /// The characteristics, H.UCHA in the low byte and H.SCHA in the high one.
+    pub characteristics: u16,
+    /// The ident area.
+    pub ident: [u8; 46],
+    /// The user attributes, H.UFAT.
+    pub attr: [u8; 32],
+}

@@ -1,0 +1,50 @@
+//! Laws of the plain store, each the contract of a function that does nothing: they show that the
+//! definitions say what is meant.
+
+ghost use Rattle.f11_store.specs.Laws as laws;
+
+/// What a store is: its values, and nothing else.
+pub fn stores()
+    ensures { laws.AgreeingAreOne }
+{}
+
+/// What a refusal is: it changes nothing, and it is the only one; only want of memory stands beside
+/// an answer.
+pub fn refusals()
+    ensures unchanged { laws.RefusalChangesNothing }
+    ensures one { laws.RefusalIsOne }
+    ensures no_memory { laws.ServedOrNoMemory }
+    ensures reply { laws.ReplyIsOne }
+{}
+
+/// What is written is read, and nothing else changes.
+pub fn blocks()
+    ensures read { laws.WrittenIsRead }
+    ensures other_blocks { laws.OtherBlocksStay }
+    ensures other_files { laws.OtherFilesStay }
+{}
+
+/// A new file's identification is new in its slot; a file that is deleted stays for those who access it.
+pub fn identifications()
+    ensures free { laws.NewSlotWasFree }
+    ensures next { laws.NewFileIsNext }
+    ensures kept { laws.AccessedKeepsBlocks }
+{}
+
+/// Blocks come back as zeros.
+pub fn lengths()
+    ensures zeros { laws.CutComesBackZero }
+{}
+
+/// What a request leaves behind lags the store before it.
+pub fn lags()
+    ensures itself { laws.LagsItself }
+    ensures step { laws.StepLags }
+{}
+
+/// A name that is entered is found, it can't be entered twice, and one that is removed leaves all others.
+pub fn directories()
+    ensures found { laws.EnteredIsFound }
+    ensures duplicate { laws.StandingIsDuplicate }
+    ensures removed { laws.RemovedIsEmpty }
+{}
