@@ -1,0 +1,5 @@
+pub mod Commands
+pub mod Home
+pub mod Label
+pub mod Outcome
+pub mod Words

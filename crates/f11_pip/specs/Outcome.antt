@@ -1,0 +1,31 @@
+-- How the program ends (profile).
+use Rattle.std.specs.Prelude.{ℕ, List, codes, Result, Ok, Err}
+use Rattle.clap.specs.declared.error.kind.ErrorKind.{ErrorKind}
+use Rattle.clap.specs.declared.error.kind.ErrorKind.TheVariants.{OutOfMemory}
+use Rattle.f11_pip.specs.declared.outcome.Answer.{Answer}
+use Rattle.f11_pip.specs.declared.outcome.Answer.TheVariants.{Done, Fault}
+use Rattle.f11_pip.specs.declared.outcome.Failure.{Failure}
+use Rattle.f11_pip.specs.declared.outcome.Failure.TheVariants.{Usage, CannotOpen, DeviceFault, CannotWrite, NoMemory}
+
+-- the exit status
+abbrev pub status_of : Result Answer Failure → ℕ
+status_of (Ok Done) = 0
+status_of (Ok Fault) = 1
+status_of (Err Usage) = 2
+status_of (Err CannotOpen) = 3
+status_of (Err DeviceFault) = 3
+status_of (Err CannotWrite) = 3
+status_of (Err NoMemory) = 4
+
+-- the line on standard error
+abbrev pub failure_line : Failure → List ℕ
+failure_line Usage = codes "f11_pip: usage"
+failure_line CannotOpen = codes "f11_pip: cannot open"
+failure_line DeviceFault = codes "f11_pip: device fault"
+failure_line CannotWrite = codes "f11_pip: cannot write"
+failure_line NoMemory = codes "f11_pip: no memory"
+
+-- words that aren't taken are wrong, unless memory ran out
+abbrev pub failure_of_kind : ErrorKind → Failure
+failure_of_kind OutOfMemory = NoMemory
+failure_of_kind _ = Usage

@@ -1,0 +1,118 @@
+//! How the program ends.
+ghost use Rattle.std.specs.Prelude.{◌≡◌};
+ghost use Rattle.clap.specs.Words.{kind_of};
+ghost use Rattle.f11_pip.specs.Outcome.{failure_of_kind, status_of};
+ghost use Rattle.f11_pip.specs.declared.outcome.Failure.TheVariants as failures;
+
+use clap::error::ErrorKind;
+use f11_dev::{CannotOpen, DeviceFault, NoMemory};
+use std::alloc::AllocError;
+use std::{fmt, io};
+
+/// What a command answers when its work is done. Its lines are on standard output.
+#[derive(Clone, Copy, Debug, PartialEq, Eq)]
+pub enum Answer {
+    /// All is well.
+    Done,
+    /// A fault of the volume, or a name or parameter that can't be.
+    Fault,
+}
+
+/// Why a command's work isn't done. Its line is on standard error.
+#[derive(Clone, Copy, Debug, PartialEq, Eq)]
+pub enum Failure {
+    /// The words don't parse, ask for help, or there are none.
+    Usage,
+    /// A file can't be opened.
+    CannotOpen,
+    /// A transfer failed.
+    DeviceFault,
+    /// Standard output takes no more.
+    CannotWrite,
+    /// No memory is left.
+    NoMemory,
+}
+
+impl fmt::Display for Failure {
+    ghost use Rattle.std.specs.Prelude.{Some};
+    ghost use Rattle.f11_pip.specs.Outcome.{failure_line};
+
+    ghost output = { λ failure. Some (failure_line failure) };
+
+    fn fmt<W: fmt::Write>(&self, f: &mut fmt::Formatter<W>) -> fmt::Result {
+        f.write_str(match self {
+            Failure::Usage => "f11_pip: usage",
+            Failure::CannotOpen => "f11_pip: cannot open",
+            Failure::DeviceFault => "f11_pip: device fault",
+            Failure::CannotWrite => "f11_pip: cannot write",
+            Failure::NoMemory => "f11_pip: no memory",
+        })
+    }
+}
+
+impl From<CannotOpen> for Failure {
+    ghost from_gives = { λ _ failure. failure ≡ failures.CannotOpen };
+
+    fn from(_: CannotOpen) -> Self {
+        Failure::CannotOpen
+    }
+}
+
+impl From<DeviceFault> for Failure {
+    ghost from_gives = { λ _ failure. failure ≡ failures.DeviceFault };
+
+    fn from(_: DeviceFault) -> Self {
+        Failure::DeviceFault
+    }
+}
+
+/// An error of a command's writer.
+impl From<io::Error> for Failure {
+    ghost from_gives = { λ _ failure. failure ≡ failures.CannotWrite };
+
+    fn from(_: io::Error) -> Self {
+        Failure::CannotWrite
+    }
+}
+
+impl From<NoMemory> for Failure {
+    ghost from_gives = { λ _ failure. failure ≡ failures.NoMemory };
+
+    fn from(_: NoMemory) -> Self {
+        Failure::NoMemory
+    }
+}
+
+impl From<AllocError> for Failure {
+    ghost from_gives = { λ _ failure. failure ≡ failures.NoMemory };
+
+    fn from(_: AllocError) -> Self {
+        Failure::NoMemory
+    }
+}
+
+/// An error of the words.
+impl From<clap::Error> for Failure {
+    ghost from_gives = { λ error failure. failure ≡ failure_of_kind (kind_of error) };
+
+    fn from(error: clap::Error) -> Self {
+        match error.kind() {
+            ErrorKind::OutOfMemory => Failure::NoMemory,
+            _ => Failure::Usage,
+        }
+    }
+}
+
+/// The exit status of an outcome: 0 where all is well, 1 at a fault, 2 for wrong words, 3 where a file or
+/// a device fails, 4 for want of memory.
+pub fn status(outcome: Result<Answer, Failure>) -> u8
+    ensures { result ≡ status_of outcome }
+{
+    match outcome {
+        Ok(Answer::Done) => 0,
+        Ok(Answer::Fault) => 1,
+        Err(Failure::Usage) => 2,
+        Err(Failure::CannotOpen | Failure::DeviceFault | Failure::CannotWrite) => 3,
+        Err(Failure::NoMemory) => 4,
+    }
+}
