@@ -23,6 +23,7 @@ mod tests;
 mod words;
 mod written;
 
+pub use block::zeros;
 pub use device::{Device, DeviceFault};
 pub use fail_once::FailOnce;
 pub use file_image::{CannotOpen, FileImage, MAX_BLOCKS};

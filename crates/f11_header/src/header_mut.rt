@@ -1,0 +1,84 @@
+//! A file header, written in the block that holds it.
+ghost use Rattle.std.specs.Prelude.{◌≡◌};
+ghost use Rattle.f11_header.specs.Writing.{with_id, with_owner, with_protection, with_characteristics, with_attributes, sealed};
+
+use crate::fields::{ATTRIBUTES, CHARACTERISTICS, CHECK_WORD, NUMBER, OWNER, PROTECTION, SEQUENCE};
+use crate::whole::owner_word;
+use f11_dev::{Block, sum_words, write_word};
+use f11_store::{FileId, Uic};
+
+/// A file header, written in the block that holds it, without a copy. Each writer changes its field alone; the
+/// header is valid again once it is sealed.
+#[derive(Drop)]
+pub struct HeaderMut<'a> {
+    block: &'a mut Block,
+}
+
+impl<'a> HeaderMut<'a> {
+    ghost use Rattle.f11_header.specs.Lent.{written_block, lent_name};
+
+    /// The header in a block.
+    pub fn new(block: &'a mut Block) -> HeaderMut<'a>
+        ensures block { written_block result ≡ block.old }
+        ensures same_reference { lent_name result ≡ block.entry.ghost_name }
+    {
+        HeaderMut { block }
+    }
+
+    /// Sets the file number and the file sequence number (H.FNUM, H.FSEQ).
+    pub fn set_id(&mut self, id: FileId)
+        ensures block { written_block self.new ≡ with_id (written_block self.old) id }
+        ensures same_reference { lent_name self.new ≡ lent_name self.old }
+    {
+        write_word(self.block, NUMBER, id.number);
+        write_word(self.block, SEQUENCE, id.sequence);
+    }
+
+    /// Sets the owner (H.FOWN).
+    pub fn set_owner(&mut self, owner: Uic)
+        ensures block { written_block self.new ≡ with_owner (written_block self.old) owner }
+        ensures same_reference { lent_name self.new ≡ lent_name self.old }
+    {
+        write_word(self.block, OWNER, owner_word(owner));
+    }
+
+    /// Sets the protection word (H.FPRO).
+    pub fn set_protection(&mut self, protection: u16)
+        ensures block { written_block self.new ≡ with_protection (written_block self.old) protection }
+        ensures same_reference { lent_name self.new ≡ lent_name self.old }
+    {
+        write_word(self.block, PROTECTION, protection);
+    }
+
+    /// Sets the characteristics (H.UCHA in the low byte, H.SCHA in the high one).
+    pub fn set_characteristics(&mut self, characteristics: u16)
+        ensures block { written_block self.new ≡ with_characteristics (written_block self.old) characteristics }
+        ensures same_reference { lent_name self.new ≡ lent_name self.old }
+    {
+        write_word(self.block, CHARACTERISTICS, characteristics);
+    }
+
+    /// Sets the user attributes (H.UFAT).
+    pub fn set_attributes(&mut self, attributes: &[u8; 32])
+        ensures block { written_block self.new ≡ with_attributes (written_block self.old) attributes.now }
+        ensures same_reference { lent_name self.new ≡ lent_name self.old }
+    {
+        put_attributes(self.block, attributes);
+    }
+
+    /// Makes the check word right (H.CKSM).
+    pub fn seal(&mut self)
+        ensures block { written_block self.new ≡ sealed (written_block self.old) }
+        ensures same_reference { lent_name self.new ≡ lent_name self.old }
+    {
+        let sum = sum_words(self.block, CHECK_WORD / 2);
+        write_word(self.block, CHECK_WORD, sum);
+    }
+}
+
+/// Puts the user attributes in their place.
+fn put_attributes(block: &mut Block, attributes: &[u8; 32])
+    ensures { block.new ≡ with_attributes block.old attributes.now }
+{
+    block[ATTRIBUTES..ATTRIBUTES + 32].copy_from_slice(attributes);
+}

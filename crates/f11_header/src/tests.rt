@@ -1,0 +1,137 @@
+use super::*;
+use f11_dev::{Block, read_word, write_word, zeros};
+use f11_store::{FileId, Uic};
+
+const SYSTEM: Uic = Uic {
+    group: 1,
+    member: 1,
+};
+
+/// An empty header of a file that [1,1] owns.
+fn blank_of(number: u16, sequence: u16, protection: u16, segment: u8) -> Block {
+    let mut block = zeros();
+    let id = FileId {
+        number,
+        sequence,
+        volume: 0,
+    };
+    blank(&mut block, id, SYSTEM, protection, segment);
+    block
+}
+
+/// Header 4 of a fresh volume of 400 blocks and 16 slots: the master file directory, in block 21.
+fn directory_header() -> Block {
+    let mut block = blank_of(4, 4, 0o160000, 0);
+    for (i, word) in [49230, 49230, 0, 6778, 1].iter().enumerate() {
+        if i < 5 {
+            write_word(&mut block, 46 + 2 * i, *word);
+        }
+    }
+    let mut attributes = [0; 32];
+    (attributes[0], attributes[2], attributes[6]) = (1, 16, 1);
+    (attributes[10], attributes[12]) = (1, 80);
+    HeaderMut::new(&mut block).set_attributes(&attributes);
+    block[100] = 2;
+    write_word(&mut block, 104, 21);
+    HeaderMut::new(&mut block).seal();
+    block
+}
+
+#[test]
+fn header_of_a_fresh_directory(rt: HostRuntime) {
+    let block = directory_header();
+    assert_eq!(rt; read_word(&block, 510), 31411);
+    assert_eq!(rt; check(&block, 4), Ok(()));
+    assert_eq!(rt; check(&block, 5), Err(HeaderFault::Bad));
+    let header = Header::new(&block);
+    assert_eq!(rt;
+        (header.id().number, header.id().sequence, header.id().volume),
+        (4, 4, 0)
+    );
+    assert_eq!(rt; header.owner(), SYSTEM);
+    assert_eq!(rt; header.protection(), 0o160000);
+    assert_eq!(rt; header.characteristics(), 0);
+    assert_eq!(rt; header.attributes()[12], 80);
+}
+
+#[test]
+fn areas_are_lent(rt: HostRuntime) {
+    let block = directory_header();
+    assert!(rt; block[0] == 23 && block[1] == 46);
+    let header = Header::new(&block);
+    let ident = header.ident();
+    let map = header.map();
+    assert_eq!(rt; (ident.len(), map.len()), (46, 418));
+    assert_eq!(rt; (ident[6], ident[7]), (122, 26));
+    assert_eq!(rt; (map[8], map[9], map[12]), (2, 204, 21));
+}
+
+#[test]
+fn each_condition_is_tested(rt: HostRuntime) {
+    for (at, value, valid) in [
+        (0, 22, false),
+        (0, 24, false),
+        (1, 45, false),
+        (1, 251, false),
+        (2, 5, false),
+        (4, 0, false),
+        (6, 2, false),
+        (14, 7, true),
+        (98, 2, false),
+        (99, 4, false),
+        (100, 3, false),
+        (100, 204, true),
+        (100, 206, false),
+        (101, 1, false),
+        (101, 2, true),
+    ] {
+        let mut block = directory_header();
+        if at < 512 {
+            block[at] = value;
+        }
+        HeaderMut::new(&mut block).seal();
+        assert_eq!(rt; check(&block, 4).is_ok(), valid, "byte {value} at {at}");
+        block[510] ^= 1;
+        assert_eq!(rt; check(&block, 4), Err(HeaderFault::Bad), "a wrong sum");
+    }
+    let mut extension = blank_of(7, 2, 0, 1);
+    extension[1] = 46;
+    extension[0] = 46;
+    HeaderMut::new(&mut extension).seal();
+    assert_eq!(rt; check(&extension, 7).is_ok(), true);
+}
+
+#[test]
+fn fields_are_written(rt: HostRuntime) {
+    let mut block = directory_header();
+    let mut header = HeaderMut::new(&mut block);
+    let id = FileId {
+        number: 9,
+        sequence: 513,
+        volume: 0,
+    };
+    let owner = Uic {
+        group: 0o200,
+        member: 7,
+    };
+    header.set_id(id);
+    header.set_owner(owner);
+    header.set_protection(0o360);
+    header.set_characteristics(0o100200);
+    header.seal();
+    assert_eq!(rt; check(&block, 9), Ok(()));
+    assert_eq!(rt; (block[4], block[5], block[8], block[9]), (1, 2, 7, 0o200));
+    assert_eq!(rt; (block[12], block[13]), (0o200, 0o200));
+    assert_eq!(rt; Header::new(&block).id(), id);
+    assert_eq!(rt; Header::new(&block).owner(), owner);
+}
+
+#[test]
+fn a_dead_header_keeps_its_sequence(rt: HostRuntime) {
+    let mut block = directory_header();
+    kill(&mut block);
+    assert_eq!(rt; check(&block, 4), Err(HeaderFault::Dead));
+    assert_eq!(rt; check(&block, 0), Err(HeaderFault::Dead));
+    assert_eq!(rt; (read_word(&block, 4), read_word(&block, 510)), (4, 0));
+    assert_eq!(rt; check(&zeros(), 1), Err(HeaderFault::Dead));
+}
