@@ -41,6 +41,13 @@ pub record IsHomeOf (image : Image) (home : HomeFields) : Type 0 where
   pub first : NoneBelow image place
   pub fields : home ≡ fields_of (candidate place) block
 
+-- The fields are those of a valid home block, at a place below the end of a device of so many blocks.
+pub record IsSound (home : HomeFields) (blocks : ℕ) : Type 0 where
+  pub block : List ℕ
+  pub valid : IsHomeBlock block blocks
+  pub fields : home ≡ fields_of home.lbn block
+  pub within : home.lbn < blocks
+
 -- an image has no home block where no candidate is valid
 abbrev pub HasNoHome : Image → Type 0
 HasNoHome image = (k : ℕ) (b : List ℕ) → ¬ IsCandidate image k b

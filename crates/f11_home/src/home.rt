@@ -1,7 +1,7 @@
 //! The home block of a device.
 ghost use Rattle.std.specs.Prelude.{◌≡◌, ◌<◌, ◌+◌, ◌/◌, ◌^◌, length, IsTrue, IfOk, IfErr, IsErrOf};
 ghost use Rattle.f11_dev.specs.Looked.{Looked};
-ghost use Rattle.f11_home.specs.Home.{candidate, candidates, fields_of, IsHomeOf, HasNoHome};
+ghost use Rattle.f11_home.specs.Home.{candidate, candidates, fields_of, IsSound, IsHomeOf, HasNoHome};
 ghost use Rattle.f11_home.specs.HomeFault.{faults_of};
 ghost use Rattle.f11_home.specs.declared.home.HomeFault.TheVariants.{DeviceFault as Fault};
 
@@ -131,6 +131,9 @@ impl Home {
 /// `NoHome` where no candidate is valid, and `DeviceFault` where a transfer failed.
 pub fn find<D: Device>(device: &mut D) -> Result<Home, HomeFault>
     ensures found { IfOk result (λ home. IsTrue (D.disk device.old).honest → IsHomeOf (D.disk device.old).image home) }
+
+    // On a device that isn't honest too the fields are those of a valid home block.
+    ensures sound { IfOk result (λ home. IsSound home (length (D.disk device.old).image)) }
     ensures none { IsErrOf result HomeFault.NoHome → IsTrue (D.disk device.old).honest → HasNoHome (D.disk device.old).image }
     ensures transfers { IfOk result (λ home. Looked (D.disk device.old) (D.disk device.new) (home.lbn / 256 + 1) 0) }
     ensures failures { IfErr result (λ fault. Looked (D.disk device.old) (D.disk device.new) (candidates (length (D.disk device.old).image)) (faults_of fault)) }
