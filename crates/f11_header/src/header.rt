@@ -1,5 +1,5 @@
 //! A file header, read in the block that holds it.
-ghost use Rattle.std.specs.Prelude.{◌≡◌, ◌+◌, ◌*◌, ◌≤◌, slice_range};
+ghost use Rattle.std.specs.Prelude.{◌≡◌, ◌+◌, ◌-◌, ◌*◌, ◌≤◌, length, slice_range};
 
 use crate::fields::{
     ATTRIBUTES, CHARACTERISTICS, CHECK_WORD, IDENT_BYTES, IDENT_OFFSET, MAP_OFFSET, NUMBER, OWNER,
@@ -80,8 +80,9 @@ impl<'a> Header<'a> {
     /// The ident area, 46 bytes, which the first header of a file has.
     pub fn ident(&self) -> &'a [u8]
         requires { 2 * ident_offset (header_block self.now) + 46 ≤ 510 }
-        ensures { result.now ≡ slice_range (header_block self.now)
+        ensures area { result.now ≡ slice_range (header_block self.now)
             (2 * ident_offset (header_block self.now)) (2 * ident_offset (header_block self.now) + 46) }
+        ensures len { length result.now ≡ 46 }
     {
         let block = self.block;
         let ident = 2 * usize::from(block[IDENT_OFFSET]);
@@ -91,7 +92,8 @@ impl<'a> Header<'a> {
     /// The map area, up to the check word.
     pub fn map(&self) -> &'a [u8]
         requires { map_offset (header_block self.now) ≤ 250 }
-        ensures { result.now ≡ slice_range (header_block self.now) (2 * map_offset (header_block self.now)) 510 }
+        ensures area { result.now ≡ slice_range (header_block self.now) (2 * map_offset (header_block self.now)) 510 }
+        ensures len { length result.now ≡ 510 - 2 * map_offset (header_block self.now) }
     {
         let block = self.block;
         let map = 2 * usize::from(block[MAP_OFFSET]);

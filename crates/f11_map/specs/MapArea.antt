@@ -1,0 +1,56 @@
+-- The map area of a file header, the bytes from M.ESQN up to the check word (Files-11 On-Disk Structure Level 1, "Map
+-- Area" and "Retrieval Pointers").
+use Rattle.std.specs.Prelude.{◌≡◌, ℕ, ◌+◌, ◌-◌, ◌*◌, ◌/◌, ◌%◌, ◌≤◌, min, List, [], ◌∷◌, ◌++◌, length, map, slice_index, slice_range}
+use Rattle.std.specs.List.{range_with_len}
+use Rattle.f11_dev.specs.Block.{word}
+use Rattle.f11_header.specs.Fields.{map_offset}
+use Rattle.f11_store.specs.declared.files.FileId.{FileId}
+
+-- the map area of a header: from H.MPOF, in words, up to the check word
+abbrev pub map_area : List ℕ → List ℕ
+map_area b = slice_range b (2 * map_offset b) 510
+
+-- M.ESQN: the segment number
+abbrev pub segment : List ℕ → ℕ
+segment m = slice_index m 0
+
+-- M.EFNU, M.EFSQ and M.ERVN: the next header of the file; number 0 is none
+abbrev pub link : List ℕ → FileId
+link m = record { number = word m 2; sequence = word m 4; volume = slice_index m 1 }
+
+-- M.USE: how many words of retrieval pointers are in use
+abbrev pub words_in_use : List ℕ → ℕ
+words_in_use m = slice_index m 8
+
+-- M.MAX: how many there may be
+abbrev pub most_words : List ℕ → ℕ
+most_words m = slice_index m 9
+
+-- retrieval pointer i, of format 1: the high byte of the LBN, the count less one, the low word of the LBN. It names so many
+-- blocks from that LBN on.
+abbrev pub run_at : List ℕ → ℕ → ℕ × ℕ
+run_at m i = (slice_index m (10 + 4 * i) * 65536 + word m (10 + 4 * i + 2), slice_index m (10 + 4 * i + 1) + 1)
+
+-- the pointers, in order: two words each
+unfoldable pub runs_of : List ℕ → List (ℕ × ℕ)
+runs_of m = map (run_at m) (range_with_len 0 (words_in_use m / 2))
+
+-- the blocks that pointers name, in order
+abbrev pub blocks_in : List (ℕ × ℕ) → List ℕ
+blocks_in [] = []
+blocks_in (run ∷ runs) = range_with_len run.0 run.1 ++ blocks_in runs
+
+-- the blocks that the map area names, in order
+abbrev pub blocks_of : List ℕ → List ℕ
+blocks_of m = blocks_in (runs_of m)
+
+-- the places for pointers: what M.MAX allows, and what fits
+abbrev pub places : List ℕ → ℕ
+places m = min (most_words m) ((length m - 10) / 2) / 2
+
+-- a map area lies in a block, and has whole pointers, no more than there are places for
+pub record IsMapArea (m : List ℕ) : Type 0 where
+  pub in_block : length m ≤ 512
+  pub fields : 10 ≤ length m
+  pub even : words_in_use m % 2 ≡ 0
+  pub within : words_in_use m ≤ 2 * places m

@@ -1,0 +1,139 @@
+//! The retrieval pointers of a header.
+ghost use Rattle.std.specs.Prelude.{◌≡◌, ◌<◌, ◌≤◌, ◌+◌, ◌-◌, ◌^◌, length, Some};
+ghost use Rattle.std.specs.List.{slice_get};
+ghost use Rattle.f11_dev.specs.Block.{word};
+ghost use Rattle.f11_header.specs.Fields.{file_number};
+ghost use Rattle.f11_header.specs.Header.{IsHeader};
+ghost use Rattle.f11_map.specs.MapArea.{map_area, IsMapArea, segment, link, runs_of, blocks_of, places};
+
+use f11_header::Header;
+use f11_store::FileId;
+
+/// M.ESQN, a byte: the segment number.
+const SEGMENT: usize = 0;
+
+/// M.ERVN, a byte: the relative volume of the next header.
+const LINK_VOLUME: usize = 1;
+
+/// M.EFNU, a word: the file number of the next header.
+const LINK_NUMBER: usize = 2;
+
+/// M.EFSQ, a word: the file sequence number of the next header.
+const LINK_SEQUENCE: usize = 4;
+
+/// M.USE, a byte: the words of pointers in use.
+const IN_USE: usize = 8;
+
+/// M.MAX, a byte: the words of pointers that there may be.
+const MOST: usize = 9;
+
+/// Where the pointers begin.
+const POINTERS: usize = 10;
+
+/// The map area of a header, read where it stands.
+#[derive(Clone, Copy)]
+pub struct Map<'a> {
+    area: &'a [u8],
+    ghost is_map: { IsMapArea area.now },
+}
+
+impl<'a> Map<'a> {
+    ghost use Rattle.f11_map.specs.Map.{area_of};
+    ghost use Rattle.f11_header.specs.Lent.{header_block};
+
+    /// The map area of a valid header.
+    pub fn new(area: &'a [u8]) -> Map<'a>
+        requires { IsMapArea area.now }
+        ensures { area_of result ≡ area.now }
+    {
+        Map { area }
+    }
+
+    /// The map area of a valid header, where it stands.
+    pub fn of(header: &Header<'a>) -> Map<'a>
+        requires { IsHeader (header_block header.now) (file_number (header_block header.now)) }
+        ensures { area_of result ≡ map_area (header_block header.now) }
+    {
+        Map::new(header.map())
+    }
+
+    /// The segment number (M.ESQN).
+    pub fn segment(&self) -> u8
+        ensures { result ≡ segment (area_of self.now) }
+    {
+        self.area[SEGMENT]
+    }
+
+    /// The next header of the file (M.EFNU, M.EFSQ, M.ERVN); file number 0 is none.
+    pub fn link(&self) -> FileId
+        ensures { result ≡ link (area_of self.now) }
+    {
+        FileId {
+            number: word(self.area, LINK_NUMBER),
+            sequence: word(self.area, LINK_SEQUENCE),
+            volume: u16::from(self.area[LINK_VOLUME]),
+        }
+    }
+
+    /// The number of retrieval pointers.
+    pub fn runs(&self) -> usize
+        ensures count { result ≡ length (runs_of (area_of self.now)) }
+        ensures few { result ≤ 127 }
+    {
+        let in_use = self.area[IN_USE];
+        usize::from(in_use) / 2
+    }
+
+    /// Retrieval pointer `i`: the LBN of its first block, and how many blocks it names, 1 to 256.
+    pub fn run(&self, i: usize) -> (u32, u32)
+        requires { i < length (runs_of (area_of self.now)) }
+        ensures run { slice_get (runs_of (area_of self.now)) i ≡ Some result }
+        ensures bounds { (result.0 < 2 ^ 24) × (0 < result.1) × (result.1 ≤ 256) }
+    {
+        let at = POINTERS + 4 * i;
+        let lbn = u32::from(self.area[at]) * 65536 + u32::from(word(self.area, at + 2));
+        (lbn, u32::from(self.area[at + 1]) + 1)
+    }
+
+    /// How many more pointers there are places for.
+    pub fn places_left(&self) -> usize
+        ensures { result ≡ places (area_of self.now) - length (runs_of (area_of self.now)) }
+    {
+        let most = usize::from(self.area[MOST]).min((self.area.len() - POINTERS) / 2);
+        most / 2 - self.runs()
+    }
+
+    /// The number of blocks that the pointers name.
+    pub fn len_blocks(&self) -> u32
+        ensures { result ≡ length (blocks_of (area_of self.now)) }
+    {
+        let mut blocks = 0;
+        for i in 0..self.runs() {
+            blocks += self.run(i).1;
+        }
+        blocks
+    }
+
+    /// The LBN of block number `place`, from 0, of those that the pointers name; `None` where they name no more.
+    pub fn lbn_of(&self, place: u32) -> Option<u32>
+        ensures { result ≡ slice_get (blocks_of (area_of self.now)) place }
+    {
+        let mut left = place;
+        for i in 0..self.runs() {
+            let (lbn, count) = self.run(i);
+            if left < count {
+                return Some(lbn + left);
+            }
+            left -= count;
+        }
+        None
+    }
+}
+
+/// The word at a byte of the area, the low byte first.
+fn word(area: &[u8], at: usize) -> u16
+    requires { at + 1 < length area.now }
+    ensures { result ≡ word area.now at }
+{
+    u16::from_le_bytes([area[at], area[at + 1]])
+}
