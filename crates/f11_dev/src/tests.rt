@@ -1,5 +1,6 @@
 use super::*;
-use std::alloc::{Allocator, Global};
+use std::alloc::{AllocError, Allocator, Global};
+use std::fmt::Display;
 use std::fs::{File, Metadata, OpenOptions};
 use std::os::unix::fs::FileExt;
 use std::rt::Files;
@@ -215,5 +216,18 @@ fn a_liar_lies_once_begun(rt: HostRuntime) -> Result<(), Fail> {
     assert_eq!(rt; get(&mut device, 1)?, ZEROS);
     assert_eq!(rt; get(&mut device, 0)?, SEVENS);
     assert_eq!(rt; get(&mut device.into_inner(), 1)?, SEVENS);
+    Ok(())
+}
+
+/// The text of an error, asked for again where memory is refused once.
+fn message(alloc: Global, error: &impl Display) -> Result<String, AllocError> {
+    format!(in alloc; "{error}").or_else(|_| format!(in alloc; "{error}"))
+}
+
+#[test]
+fn messages(rt: HostRuntime) -> Result<(), Fail> {
+    assert_eq!(rt; message(rt.alloc(), &DeviceFault)?.as_str(), "device fault");
+    assert_eq!(rt; message(rt.alloc(), &CannotOpen)?.as_str(), "cannot open");
+    assert_eq!(rt; message(rt.alloc(), &NoMemory)?.as_str(), "no memory");
     Ok(())
 }

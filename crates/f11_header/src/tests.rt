@@ -1,6 +1,9 @@
 use super::*;
 use f11_dev::{Block, read_word, write_word, zeros};
 use f11_store::{FileId, Uic};
+use std::alloc::{AllocError, Global};
+use std::fmt::Display;
+use std::test::Fail;
 
 const SYSTEM: Uic = Uic {
     group: 1,
@@ -134,4 +137,16 @@ fn a_dead_header_keeps_its_sequence(rt: HostRuntime) {
     assert_eq!(rt; check(&block, 0), Err(HeaderFault::Dead));
     assert_eq!(rt; (read_word(&block, 4), read_word(&block, 510)), (4, 0));
     assert_eq!(rt; check(&zeros(), 1), Err(HeaderFault::Dead));
+}
+
+/// The text of an error, asked for again where memory is refused once.
+fn message(alloc: Global, error: &impl Display) -> Result<String, AllocError> {
+    format!(in alloc; "{error}").or_else(|_| format!(in alloc; "{error}"))
+}
+
+#[test]
+fn messages(rt: HostRuntime) -> Result<(), Fail> {
+    assert_eq!(rt; message(rt.alloc(), &HeaderFault::Dead)?.as_str(), "dead");
+    assert_eq!(rt; message(rt.alloc(), &HeaderFault::Bad)?.as_str(), "bad");
+    Ok(())
 }

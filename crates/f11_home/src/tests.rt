@@ -1,5 +1,7 @@
 use super::*;
 use f11_dev::{BLOCK_SIZE, Block, Device, DeviceFault, Memory, read_word, write_word};
+use std::alloc::{AllocError, Global};
+use std::fmt::Display;
 use std::test::Fail;
 
 /// Writes a block, where the device has it.
@@ -133,5 +135,23 @@ fn the_first_valid_candidate_is_taken(rt: HostRuntime) -> Result<(), Fail> {
     assert_eq!(rt; find(&mut device), Err(HomeFault::NoHome));
     put(&mut device, 512, &home_block())?;
     assert_eq!(rt; find(&mut device)?.lbn(), 512);
+    Ok(())
+}
+
+/// The text of an error, asked for again where memory is refused once.
+fn message(alloc: Global, error: &impl Display) -> Result<String, AllocError> {
+    format!(in alloc; "{error}").or_else(|_| format!(in alloc; "{error}"))
+}
+
+#[test]
+fn messages(rt: HostRuntime) -> Result<(), Fail> {
+    assert_eq!(rt;
+        message(rt.alloc(), &HomeFault::NoHome)?.as_str(),
+        "no home block"
+    );
+    assert_eq!(rt;
+        message(rt.alloc(), &HomeFault::DeviceFault)?.as_str(),
+        "device fault"
+    );
     Ok(())
 }
