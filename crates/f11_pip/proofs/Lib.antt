@@ -1,2 +1,3 @@
 pub mod LabelLemmas
+pub mod OctalLemmas
 pub mod WordsLemmas

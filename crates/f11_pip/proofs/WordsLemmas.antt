@@ -1,5 +1,5 @@
 -- What clap makes of the words.
-use Rattle.std.proofs.Common.{length, ◌≤◌, arith, Result, Ok, Err, IsErrAnd, IsOkAnd, MatchResult, Bool, not, ◌&&◌, ap, ◌∙◌, ◌≡◌, List, [], ◌∷◌, Option, Some, None, true, false, codes, refl, map, option_map, option_and_then}
+use Rattle.std.proofs.Common.{IfSome, ok_or, ◌⊎◌, inl, inr, length, ◌≤◌, arith, Result, Ok, Err, IsErrAnd, IsOkAnd, MatchResult, Bool, not, ◌&&◌, ap, ◌∙◌, ◌≡◌, List, [], ◌∷◌, Option, Some, None, true, false, codes, refl, map, option_map, option_and_then}
 use Rattle.clap.specs.Words.{Row, Text, first_of, is_simple, subcommand_of, takes}
 use Rattle.clap.proofs.OnLiterals.{clap_on_literals}
 use Rattle.clap.specs.declared.error.kind.ErrorKind.{ErrorKind}
@@ -7,8 +7,11 @@ use Rattle.clap.specs.declared.error.kind.ErrorKind.TheVariants.{OutOfMemory}
 use Rattle.f11_pip.specs.declared.outcome.Failure.{Failure}
 use Rattle.f11_pip.specs.declared.outcome.Failure.TheVariants.{NoMemory}
 use Rattle.f11_pip.specs.Outcome.{failure_of_kind}
+use Rattle.f11_store.specs.declared.callers.Uic.{Uic}
 use Rattle.f11_pip.specs.Commands.{named, program_app}
-use Rattle.f11_pip.specs.Words.{is_option}
+use Rattle.f11_pip.specs.Octal.{SpellsUic}
+use Rattle.f11_pip.specs.Words.{AskNoRights, is_option}
+use Rattle.f11_pip.specs.declared.words.Words.TheVariants.{Home, Name, Rights}
 
 pub is_simple-program : is_simple program_app ≡ true
 unfolding clap_on_literals
@@ -24,6 +27,46 @@ pub subcommand_of-home : (program image : Text) → is_option image ≡ false
 unfolding clap_on_literals
 subcommand_of-home program [] plain = refl
 subcommand_of-home program (b ∷ bs) plain = rw (plain, plain) refl
+
+pub takes-name : (program text : Text) → is_option text ≡ false → takes program_app (program ∷ codes "name" ∷ text ∷ []) ≡ true
+unfolding clap_on_literals
+takes-name program [] plain = refl
+takes-name program (b ∷ bs) plain = simp plain
+
+pub subcommand_of-name : (program text : Text) → is_option text ≡ false
+    → named (codes "text") (subcommand_of program_app (program ∷ codes "name" ∷ text ∷ [])) ≡ Some (codes "name", Some text)
+unfolding clap_on_literals
+subcommand_of-name program [] plain = refl
+subcommand_of-name program (b ∷ bs) plain = rw (plain, plain) refl
+
+pub takes-rights : (program caller owner word : Text) → is_option caller ≡ false → is_option owner ≡ false → is_option word ≡ false
+    → takes program_app (program ∷ codes "rights" ∷ caller ∷ owner ∷ word ∷ []) ≡ true
+unfolding clap_on_literals
+takes-rights program [] [] [] p q r = refl
+takes-rights program [] [] (d ∷ zs) p q r = rw (r, r) refl
+takes-rights program [] (b ∷ ys) [] p q r = rw (q, q) refl
+takes-rights program [] (b ∷ ys) (d ∷ zs) p q r = rw (q, q, r, r) refl
+takes-rights program (a ∷ xs) [] [] p q r = rw (p, p) refl
+takes-rights program (a ∷ xs) [] (d ∷ zs) p q r = rw (p, p, r, r) refl
+takes-rights program (a ∷ xs) (b ∷ ys) [] p q r = rw (p, p, q, q) refl
+takes-rights program (a ∷ xs) (b ∷ ys) (d ∷ zs) p q r = rw (p, p, q, q, r, r) refl
+
+-- the three words of `rights` in what was met
+abbrev RightsMet : Option (Text × List Row) → Text → Text → Text → Type 0
+RightsMet met caller owner word = (named (codes "uic") met ≡ Some (codes "rights", Some caller)) × (named (codes "owner") met ≡ Some (codes "rights", Some owner))
+    × (named (codes "word") met ≡ Some (codes "rights", Some word))
+
+pub subcommand_of-rights : (program caller owner word : Text) → is_option caller ≡ false → is_option owner ≡ false → is_option word ≡ false
+    → RightsMet (subcommand_of program_app (program ∷ codes "rights" ∷ caller ∷ owner ∷ word ∷ [])) caller owner word
+unfolding clap_on_literals
+subcommand_of-rights program [] [] [] p q r = (refl, refl, refl)
+subcommand_of-rights program [] [] (d ∷ zs) p q r = (rw (r, r) refl, rw (r, r) refl, rw (r, r) refl)
+subcommand_of-rights program [] (b ∷ ys) [] p q r = (rw (q, q) refl, rw (q, q) refl, rw (q, q) refl)
+subcommand_of-rights program [] (b ∷ ys) (d ∷ zs) p q r = (rw (q, q, r, r) refl, rw (q, q, r, r) refl, rw (q, q, r, r) refl)
+subcommand_of-rights program (a ∷ xs) [] [] p q r = (rw (p, p) refl, rw (p, p) refl, rw (p, p) refl)
+subcommand_of-rights program (a ∷ xs) [] (d ∷ zs) p q r = (rw (p, p, r, r) refl, rw (p, p, r, r) refl, rw (p, p, r, r) refl)
+subcommand_of-rights program (a ∷ xs) (b ∷ ys) [] p q r = (rw (p, p, q, q) refl, rw (p, p, q, q) refl, rw (p, p, q, q) refl)
+subcommand_of-rights program (a ∷ xs) (b ∷ ys) (d ∷ zs) p q r = (rw (p, p, q, q, r, r) refl, rw (p, p, q, q, r, r) refl, rw (p, p, q, q, r, r) refl)
 
 pub subcommand_of-none : {X : Type 0} (text : X → Text) (words : List X) → length words ≤ 1 → subcommand_of program_app (map text words) ≡ None
 unfolding clap_on_literals
@@ -55,3 +98,33 @@ failure_out_of_memory P (Err failure) kind fails out = fails ∙ ap failure_of_k
 pub match_ok : {T E : Type 0} (P : T → Type 0) (Q : E → Type 0) (r : Result T E) → IsOkAnd r P → MatchResult r P Q
 match_ok P Q (Ok x) holds = holds
 match_ok P Q (Err e) holds = absurd holds
+
+pub uic_or_none : (r : Option Uic) (out : Result Uic Failure) (failure : Failure) (text : Text) → out ≡ ok_or r failure → IfSome r (SpellsUic text)
+    → ((uic : Uic) → SpellsUic text uic → r ≡ Some uic) → MatchResult out (SpellsUic text) (λ _. (uic : Uic) → SpellsUic text uic → ⊥)
+uic_or_none None out failure text is spelled every = rw is (λ uic s. let same = every uic s in cc)
+uic_or_none (Some uic) out failure text is spelled every = rw is spelled
+
+-- a text that spells no user's code asks for no rights
+pub no_caller : (caller owner word : Text) → ((uic : Uic) → SpellsUic caller uic → ⊥) → AskNoRights caller owner word
+no_caller caller owner word none (Home image) asks = asks
+no_caller caller owner word none (Name text) asks = asks
+no_caller caller owner word none (Rights c o w) asks = none c asks.0
+
+pub no_owner : (caller owner word : Text) → ((uic : Uic) → SpellsUic owner uic → ⊥) → AskNoRights caller owner word
+no_owner caller owner word none (Home image) asks = asks
+no_owner caller owner word none (Name text) asks = asks
+no_owner caller owner word none (Rights c o w) asks = none o asks.1
+
+pub at_err : {T E Q : Type 0} (P : T → Type 0) (F : E → Type 0) (r : Result T E) → IsErrAnd r F → Q → MatchResult r P (λ _. Q)
+at_err P F (Ok x) fails holds = absurd fails
+at_err P F (Err e) fails holds = holds
+
+pub no_memory_or_none : {T : Type 0} (P : T → Type 0) (N : Type 0) (r : Result T Failure) → MatchResult r P (λ failure. failure ≡ NoMemory)
+    → MatchResult r P (λ failure. (failure ≡ NoMemory) ⊎ N)
+no_memory_or_none P N (Ok x) holds = holds
+no_memory_or_none P N (Err failure) out = inl out
+
+pub none_or_no_memory : {T : Type 0} (P : T → Type 0) (N : Type 0) (r : Result T Failure) → MatchResult r P (λ _. N)
+    → MatchResult r P (λ failure. (failure ≡ NoMemory) ⊎ N)
+none_or_no_memory P N (Ok x) holds = holds
+none_or_no_memory P N (Err failure) none = inr none

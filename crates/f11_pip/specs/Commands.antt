@@ -11,8 +11,17 @@ needed_rule name = record (new_rule name) { required = true; action = Some Set }
 abbrev pub home_app : App
 home_app = with_rule (new_app (codes "home")) (needed_rule (codes "image"))
 
+-- `name TEXT`
+abbrev pub name_app : App
+name_app = with_rule (new_app (codes "name")) (needed_rule (codes "text"))
+
+-- `rights UIC OWNER WORD`
+abbrev pub rights_app : App
+rights_app = with_rule (with_rule (with_rule (new_app (codes "rights")) (needed_rule (codes "uic")))
+    (needed_rule (codes "owner"))) (needed_rule (codes "word"))
+
 abbrev pub program_app : App
-program_app = with_subcommand (new_app (codes "f11_pip")) home_app.top
+program_app = with_subcommand (with_subcommand (with_subcommand (new_app (codes "f11_pip")) home_app.top) name_app.top) rights_app.top
 
 -- the name of the command that was met, and its word of this name
 abbrev pub named : Text → Option (Text × List Row) → Option (Text × Option Text)

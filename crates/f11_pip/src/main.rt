@@ -2,12 +2,16 @@
 //!
 //! Each command is a public function over devices and a writer, whose contract says which lines it writes and what
 //! it answers. [`main`] reads the words, opens the files in their order, and ends with the [`status`] of the outcome.
-//! The crate stands on [`f11_dev`], for devices, on [`f11_home`], for home blocks, and on [`clap`], for the words.
+//! The crate stands on [`f11_dev`], for devices, on [`f11_home`], for home blocks, on [`f11_rad50`], for names, on
+//! [`f11_store`], for rights, and on [`clap`], for the words.
 #![tactic(auto)]
 
 mod home;
 mod label;
+mod name;
+mod octal;
 mod outcome;
+mod rights;
 mod words;
 
 use f11_dev::FileImage;
@@ -36,6 +40,12 @@ fn answer(rt: &HostRuntime) -> Result<Answer, Failure> {
 fn run<W: Write>(rt: &HostRuntime, words: Words<'_>, writer: &mut W) -> Result<Answer, Failure> {
     match words {
         Words::Home { image } => home::home(&mut FileImage::open(rt, image)?, writer),
+        Words::Name { text } => name::name(text, writer),
+        Words::Rights {
+            caller,
+            owner,
+            protection,
+        } => rights::rights(caller, owner, protection, writer),
     }
 }
 

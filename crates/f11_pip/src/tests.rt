@@ -3,9 +3,13 @@ ghost use Rattle.std.specs.Prelude.{◌+◌, ◌≤◌, length};
 use super::*;
 use crate::home::home;
 use crate::label::Label;
+use crate::name::name;
+use crate::octal::{read_protection, read_uic};
+use crate::rights::rights;
 use crate::words::parse;
 use f11_dev::{BLOCK_SIZE, Block, Device, Memory, read_word, sum_words, write_word};
 use f11_home::seal;
+use f11_store::Uic;
 use std::alloc::Global;
 use std::fs;
 use std::io::Cursor;
@@ -119,6 +123,118 @@ fn labels(rt: HostRuntime) -> Result<(), Fail> {
 }
 
 #[test]
+fn names(rt: HostRuntime) -> Result<(), Fail> {
+    for (text, outcome, written) in [
+        (
+            "INDEXF.SYS;1",
+            Answer::Done,
+            b"words 14964 8966 0 31419 1\n".as_slice(),
+        ),
+        (
+            "ABCDEFGHI.TXT;77777",
+            Answer::Done,
+            b"words 1683 6606 11529 32980 32767\n",
+        ),
+        ("a.TXT;1", Answer::Fault, b"bad name\n"),
+        ("ABCDEFGHIJ.TXT;1", Answer::Fault, b"bad name\n"),
+        ("A.TXT;0", Answer::Fault, b"bad name\n"),
+        ("A.TXT;100000", Answer::Fault, b"bad name\n"),
+    ] {
+        let mut line = line();
+        assert_eq!(rt; name(text, &mut line), Ok(outcome));
+        assert_eq!(rt; text_of(&line), written);
+        let mut line = self::line();
+        assert_eq!(rt; run(&rt, Words::Name { text }, &mut line), Ok(outcome));
+        assert_eq!(rt; text_of(&line), written);
+        let mut full = Cursor::new([0; 8]);
+        assert_eq!(rt; name(text, &mut full), Err(Failure::CannotWrite));
+    }
+    Ok(())
+}
+
+#[test]
+fn rights_of_callers(rt: HostRuntime) -> Result<(), Fail> {
+    for (caller, word, written) in [
+        ("200,1", "160000", b"RWED\n".as_slice()),
+        ("200,2", "160000", b"RWED\n"),
+        ("201,1", "160000", b"R---\n"),
+        ("10,1", "160000", b"RWED\n"),
+        ("200,1", "360", b"RWED\n"),
+        ("200,1", "177760", b"----\n"),
+        ("10,1", "177760", b"RWED\n"),
+        ("11,1", "177760", b"----\n"),
+    ] {
+        let given = ["f11_pip", "rights", caller, "200,1", word];
+        let words = parsed(rt.alloc(), &given)?;
+        let mut line = line();
+        assert_eq!(rt; run(&rt, words, &mut line), Ok(Answer::Done), "{caller}");
+        assert_eq!(rt; text_of(&line), written, "{caller}");
+    }
+    Ok(())
+}
+
+#[test]
+fn rights_without_room(rt: HostRuntime) {
+    let owner = Uic {
+        group: 0o200,
+        member: 1,
+    };
+    let mut line = line();
+    assert_eq!(rt; rights(owner, owner, 0o160000, &mut line), Ok(Answer::Done));
+    assert_eq!(rt; text_of(&line), b"RWED\n".as_slice());
+    let mut full = Cursor::new([0; 4]);
+    assert_eq!(rt;
+        rights(owner, owner, 0, &mut full),
+        Err(Failure::CannotWrite)
+    );
+}
+
+#[test]
+fn octal_numbers(rt: HostRuntime) {
+    for (text, group, member) in [
+        ("200,1", 128, 1),
+        ("377,0", 255, 0),
+        ("0000000010,00377", 8, 255),
+    ] {
+        assert_eq!(rt; read_uic(text), Some(Uic { group, member }), "{text}");
+    }
+    for text in [
+        "",
+        ",",
+        "1",
+        "1,",
+        ",1",
+        "1,2,3",
+        "400,1",
+        "1,400",
+        "8,1",
+        "1,8",
+        "+1,1",
+        "-1,1",
+        " 1,1",
+        "1 ,1",
+        "a,1",
+        "77777777777777777777777,1",
+    ] {
+        assert_eq!(rt; read_uic(text), None, "{text}");
+    }
+    for (text, word) in [
+        ("0", 0),
+        ("360", 240),
+        ("000360", 240),
+        ("160000", 57344),
+        ("177777", 65535),
+    ] {
+        assert_eq!(rt; read_protection(text), Some(word), "{text}");
+    }
+    for text in [
+        "", "8", "200000", "777777", "0000000", "1777770", "+1", "-1", "1 ", "0x1", "a",
+    ] {
+        assert_eq!(rt; read_protection(text), None, "{text}");
+    }
+}
+
+#[test]
 fn usage(rt: HostRuntime) -> Result<(), Fail> {
     for words in [
         [].as_slice(),
@@ -129,6 +245,20 @@ fn usage(rt: HostRuntime) -> Result<(), Fail> {
         &["f11_pip", "home"],
         &["f11_pip", "home", "--help"],
         &["f11_pip", "home", "A.DSK", "B.DSK"],
+        &["f11_pip", "name"],
+        &["f11_pip", "name", "-A.TXT;1"],
+        &["f11_pip", "name", "A.TXT;1", "B.TXT;1"],
+        &["f11_pip", "rights", "200,1", "200,1"],
+        &["f11_pip", "rights", "200,1", "200,1", "0", "0"],
+        &["f11_pip", "rights", "400,1", "200,1", "0"],
+        &["f11_pip", "rights", "1", "200,1", "0"],
+        &["f11_pip", "rights", "200,1", "1,2,3", "0"],
+        &["f11_pip", "rights", "200,1", "8,1", "0"],
+        &["f11_pip", "rights", ",1", "200,1", "0"],
+        &["f11_pip", "rights", "200,1", "200,1", "200000"],
+        &["f11_pip", "rights", "200,1", "200,1", "8"],
+        &["f11_pip", "rights", "200,1", "200,1", ""],
+        &["f11_pip", "rights", "200,1", "200,1", "0000000"],
     ] {
         assert_eq!(rt; parsed(rt.alloc(), words), Err(Failure::Usage));
     }
@@ -136,6 +266,10 @@ fn usage(rt: HostRuntime) -> Result<(), Fail> {
         return Err("home".into());
     };
     assert_eq!(rt; image, "A.DSK");
+    let Ok(Words::Name { text }) = parsed(rt.alloc(), &["f11_pip", "name", "A.TXT;1"]) else {
+        return Err("name".into());
+    };
+    assert_eq!(rt; text, "A.TXT;1");
     Ok(())
 }
 

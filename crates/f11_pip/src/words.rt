@@ -1,12 +1,17 @@
 //! The words of the command line.
 ghost use Rattle.std.specs.Prelude.{◌≡◌, ◌≤◌, ◌⊎◌, length, ◌∷◌, [], ℕ, List, false, codes, map, option_map, Some, None, IfOk, IfErr, IsErr, IsOkAnd, MatchResult};
 ghost use Rattle.std.specs.Result.{result_ok};
+ghost use Rattle.std.specs.Str.Parse.{digits_value};
 ghost use Rattle.clap.specs.Words.{app_of, first_of, first_value, found_of, rule_of, subcommand_rows_of};
-ghost use Rattle.f11_pip.specs.Words.{AsksHome, is_option};
-ghost use Rattle.f11_pip.specs.Commands.{home_app, named, needed_rule, program_app};
+ghost use Rattle.f11_store.specs.declared.callers.Uic.{Uic};
+ghost use Rattle.f11_pip.specs.Words.{AskNoRights, AsksHome, AsksName, AsksRights, is_option};
+ghost use Rattle.f11_pip.specs.Commands.{home_app, name_app, rights_app, named, needed_rule, program_app};
+ghost use Rattle.f11_pip.specs.Octal.{IsProtection, SpellsUic};
 
+use crate::octal::{read_protection, read_uic};
 use crate::outcome::Failure;
 use clap::{Arg, ArgAction, ArgMatches, Command};
+use f11_store::Uic;
 use std::alloc::{AllocError, Global};
 use std::convert::AsStr;
 
@@ -14,15 +19,33 @@ use std::convert::AsStr;
 #[derive(Clone, Copy, Debug, PartialEq, Eq)]
 pub enum Words<'a> {
     /// `home IMAGE`
-    Home { image: &'a str },
+    Home {
+        image: &'a str,
+    },
+    /// `name TEXT`
+    Name {
+        text: &'a str,
+    },
+    /// `rights UIC OWNER WORD`: the caller's code, the owner's, and the file's protection word
+    Rights {
+        caller: Uic,
+        owner: Uic,
+        protection: u16,
+    },
 }
 
 /// Reads the words of a command line, of which the first is the program's name.
 ///
-/// Words that don't parse, that ask for help, or that are none at all are [`Failure::Usage`].
+/// Words that don't parse, that ask for help, or that are none at all are [`Failure::Usage`], and so are users' codes
+/// and protection words that [`read_uic`] and [`read_protection`] don't read.
 pub fn parse<'a, S: AsStr>(alloc: Global, words: &'a [S]) -> Result<Words<'a>, Failure>
     ensures home { (program image : List ℕ) → map S.text words.entry.now ≡ program ∷ codes "home" ∷ image ∷ [] → is_option image ≡ false
         → MatchResult result (AsksHome image) (λ failure. failure ≡ Failure.NoMemory) }
+    ensures name { (program text : List ℕ) → map S.text words.entry.now ≡ program ∷ codes "name" ∷ text ∷ [] → is_option text ≡ false
+        → MatchResult result (AsksName text) (λ failure. failure ≡ Failure.NoMemory) }
+    ensures rights { (program caller owner word : List ℕ) → map S.text words.entry.now ≡ program ∷ codes "rights" ∷ caller ∷ owner ∷ word ∷ []
+        → is_option caller ≡ false → is_option owner ≡ false → is_option word ≡ false
+        → MatchResult result (AsksRights caller owner word) (λ failure. (failure ≡ Failure.NoMemory) ⊎ AskNoRights caller owner word) }
     ensures none { length words.entry.now ≤ 1 → IsErr result }
     ensures failures { IfErr result (λ failure. (failure ≡ Failure.Usage) ⊎ (failure ≡ Failure.NoMemory)) }
 {
@@ -34,17 +57,27 @@ pub fn parse<'a, S: AsStr>(alloc: Global, words: &'a [S]) -> Result<Words<'a>, F
 fn program<'a>(alloc: Global) -> Result<Command<'a>, AllocError>
     ensures { IfOk result (λ command. app_of command ≡ program_app) }
 {
-    Command::new(alloc, "f11_pip").subcommand(home(alloc)?)
+    Command::new(alloc, "f11_pip")
+        .subcommand(home(alloc)?)?
+        .subcommand(name(alloc)?)?
+        .subcommand(rights(alloc)?)
 }
 
 /// The command that the words named.
 fn command_of<'a>(matches: &ArgMatches<'a>) -> Result<Words<'a>, Failure>
     ensures home { (image : List ℕ) → named (codes "image") (subcommand_rows_of matches.now) ≡ Some (codes "home", Some image) → IsOkAnd result (AsksHome image) }
+    ensures name { (text : List ℕ) → named (codes "text") (subcommand_rows_of matches.now) ≡ Some (codes "name", Some text) → IsOkAnd result (AsksName text) }
+    ensures rights { (caller owner word : List ℕ) → named (codes "uic") (subcommand_rows_of matches.now) ≡ Some (codes "rights", Some caller)
+        → named (codes "owner") (subcommand_rows_of matches.now) ≡ Some (codes "rights", Some owner)
+        → named (codes "word") (subcommand_rows_of matches.now) ≡ Some (codes "rights", Some word)
+        → MatchResult result (AsksRights caller owner word) (λ _. AskNoRights caller owner word) }
     ensures none { subcommand_rows_of matches.now ≡ None → IsErr result }
     ensures usage { IfErr result (λ failure. failure ≡ Failure.Usage) }
 {
     match matches.subcommand() {
         Some(("home", given)) => home_of(given),
+        Some(("name", given)) => name_of(given),
+        Some(("rights", given)) => rights_of(given),
         _ => Err(Failure::Usage),
     }
 }
@@ -61,6 +94,60 @@ fn home_of<'a>(given: &ArgMatches<'a>) -> Result<Words<'a>, Failure>
 {
     let image = word_of(given, "image")?;
     Ok(Words::Home { image })
+}
+
+fn name<'a>(alloc: Global) -> Result<Command<'a>, AllocError>
+    ensures { IfOk result (λ command. app_of command ≡ name_app) }
+{
+    Command::new(alloc, "name").arg(needed(alloc, "text"))
+}
+
+fn name_of<'a>(given: &ArgMatches<'a>) -> Result<Words<'a>, Failure>
+    ensures name { (text : List ℕ) → first_value (found_of given.now) (codes "text") ≡ Some text → IsOkAnd result (AsksName text) }
+    ensures usage { IfErr result (λ failure. failure ≡ Failure.Usage) }
+{
+    let text = word_of(given, "text")?;
+    Ok(Words::Name { text })
+}
+
+fn rights<'a>(alloc: Global) -> Result<Command<'a>, AllocError>
+    ensures { IfOk result (λ command. app_of command ≡ rights_app) }
+{
+    Command::new(alloc, "rights")
+        .arg(needed(alloc, "uic"))?
+        .arg(needed(alloc, "owner"))?
+        .arg(needed(alloc, "word"))
+}
+
+fn rights_of<'a>(given: &ArgMatches<'a>) -> Result<Words<'a>, Failure>
+    ensures rights { (caller owner word : List ℕ) → first_value (found_of given.now) (codes "uic") ≡ Some caller
+        → first_value (found_of given.now) (codes "owner") ≡ Some owner → first_value (found_of given.now) (codes "word") ≡ Some word
+        → MatchResult result (AsksRights caller owner word) (λ _. AskNoRights caller owner word) }
+    ensures usage { IfErr result (λ failure. failure ≡ Failure.Usage) }
+{
+    Ok(Words::Rights {
+        caller: uic_of(given, "uic")?,
+        owner: uic_of(given, "owner")?,
+        protection: protection_of(given)?,
+    })
+}
+
+/// The user's code that a word spells.
+fn uic_of(given: &ArgMatches<'_>, name: &str) -> Result<Uic, Failure>
+    ensures uic { (text : List ℕ) → first_value (found_of given.now) name.now ≡ Some text
+        → MatchResult result (SpellsUic text) (λ _. (uic : Uic) → ¬ SpellsUic text uic) }
+    ensures usage { IfErr result (λ failure. failure ≡ Failure.Usage) }
+{
+    read_uic(word_of(given, name)?).ok_or(Failure::Usage)
+}
+
+/// The protection word among the words.
+fn protection_of(given: &ArgMatches<'_>) -> Result<u16, Failure>
+    ensures protection { (text : List ℕ) → first_value (found_of given.now) (codes "word") ≡ Some text
+        → MatchResult result (λ protection. IsProtection text × (protection ≡ digits_value 8 text)) (λ _. ¬ IsProtection text) }
+    ensures usage { IfErr result (λ failure. failure ≡ Failure.Usage) }
+{
+    read_protection(word_of(given, "word")?).ok_or(Failure::Usage)
 }
 
 /// A word that has to be there.

@@ -1,0 +1,59 @@
+-- Facts about how many numbers pass a test.
+use Rattle.std.proofs.Common.{◌≡◌, ℕ, zero, suc, ◌+◌, ◌-◌, min, ◌<◌, ◌≤◌, Bool, true, false, cond, refl, ap, inl, inr, arith}
+use Rattle.std.proofs.lemmas.Bool.{cases_lt, cases_Bool}
+use Rattle.f11_bits.specs.Bitmap.{count_below}
+
+-- one for a number that passes, and none for one that doesn't
+abbrev pub one_if : Bool → ℕ
+one_if b = cond b 1 0
+
+-- none below 0
+pub count_below-zero : (test : ℕ → Bool) → count_below test 0 ≡ 0
+unfolding count_below
+count_below-zero test = refl
+
+-- the next number
+pub count_below-suc : (test : ℕ → Bool) (n : ℕ) → count_below test (suc n) ≡ count_below test n + one_if (test n)
+unfolding count_below
+count_below-suc test n = refl
+
+-- at most all
+pub count_below-le : (test : ℕ → Bool) (n : ℕ) → count_below test n ≤ n
+count_below-le test zero = omega (arith, count_below-zero test)
+count_below-le test (suc n) =
+    elim (cases_Bool (test n)) [
+      | inl passes ↦ omega (arith, count_below-suc test n, ap one_if passes, count_below-le test n)
+      | inr fails ↦ omega (arith, count_below-suc test n, ap one_if fails, count_below-le test n)
+    ]
+
+-- the numbers below the first n, and those from there on
+pub count_below-append : (p q : ℕ → Bool) (n m : ℕ) → ((k : ℕ) → k < m → p (n + k) ≡ q k) → count_below p (n + m) ≡ count_below p n + count_below q m
+count_below-append p q n zero agree = let none : n + 0 ≡ n = omega arith in omega (arith, ap (count_below p) none, count_below-zero q)
+count_below-append p q n (suc m) agree =
+    let sum : n + suc m ≡ suc (n + m) = omega arith in
+    let last : p (n + m) ≡ q m = agree m (omega arith) in
+    omega (arith, ap (count_below p) sum, count_below-suc p (n + m), count_below-suc q m, ap one_if last, count_below-append p q n m (λ k below. agree k (omega arith)))
+
+-- tests that agree but for count numbers from lbn on, which pass the one and not the other
+pub count_below-more : (p q : ℕ → Bool) (lbn count n : ℕ) → lbn + count ≤ n
+    → ((k : ℕ) → lbn ≤ k → k < lbn + count → p k ≡ true) → ((k : ℕ) → lbn ≤ k → k < lbn + count → q k ≡ false)
+    → ((k : ℕ) → k < lbn → p k ≡ q k) → ((k : ℕ) → lbn + count ≤ k → p k ≡ q k)
+    → count_below p n ≡ count_below q n + count
+count_below-more p q lbn count n within passes fails before after = omega (arith, upto n)
+  where
+    upto : (m : ℕ) → count_below p m ≡ count_below q m + (min m (lbn + count) - lbn)
+    upto zero = omega (arith, count_below-zero p, count_below-zero q)
+    upto (suc m) =
+        let p_is = count_below-suc p m in
+        let q_is = count_below-suc q m in
+        let so_far = upto m in
+        elim (cases_lt m lbn) [
+          | inl early ↦ omega (arith, p_is, q_is, so_far, ap one_if (before m early))
+          | inr late ↦ elim (cases_lt m (lbn + count)) [
+            | inl inside ↦
+                let one : one_if (p m) ≡ 1 = ap one_if (passes m late inside) in
+                let none : one_if (q m) ≡ 0 = ap one_if (fails m late inside) in
+                omega (arith, p_is, q_is, so_far, one, none)
+            | inr past ↦ omega (arith, p_is, q_is, so_far, ap one_if (after m past))
+          ]
+        ]

@@ -1,0 +1,5 @@
+pub mod BitLemmas
+pub mod CountLemmas
+pub mod BitmapLemmas
+pub mod SearchLemmas
+pub mod StepLemmas

@@ -1,0 +1,120 @@
+-- What the calls of a device do to a bitmap.
+use Rattle.std.proofs.Common.{◌≡◌, ◌⊎◌, inl, inr, ℕ, ◌+◌, ◌/◌, ◌%◌, ◌<◌, ◌≤◌, Bool, IsTrue, List, length, get_or, Result, Ok, Err, OnOk, OnErr, Some, sym, ap, ◌∙◌, subst, arith}
+use Rattle.std.proofs.Math.ListN.{set}
+use Rattle.std.specs.List.{slice_get}
+use Rattle.std.proofs.lemmas.Result.{on_ok_weaker, on_err_weaker}
+use Rattle.f11_dev.specs.Block.{bit}
+use Rattle.f11_dev.specs.Image.{Image}
+use Rattle.f11_dev.specs.Disk.{Disk, Writes}
+use Rattle.f11_dev.specs.Looked.{Looked}
+use Rattle.f11_dev.specs.Went.{Went}
+use Rattle.f11_dev.proofs.WentLemmas.{went_write, went_failed_write, went_more, went_weaker, went_last}
+use Rattle.f11_bits.specs.Bitmap.{Bitmap, IsBitmap, KeepsOthers, Marks}
+use Rattle.f11_bits.specs.Changes.{Changing}
+use Rattle.f11_bits.specs.Parts.{HasBitOf, IsPart}
+use Rattle.f11_bits.proofs.BitmapLemmas.{Changing-all, Changing-more, KeepsOthers-refl, KeepsOthers-write, Marks-more, Marks-write}
+
+-- a bitmap block that was written, with the bits of count blocks set in it
+pub Marks-block : (honest free : Bool) (bitmap : Bitmap) (lbn count place : ℕ) (old : Image) (block new : List ℕ) → IsBitmap bitmap (length old) → IsPart bitmap.size 0 4096 lbn count
+    → place ≡ get_or bitmap.places (lbn / 4096) 0
+    → (IsTrue honest → HasBitOf old bitmap lbn block)
+    → ((k : ℕ) → lbn % 4096 ≤ k → k < lbn % 4096 + count → bit new k ≡ free)
+    → ((k : ℕ) → k < lbn % 4096 → bit new k ≡ bit block k)
+    → ((k : ℕ) → lbn % 4096 + count ≤ k → k < 4096 → bit new k ≡ bit block k)
+    → IsTrue honest → Marks free bitmap lbn count old (set old place new)
+Marks-block honest free bitmap lbn count place old block new valid part is stands inside before after holds =
+    subst (λ (p : ℕ). Marks free bitmap lbn count old (set old p new)) (sym is) (Marks-write free bitmap lbn count old block new valid part (stands holds) inside before after)
+
+pub Changing-block : (honest free : Bool) (bitmap : Bitmap) (lbn count place : ℕ) (old : Image) (new : List ℕ) → IsBitmap bitmap (length old) → IsPart bitmap.size 0 4096 lbn count
+    → place ≡ get_or bitmap.places (lbn / 4096) 0
+    → (IsTrue honest → Marks free bitmap lbn count old (set old place new)) → Changing honest free bitmap lbn count old (set old place new)
+Changing-block honest free bitmap lbn count place old new valid part is marks =
+    let within : lbn / 4096 < length bitmap.places = omega (arith, valid.covered, part.some, part.within) in
+    Changing-all honest free bitmap lbn count old (set old place new) part.some (rw is (KeepsOthers-write bitmap old (lbn / 4096) new within)) marks
+
+-- what holds of the image with that block holds at the end of a write that succeeded
+pub image-write : {E : Type 0} (P : Image → Type 0) (H : Type 0) (result : Result Unit E) (place : ℕ) (block : List ℕ) (old new : Disk) → Writes result place block old new
+    → (H → P (set old.image place block)) → OnOk result (H → P new.image)
+image-write P H result place block old new writes holds =
+    on_ok_weaker result (λ is honest. subst (λ (d : Disk). P d.image) (sym is) (holds honest)) writes.ok
+
+-- and of the images meanwhile
+pub went-write : {E : Type 0} (P : Image → Type 0) (result : Result Unit E) (place : ℕ) (block : List ℕ) (old new : Disk) → Writes result place block old new
+    → P (set old.image place block) → OnOk result (Went P old new 1 0)
+went-write P result place block old new writes holds = on_ok_weaker result (λ is. went_write P old new place block is holds) writes.ok
+
+pub went-failed : {E : Type 0} (P : Image → Type 0) (result : Result Unit E) (place : ℕ) (block : List ℕ) (old new : Disk) → Writes result place block old new
+    → P (set old.image place block) → OnErr result (Went P old new 1 1)
+went-failed P result place block old new writes holds = on_err_weaker result (λ is. went_failed_write P old new place block is holds) writes.err
+
+-- a block that was read after reads alone
+pub slice_get-read : (old now : Disk) (most at place : ℕ) (block : List ℕ) → Looked old now most 0 → at ≡ place → (IsTrue now.honest → slice_get now.image at ≡ Some block)
+    → IsTrue old.honest → slice_get old.image place ≡ Some block
+slice_get-read old now most at place block looked is gives honest =
+    ap (λ (image : Image). slice_get image place) (sym looked.image) ∙ ap (slice_get now.image) (sym is) ∙ gives (subst (λ (b : Bool). IsTrue b) (sym looked.honest) honest)
+
+-- the image after a write that succeeded
+pub image-written : {E : Type 0} (result : Result Unit E) (at place : ℕ) (block : List ℕ) (old new : Disk) → Writes result at block old new → at ≡ place → OnOk result (new.image ≡ set old.image place block)
+image-written result at place block old new writes is =
+    on_ok_weaker result (λ written. ap (λ (d : Disk). d.image) written ∙ ap (λ (p : ℕ). set old.image p block) is) writes.ok
+
+-- the blocks that aren't the bitmap's stay to the end
+pub KeepsOthers-went : {honest free : Bool} {bitmap : Bitmap} {lbn count : ℕ} {old new : Disk} {most faults : ℕ} → Went (Changing honest free bitmap lbn count old.image) old new most faults → KeepsOthers bitmap old.image new.image
+KeepsOthers-went {honest} {free} {bitmap} {lbn} {count} {old} {new} went =
+    went_last (KeepsOthers bitmap old.image) (went_weaker (Changing honest free bitmap lbn count old.image) (KeepsOthers bitmap old.image) (λ image changing. changing.keeps) went) (KeepsOthers-refl bitmap old.image)
+
+-- so it is still a bitmap
+pub IsBitmap-kept : (bitmap : Bitmap) (old new : Image) → IsBitmap bitmap (length old) → KeepsOthers bitmap old new → IsBitmap bitmap (length new)
+IsBitmap-kept bitmap old new valid keeps = subst (IsBitmap bitmap) (sym keeps.size) valid
+
+-- n blocks are being marked after the m before them
+pub Went-more : (free : Bool) (bitmap : Bitmap) (lbn m start n count : ℕ) (old now new : Disk) {first then faults : ℕ}
+    → Went (Changing old.honest free bitmap lbn count old.image) old now first 0
+    → KeepsOthers bitmap old.image now.image
+    → (IsTrue old.honest → Marks free bitmap lbn m old.image now.image)
+    → start ≡ lbn + m → m + n ≤ count → (m + n ≡ count) ⊎ ((lbn + (m + n)) % 4096 ≡ 0)
+    → Went (Changing now.honest free bitmap start n now.image) now new then faults
+    → Went (Changing old.honest free bitmap lbn count old.image) old new (first + then) faults
+Went-more free bitmap lbn m start n count old now new first keeps marks is within whole then =
+    let P : Image → Type 0 = Changing old.honest free bitmap lbn count old.image in
+    went_more P first (went_weaker (Changing now.honest free bitmap start n now.image) P
+    (λ image changing. Changing-more old.honest free bitmap lbn m n count old.image now.image image keeps marks within whole
+    (subst (λ (b : Bool). Changing b free bitmap (lbn + m) n now.image image) first.honest (subst (λ (k : ℕ). Changing now.honest free bitmap k n now.image image) is changing))) then)
+
+-- they are marked
+pub Marks-next : (free : Bool) (bitmap : Bitmap) (lbn m start n total : ℕ) (old now new : Disk) → now.honest ≡ old.honest
+    → (IsTrue old.honest → Marks free bitmap lbn m old.image now.image) → start ≡ lbn + m → m + n ≡ total
+    → (IsTrue now.honest → Marks free bitmap start n now.image new.image) → IsTrue old.honest → Marks free bitmap lbn total old.image new.image
+Marks-next free bitmap lbn m start n total old now new same first is sum then honest =
+    let now_honest : IsTrue now.honest = subst (λ (b : Bool). IsTrue b) (sym same) honest in
+    subst (λ (t : ℕ). Marks free bitmap lbn t old.image new.image) sum
+    (Marks-more free bitmap lbn m n old.image now.image new.image (first honest) (subst (λ (k : ℕ). Marks free bitmap k n now.image new.image) is (then now_honest)))
+
+-- what is said of a failure, where it holds
+pub OnErr-given : {T E P : Type 0} (result : Result T E) → P → OnErr result P
+OnErr-given (Ok value) holds = tt
+OnErr-given (Err error) holds = holds
+
+-- the first n blocks of count are being marked
+pub Went-first : (free : Bool) (bitmap : Bitmap) (lbn n count : ℕ) (old now : Disk) {most faults : ℕ} → n ≤ count → (n ≡ count) ⊎ ((lbn + n) % 4096 ≡ 0)
+    → Went (Changing old.honest free bitmap lbn n old.image) old now most faults → Went (Changing old.honest free bitmap lbn count old.image) old now most faults
+Went-first free bitmap lbn n count old now within whole went =
+    went_weaker (Changing old.honest free bitmap lbn n old.image) (Changing old.honest free bitmap lbn count old.image)
+    (λ image changing. record {
+      keeps = changing.keeps;
+      marking = λ honest.
+          let marking = changing.marking honest in
+          record {
+            part = marking.part;
+            some = marking.some;
+            within = omega (arith, marking.within);
+            whole = elim marking.whole [
+              | inl all ↦ elim whole [
+                | inl last ↦ inl (omega arith)
+                | inr edge ↦ inr (omega arith)
+              ]
+              | inr edge ↦ inr edge
+            ];
+            marks = marking.marks;
+          };
+    }) went

@@ -1,0 +1,63 @@
+use Rattle.std.proofs.Common.{◌≡◌, ◌⊎◌, inl, inr, ℕ, ◌+◌, ◌-◌, ◌*◌, ◌/◌, ◌%◌, ◌<◌, ◌≤◌, min, max, true, subst, arith}
+use Rattle.std.proofs.lemmas.Bool.{cases_lt}
+use Rattle.f11_dev.proofs.WentLemmas.{went_within}
+use Rattle.f11_bits.specs.Bitmap.{is_free, Marks}
+use Rattle.f11_bits.specs.Changes.{Changing}
+use Rattle.f11_bits.specs.Storage.{bitmap_of}
+use Rattle.f11_bits.proofs.CountLemmas.{count_below-le}
+use Rattle.f11_bits.proofs.BitmapLemmas.{KeepsOthers-trans, free_blocks-given}
+use Rattle.f11_bits.proofs.StepLemmas.{KeepsOthers-went, Marks-next, OnErr-given, Went-more}
+use Rattle.f11_bits.proofs.storage.Storage.give.Goals as goal
+
+-- the blocks of one bitmap block, `done` of count before it
+record IsStep (lbn count index start stop done : ℕ) : Type 0 where
+  begins : start ≡ lbn + done
+  within : done + (stop - start) ≤ count
+  whole : (done + (stop - start) ≡ count) ⊎ ((lbn + (done + (stop - start))) % 4096 ≡ 0)
+  next : done + (stop - start) ≡ min (lbn + count) (4096 * (index + 1)) - lbn
+
+step : (lbn count index start stop : ℕ) → 0 < count → lbn / 4096 ≤ index → index < (lbn + count + 4095) / 4096 → start ≡ max lbn (index * 4096) → stop ≡ min (lbn + count) ((index + 1) * 4096)
+    → IsStep lbn count index start stop (min (lbn + count) (4096 * index) - lbn)
+step lbn count index start stop some from to start_is stop_is = record {
+  begins = omega arith;
+  within = omega arith;
+  whole = elim (cases_lt (4096 * (index + 1)) (lbn + count)) [
+    | inl inside ↦ inr (omega arith)
+    | inr last ↦ inl (omega arith)
+  ];
+  next = omega arith;
+}
+
+pub returns-in_err-free_part-clause-failures : goal.returns-in_err-free_part-clause-failures
+returns-in_err-free_part-clause-failures g c =
+    let old = g.D.Device.disk c.args.device.now in
+    let bitmap = bitmap_of c.args.self.now in
+    let held = c.loop-index.invariant in
+    let next = step c.args.lbn c.args.count c.loop-index.index c.max-start.result c.min-stop.result c.requires.some (omega arith) (omega arith) (omega arith) (omega arith) in
+    OnErr-given _ (went_within (Changing old.honest true bitmap c.args.lbn c.args.count old.image)
+    (Went-more true bitmap c.args.lbn _ _ _ c.args.count old _ _ held.went held.keeps held.marks next.begins next.within next.whole c.in_err-free_part.ensures.failures) (omega arith))
+
+pub loop-index-preserved : goal.loop-index-preserved
+loop-index-preserved g c =
+    let old = g.D.Device.disk c.args.device.now in
+    let bitmap = bitmap_of c.args.self.now in
+    let held = c.loop-index.invariant in
+    let made = c.in_ok-free_part.ensures in
+    let next = step c.args.lbn c.args.count c.loop-index.index c.max-start.result c.min-stop.result c.requires.some (omega arith) (omega arith) (omega arith) (omega arith) in
+    record {
+      keeps = KeepsOthers-trans bitmap _ _ _ held.keeps (KeepsOthers-went made.transfers);
+      marks = Marks-next true bitmap c.args.lbn _ _ _ _ old (g.D.Device.disk c.loop-index.device) (g.D.Device.disk c.free_part.new.device) held.went.honest held.marks next.begins next.next made.marks;
+      went = went_within (Changing old.honest true bitmap c.args.lbn c.args.count old.image)
+          (Went-more true bitmap c.args.lbn _ _ _ c.args.count old _ _ held.went held.keeps held.marks next.begins next.within next.whole made.transfers) (omega arith);
+    }
+
+pub returns-clause-keeps : goal.returns-clause-keeps
+returns-clause-keeps g c = λ honest.
+    let old = g.D.Device.disk c.args.device.now in
+    let now = g.D.Device.disk c.loop-index.device in
+    let bitmap = bitmap_of c.args.self.now in
+    let end = c.args.lbn + c.args.count in
+    let all : min end (4096 * c.loop-index.index) - c.args.lbn ≡ c.args.count = omega arith in
+    let marks : Marks true bitmap c.args.lbn c.args.count old.image now.image = subst (λ (n : ℕ). Marks true bitmap c.args.lbn n old.image now.image) all (c.loop-index.invariant.marks honest) in
+    let more = free_blocks-given bitmap c.args.lbn c.args.count old.image now.image c.requires.within marks (c.requires.used honest) in
+    record { free = omega (arith, more, (c.requires.keeps honest).free, count_below-le (is_free now.image bitmap) bitmap.size, c.saturating_add-self.ensures) }

@@ -1,0 +1,12 @@
+pub mod Bitmap
+pub mod Run
+pub mod Bits
+pub mod Storage
+pub mod Transfers
+pub mod Changes
+pub mod Parts
+pub use Rattle.f11_dev.specs.Block
+pub use Rattle.f11_dev.specs.Image
+pub use Rattle.f11_dev.specs.Disk
+pub use Rattle.f11_dev.specs.Looked
+pub use Rattle.f11_dev.specs.Went

@@ -1,0 +1,24 @@
+-- Runs of free blocks (profile: a run is no longer than a retrieval pointer can tell).
+use Rattle.std.specs.Prelude.{◌≡◌, ℕ, ◌+◌, ◌<◌, ◌≤◌, Bool, true, false}
+
+-- The first run at or above `from`, cut at 256 and at `most` blocks.
+pub record IsFirstRun (free : ℕ → Bool) (from most lbn count : ℕ) : Type 0 where
+  pub above : from ≤ lbn
+  pub first : (k : ℕ) → from ≤ k → k < lbn → free k ≡ false
+  pub some : 0 < count
+  pub short : count ≤ 256
+  pub asked : count ≤ most
+  pub each : (k : ℕ) → lbn ≤ k → k < lbn + count → free k ≡ true
+  pub ended : count < 256 → count < most → free (lbn + count) ≡ false
+
+-- no block at or above `from` is free
+abbrev pub NoneFrom : (ℕ → Bool) → ℕ → Type 0
+NoneFrom free from = (k : ℕ) → from ≤ k → free k ≡ false
+
+-- Where a run is, on any device: at or above `from`, below the volume's end, of 1 to 256 and at most `most` blocks.
+pub record IsRunWithin (size from most lbn count : ℕ) : Type 0 where
+  pub above : from ≤ lbn
+  pub some : 0 < count
+  pub short : count ≤ 256
+  pub asked : count ≤ most
+  pub within : lbn + count ≤ size

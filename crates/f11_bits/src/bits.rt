@@ -1,0 +1,125 @@
+//! The bits of one bitmap block, which are 1 where a block is free (Files-11 On-Disk Structure Level 1, "Storage Bitmap
+//! File"). A run of them is cut at 256, which is as long as a retrieval pointer can tell.
+ghost use Rattle.std.specs.Prelude.{◌≡◌, ◌≢◌, ℕ, ◌+◌, ◌<◌, ◌≤◌, true, false, ◌==◌, MatchOption};
+ghost use Rattle.std.specs.Int.{bit_at};
+ghost use Rattle.f11_dev.specs.Block.{bit, word_sum as sum_of_words};
+ghost use Rattle.f11_bits.specs.Bitmap.{count_below};
+ghost use Rattle.f11_bits.specs.Bits.{bit_below};
+ghost use Rattle.f11_bits.specs.Run.{IsFirstRun, NoneFrom};
+
+use f11_dev::{Block, sum_words};
+
+/// How many bits a block has.
+pub const BITS: u32 = 4096;
+
+/// How many blocks the longest run has.
+pub const LONGEST: u32 = 256;
+
+/// The number of 1 bits of a block.
+pub fn count_free(block: &Block) -> u32
+    ensures { result ≡ count_below (bit block.now) 4096 }
+{
+    count_free_below(block, BITS)
+}
+
+/// The first run of 1 bits at or above bit `from`, at most 256 and at most `most` of them: its first bit and
+/// their number. `None` where no bit is 1 there.
+pub fn first_run(block: &Block, from: u32, most: u32) -> Option<(u32, u32)>
+    requires { 0 < most }
+    ensures run { MatchOption result (NoneFrom (bit_below block.now 4096) from)
+        (λ run. IsFirstRun (bit_below block.now 4096) from most run.0 run.1) }
+{
+    first_run_below(block, from, most, BITS)
+}
+
+/// The sum of the first 255 words, modulo 65536.
+pub fn word_sum(block: &Block) -> u16
+    ensures { result ≡ sum_of_words block.now 255 }
+{
+    sum_words(block, 255)
+}
+
+/// The number of 1 bits below bit `end`.
+pub fn count_free_below(block: &Block, end: u32) -> u32
+    requires { end ≤ 4096 }
+    ensures { result ≡ count_below (bit block.now) end }
+{
+    let mut count = 0;
+    for k in 0..end {
+        if is_set(block, k) {
+            count += 1;
+        }
+    }
+    count
+}
+
+/// [`first_run`] among the bits below bit `end`.
+pub fn first_run_below(block: &Block, from: u32, most: u32, end: u32) -> Option<(u32, u32)>
+    requires some { 0 < most }
+    requires within { end ≤ 4096 }
+    ensures run { MatchOption result (NoneFrom (bit_below block.now end) from)
+        (λ run. IsFirstRun (bit_below block.now end) from most run.0 run.1) }
+{
+    for k in from..end {
+        if is_set(block, k) {
+            return Some((k, run_length(block, k, most.min(LONGEST), end)));
+        }
+    }
+    None
+}
+
+/// How many bits from bit `start` on are 1, at most `most` of them and below bit `end`.
+pub fn run_length(block: &Block, start: u32, most: u32, end: u32) -> u32
+    requires { end ≤ 4096 }
+    ensures most { result ≤ most }
+    ensures each { (k : ℕ) → start ≤ k → k < start + result → bit_below block.now end k ≡ true }
+    ensures ended { result < most → bit_below block.now end (start + result) ≡ false }
+{
+    let stop = end.min(start.saturating_add(most));
+    for k in start..stop {
+        if !is_set(block, k) {
+            return k - start;
+        }
+    }
+    stop.saturating_sub(start)
+}
+
+/// Makes `count` bits from bit `start` on 1, or 0, and leaves the others.
+pub fn set_bits(block: &mut Block, start: u32, count: u32, free: bool)
+    requires { start + count ≤ 4096 }
+    ensures inside { (k : ℕ) → start ≤ k → k < start + count → bit block.new k ≡ free }
+    ensures before { (k : ℕ) → k < start → bit block.new k ≡ bit block.old k }
+    ensures after { (k : ℕ) → start + count ≤ k → k < 4096 → bit block.new k ≡ bit block.old k }
+{
+    for k in start..start + count {
+        set_bit(block, k, free);
+    }
+}
+
+/// Makes bit `k` 1, or 0, and leaves the others.
+fn set_bit(block: &mut Block, k: u32, free: bool)
+    requires { k < 4096 }
+    ensures set { bit block.new k ≡ free }
+    ensures others { (j : ℕ) → j < 4096 → j ≢ k → bit block.new j ≡ bit block.old j }
+{
+    let at = (k / 8) as usize;
+    block[at] = with_bit(block[at], k % 8, free);
+}
+
+/// A byte with its bit `k` 1, or 0.
+fn with_bit(byte: u8, k: u32, value: bool) -> u8
+    requires { k < 8 }
+    ensures set { (bit_at result k == 1) ≡ value }
+    ensures others { (j : ℕ) → j < 8 → j ≢ k → bit_at result j ≡ bit_at byte j }
+{
+    let mask = 1u8 << k;
+    if value { byte | mask } else { byte & !mask }
+}
+
+/// Whether bit `k` is 1.
+fn is_set(block: &Block, k: u32) -> bool
+    requires { k < 4096 }
+    ensures { result ≡ bit block.now k }
+{
+    block[(k / 8) as usize] >> (k % 8) & 1 == 1
+}

@@ -1,0 +1,370 @@
+//! The bitmap of a volume's free blocks.
+ghost use Rattle.std.specs.Prelude.{◌≡◌, ◌+◌, ◌*◌, ◌-◌, ◌/◌, ◌^◌, ◌<◌, ◌≤◌, ℕ, true, false, length, take, min, slice_index, slice_set, IsTrue, IfOk, OnOk, OnErr, IfSome, IfNone};
+ghost use Rattle.f11_dev.specs.Image.{Image};
+ghost use Rattle.f11_dev.specs.Looked.{Looked};
+ghost use Rattle.f11_dev.specs.Went.{Went};
+ghost use Rattle.f11_bits.specs.Bitmap.{IsBitmap, is_free, free_blocks, Marks};
+ghost use Rattle.f11_bits.specs.Changes.{Changing, Taking};
+ghost use Rattle.f11_bits.specs.Parts.{HasBitOf, IsPart, IsFirstPart, IsRest, IsFreeRest};
+ghost use Rattle.f11_bits.specs.Run.{IsFirstRun, IsRunWithin, NoneFrom};
+ghost use Rattle.f11_bits.specs.Storage.{bitmap_of, Keeps};
+ghost use Rattle.f11_bits.specs.Transfers.{blocks_from, blocks_to, blocks_touched};
+
+use crate::bits::{BITS, LONGEST, count_free_below, first_run_below, run_length, set_bits};
+use f11_dev::{BLOCK_SIZE, Block, Device, DeviceFault};
+
+/// The most blocks that a bitmap has (Files-11 On-Disk Structure Level 1, "Storage Bitmap File").
+pub const MAX_PLACES: usize = 126;
+
+/// The bitmap of a volume's free blocks (Files-11 On-Disk Structure Level 1, "Storage Bitmap File"): where its blocks
+/// are, and how many blocks of the volume are free.
+///
+/// After a call has answered `DeviceFault` nothing is known of the number of free blocks that it keeps.
+#[derive(Drop)]
+pub struct Storage {
+    /// The LBNs of the bitmap's blocks, in order; the first `used` of them.
+    places: [u32; MAX_PLACES],
+    used: usize,
+    /// The number of blocks of the volume.
+    size: u32,
+    /// The number of free ones.
+    free: u32,
+}
+
+/// A run of free blocks, in two parts: the second has its bits in the next bitmap block.
+#[derive(Clone, Copy)]
+struct Run {
+    lbn: u32,
+    here: u32,
+    beyond: u32,
+}
+
+impl Storage {
+    /// Counts the free blocks of a volume of `size` blocks whose bitmap blocks are at `places`, in order. It reads each of
+    /// them once at most, and takes no memory.
+    ///
+    /// # Errors
+    ///
+    /// `DeviceFault` where a transfer failed.
+    pub fn load<D: Device>(
+        device: &mut D,
+        places: &[u32],
+        size: u32,
+    ) -> Result<Storage, DeviceFault>
+        requires bitmap { IsBitmap (record { places = places.now; size = size }) (length (D.disk device.old).image) }
+        ensures bitmap { IfOk result (λ storage. bitmap_of storage ≡ record { places = places.now; size = size }) }
+        ensures keeps { IfOk result (λ storage. IsTrue (D.disk device.old).honest → Keeps storage (D.disk device.new).image) }
+        ensures transfers { OnOk result (Looked (D.disk device.old) (D.disk device.new) (length places.now) 0) }
+        ensures failures { OnErr result (Looked (D.disk device.old) (D.disk device.new) (length places.now) 1) }
+    {
+        let free = count_blocks(device, places, size)?;
+        Ok(Storage {
+            places: kept(places),
+            used: places.len(),
+            size,
+            free,
+        })
+    }
+
+    /// The number of free blocks.
+    pub fn free(&self) -> u32
+        ensures { (image : Image) → Keeps self.now image → result ≡ free_blocks image (bitmap_of self.now) }
+    {
+        self.free
+    }
+
+    /// Gives `count` used blocks from `lbn` on back: they are free after it. It reads and writes each bitmap block that
+    /// has their bits once.
+    ///
+    /// # Errors
+    ///
+    /// `DeviceFault` where a transfer failed.
+    pub fn give<D: Device>(
+        &mut self,
+        device: &mut D,
+        lbn: u32,
+        count: u32,
+    ) -> Result<(), DeviceFault>
+        requires bitmap { IsBitmap (bitmap_of self.old) (length (D.disk device.old).image) }
+        requires keeps { IsTrue (D.disk device.old).honest → Keeps self.old (D.disk device.old).image }
+        requires some { 0 < count }
+        requires within { lbn + count ≤ (bitmap_of self.old).size }
+        requires used { IsTrue (D.disk device.old).honest → (k : ℕ) → lbn ≤ k → k < lbn + count
+            → is_free (D.disk device.old).image (bitmap_of self.old) k ≡ false }
+        ensures same { bitmap_of self.new ≡ bitmap_of self.old }
+        ensures keeps { OnOk result (IsTrue (D.disk device.old).honest → Keeps self.new (D.disk device.new).image) }
+        ensures gives { OnOk result (IsTrue (D.disk device.old).honest
+            → Marks true (bitmap_of self.old) lbn count (D.disk device.old).image (D.disk device.new).image) }
+        ensures transfers { OnOk result (Went (Changing (D.disk device.old).honest true (bitmap_of self.old) lbn count (D.disk device.old).image)
+            (D.disk device.old) (D.disk device.new) (2 * blocks_touched lbn count) 0) }
+        ensures failures { OnErr result (Went (Changing (D.disk device.old).honest true (bitmap_of self.old) lbn count (D.disk device.old).image)
+            (D.disk device.old) (D.disk device.new) (2 * blocks_touched lbn count) 1) }
+    {
+        let end = lbn + count;
+        for index in lbn / BITS..end.div_ceil(BITS) {
+            let start = lbn.max(index * BITS);
+            let stop = end.min((index + 1) * BITS);
+            self.free_part(device, start, stop - start)?;
+        }
+        self.free = self.free.saturating_add(count);
+        Ok(())
+    }
+
+    /// Takes the first run of free blocks at or above `from`, at most 256 and at most `most` of them: its first block and
+    /// their number, which are used after it. `None` where no block is free there.
+    ///
+    /// It reads each bitmap block from that of `from` to that of the block after the run, and where there is none to the
+    /// last, once at most, and writes each block that changes once.
+    ///
+    /// # Errors
+    ///
+    /// `DeviceFault` where a transfer failed.
+    pub fn take<D: Device>(
+        &mut self,
+        device: &mut D,
+        from: u32,
+        most: u32,
+    ) -> Result<Option<(u32, u32)>, DeviceFault>
+        requires bitmap { IsBitmap (bitmap_of self.old) (length (D.disk device.old).image) }
+        requires keeps { IsTrue (D.disk device.old).honest → Keeps self.old (D.disk device.old).image }
+        requires some { 0 < most }
+        ensures same { bitmap_of self.new ≡ bitmap_of self.old }
+        ensures keeps { OnOk result (IsTrue (D.disk device.old).honest → Keeps self.new (D.disk device.new).image) }
+        ensures none { IfOk result (λ answer. IfNone answer (IsTrue (D.disk device.old).honest
+            → NoneFrom (is_free (D.disk device.old).image (bitmap_of self.old)) from)) }
+        ensures run { IfOk result (λ answer. IfSome answer (λ run. IsTrue (D.disk device.old).honest
+            → IsFirstRun (is_free (D.disk device.old).image (bitmap_of self.old)) from most run.0 run.1)) }
+        ensures within { IfOk result (λ answer. IfSome answer (λ run. IsRunWithin (bitmap_of self.old).size from most run.0 run.1)) }
+        ensures takes { IfOk result (λ answer. IfSome answer (λ run. IsTrue (D.disk device.old).honest
+            → Marks false (bitmap_of self.old) run.0 run.1 (D.disk device.old).image (D.disk device.new).image)) }
+        ensures transfers_none { IfOk result (λ answer. IfNone answer
+            (Looked (D.disk device.old) (D.disk device.new) (blocks_from (bitmap_of self.old) from) 0)) }
+        ensures transfers { IfOk result (λ answer. IfSome answer (λ run.
+            Went (Changing (D.disk device.old).honest false (bitmap_of self.old) run.0 run.1 (D.disk device.old).image)
+            (D.disk device.old) (D.disk device.new) (blocks_to (bitmap_of self.old) from (run.0 + run.1) + blocks_touched run.0 run.1) 0)) }
+        ensures failures { OnErr result (Went (Taking (D.disk device.old).honest (bitmap_of self.old) from most (D.disk device.old).image)
+            (D.disk device.old) (D.disk device.new) (blocks_from (bitmap_of self.old) from + 2) 1) }
+    {
+        let mut block = [0; BLOCK_SIZE];
+        let mut next = [0; BLOCK_SIZE];
+        let Some(run) = self.find_run(device, from, most, &mut block, &mut next)? else {
+            return Ok(None);
+        };
+        self.mark_used(device, run, &mut block, &mut next)?;
+        let count = run.here + run.beyond;
+        self.free = self.free.saturating_sub(count);
+        Ok(Some((run.lbn, count)))
+    }
+
+    /// The first run of free blocks, and the bitmap blocks that have its bits.
+    fn find_run<D: Device>(
+        &self,
+        device: &mut D,
+        from: u32,
+        most: u32,
+        block: &mut Block,
+        next: &mut Block,
+    ) -> Result<Option<Run>, DeviceFault>
+        requires bitmap { IsBitmap (bitmap_of self.now) (length (D.disk device.old).image) }
+        requires some { 0 < most }
+        ensures none { IfOk result (λ answer. IfNone answer (IsTrue (D.disk device.old).honest
+            → NoneFrom (is_free (D.disk device.old).image (bitmap_of self.now)) from)) }
+        ensures here { IfOk result (λ answer. IfSome answer (λ run. IsPart (bitmap_of self.now).size from 256 run.lbn run.here)) }
+        ensures beyond { IfOk result (λ answer. IfSome answer (λ run. IsRest (bitmap_of self.now).size (256 - run.here) (run.lbn + run.here) run.beyond)) }
+        ensures run { IfOk result (λ answer. IfSome answer (λ run. IsTrue (D.disk device.old).honest
+            → IsFirstRun (is_free (D.disk device.old).image (bitmap_of self.now)) from most run.lbn (run.here + run.beyond))) }
+        ensures within { IfOk result (λ answer. IfSome answer (λ run. IsRunWithin (bitmap_of self.now).size from most run.lbn (run.here + run.beyond))) }
+        ensures block { IfOk result (λ answer. IfSome answer (λ run. IsTrue (D.disk device.old).honest
+            → HasBitOf (D.disk device.new).image (bitmap_of self.now) run.lbn block.new)) }
+        ensures next { IfOk result (λ answer. IfSome answer (λ run. IsTrue (D.disk device.old).honest → 0 < run.beyond
+            → HasBitOf (D.disk device.new).image (bitmap_of self.now) (run.lbn + run.here) next.new)) }
+        ensures transfers_none { IfOk result (λ answer. IfNone answer
+            (Looked (D.disk device.old) (D.disk device.new) (blocks_from (bitmap_of self.now) from) 0)) }
+        ensures transfers { IfOk result (λ answer. IfSome answer (λ run.
+            Looked (D.disk device.old) (D.disk device.new) (blocks_to (bitmap_of self.now) from (run.lbn + run.here + run.beyond)) 0)) }
+        ensures failures { OnErr result (Looked (D.disk device.old) (D.disk device.new) (blocks_from (bitmap_of self.now) from) 1) }
+    {
+        let most = most.min(LONGEST);
+        let Some((lbn, here)) = self.find_part(device, from, most, block)? else {
+            return Ok(None);
+        };
+        let beyond = self.length_beyond(device, lbn + here, most - here, next)?;
+        Ok(Some(Run { lbn, here, beyond }))
+    }
+
+    /// The first run of free blocks as far as one bitmap block has it, and that bitmap block.
+    fn find_part<D: Device>(
+        &self,
+        device: &mut D,
+        from: u32,
+        most: u32,
+        block: &mut Block,
+    ) -> Result<Option<(u32, u32)>, DeviceFault>
+        requires bitmap { IsBitmap (bitmap_of self.now) (length (D.disk device.old).image) }
+        requires some { 0 < most }
+        requires few { most ≤ 256 }
+        ensures none { IfOk result (λ answer. IfNone answer (IsTrue (D.disk device.old).honest
+            → NoneFrom (is_free (D.disk device.old).image (bitmap_of self.now)) from)) }
+        ensures part { IfOk result (λ answer. IfSome answer (λ part. IsPart (bitmap_of self.now).size from most part.0 part.1)) }
+        ensures first { IfOk result (λ answer. IfSome answer (λ part. IsTrue (D.disk device.old).honest
+            → IsFirstPart (is_free (D.disk device.old).image (bitmap_of self.now)) from most part.0 part.1)) }
+        ensures block { IfOk result (λ answer. IfSome answer (λ part. IsTrue (D.disk device.old).honest
+            → HasBitOf (D.disk device.old).image (bitmap_of self.now) part.0 block.new)) }
+        ensures transfers_none { IfOk result (λ answer. IfNone answer
+            (Looked (D.disk device.old) (D.disk device.new) (blocks_from (bitmap_of self.now) from) 0)) }
+        ensures transfers { IfOk result (λ answer. IfSome answer (λ part.
+            Looked (D.disk device.old) (D.disk device.new) (part.0 / 4096 - from / 4096 + 1) 0)) }
+        ensures failures { OnErr result (Looked (D.disk device.old) (D.disk device.new) (blocks_from (bitmap_of self.now) from) 1) }
+    {
+        for index in from / BITS..self.size.div_ceil(BITS) {
+            device.read(self.place(index), block)?;
+            let start = from.saturating_sub(index * BITS);
+            let end = bits_in(self.size, index);
+            if let Some((at, count)) = first_run_below(block, start, most, end) {
+                return Ok(Some((index * BITS + at, count)));
+            }
+        }
+        Ok(None)
+    }
+
+    /// How many blocks from `end` on are free, at most `most`, as far as the bitmap block that begins there has them, and
+    /// that bitmap block. None where no bitmap block begins there.
+    fn length_beyond<D: Device>(
+        &self,
+        device: &mut D,
+        end: u32,
+        most: u32,
+        next: &mut Block,
+    ) -> Result<u32, DeviceFault>
+        requires bitmap { IsBitmap (bitmap_of self.now) (length (D.disk device.old).image) }
+        requires some { 0 < end }
+        requires within { end ≤ (bitmap_of self.now).size }
+        requires few { most ≤ 256 }
+        ensures rest { IfOk result (λ count. IsRest (bitmap_of self.now).size most end count) }
+        ensures free { IfOk result (λ count. IsTrue (D.disk device.old).honest
+            → IsFreeRest (is_free (D.disk device.old).image (bitmap_of self.now)) most end count) }
+        ensures next { IfOk result (λ count. IsTrue (D.disk device.old).honest → 0 < count
+            → HasBitOf (D.disk device.old).image (bitmap_of self.now) end next.new) }
+        ensures transfers { OnOk result (Looked (D.disk device.old) (D.disk device.new) (blocks_to (bitmap_of self.now) (end + 4095) end) 0) }
+        ensures failures { OnErr result (Looked (D.disk device.old) (D.disk device.new) (blocks_to (bitmap_of self.now) (end + 4095) end) 1) }
+    {
+        if end % BITS != 0 || most == 0 || end >= self.size {
+            return Ok(0);
+        }
+        let index = end / BITS;
+        device.read(self.place(index), next)?;
+        Ok(run_length(next, 0, most, bits_in(self.size, index)))
+    }
+
+    /// Marks a run of blocks used, whose bits are in these bitmap blocks.
+    fn mark_used<D: Device>(
+        &self,
+        device: &mut D,
+        run: Run,
+        block: &mut Block,
+        next: &mut Block,
+    ) -> Result<(), DeviceFault>
+        requires bitmap { IsBitmap (bitmap_of self.now) (length (D.disk device.old).image) }
+        requires here { IsPart (bitmap_of self.now).size 0 256 run.lbn run.here }
+        requires beyond { IsRest (bitmap_of self.now).size (256 - run.here) (run.lbn + run.here) run.beyond }
+        requires block { IsTrue (D.disk device.old).honest → HasBitOf (D.disk device.old).image (bitmap_of self.now) run.lbn block.old }
+        requires next { IsTrue (D.disk device.old).honest → 0 < run.beyond
+            → HasBitOf (D.disk device.old).image (bitmap_of self.now) (run.lbn + run.here) next.old }
+        ensures marks { OnOk result (IsTrue (D.disk device.old).honest
+            → Marks false (bitmap_of self.now) run.lbn (run.here + run.beyond) (D.disk device.old).image (D.disk device.new).image) }
+        ensures transfers { OnOk result (Went (Changing (D.disk device.old).honest false (bitmap_of self.now) run.lbn (run.here + run.beyond) (D.disk device.old).image)
+            (D.disk device.old) (D.disk device.new) (blocks_touched run.lbn (run.here + run.beyond)) 0) }
+        ensures failures { OnErr result (Went (Changing (D.disk device.old).honest false (bitmap_of self.now) run.lbn (run.here + run.beyond) (D.disk device.old).image)
+            (D.disk device.old) (D.disk device.new) 2 1) }
+    {
+        self.write_bits(device, run.lbn, run.here, false, block)?;
+        if run.beyond > 0 {
+            self.write_bits(device, run.lbn + run.here, run.beyond, false, next)?;
+        }
+        Ok(())
+    }
+
+    /// Marks blocks free whose bits are in one bitmap block.
+    fn free_part<D: Device>(&self, device: &mut D, lbn: u32, count: u32) -> Result<(), DeviceFault>
+        requires bitmap { IsBitmap (bitmap_of self.now) (length (D.disk device.old).image) }
+        requires part { IsPart (bitmap_of self.now).size 0 4096 lbn count }
+        ensures marks { OnOk result (IsTrue (D.disk device.old).honest
+            → Marks true (bitmap_of self.now) lbn count (D.disk device.old).image (D.disk device.new).image) }
+        ensures transfers { OnOk result (Went (Changing (D.disk device.old).honest true (bitmap_of self.now) lbn count (D.disk device.old).image)
+            (D.disk device.old) (D.disk device.new) 2 0) }
+        ensures failures { OnErr result (Went (Changing (D.disk device.old).honest true (bitmap_of self.now) lbn count (D.disk device.old).image)
+            (D.disk device.old) (D.disk device.new) 2 1) }
+    {
+        let mut block = [0; BLOCK_SIZE];
+        device.read(self.place(lbn / BITS), &mut block)?;
+        self.write_bits(device, lbn, count, true, &mut block)
+    }
+
+    /// Marks blocks free, or used, whose bits are in this bitmap block, and writes it.
+    fn write_bits<D: Device>(
+        &self,
+        device: &mut D,
+        lbn: u32,
+        count: u32,
+        free: bool,
+        block: &mut Block,
+    ) -> Result<(), DeviceFault>
+        requires bitmap { IsBitmap (bitmap_of self.now) (length (D.disk device.old).image) }
+        requires part { IsPart (bitmap_of self.now).size 0 4096 lbn count }
+        requires block { IsTrue (D.disk device.old).honest → HasBitOf (D.disk device.old).image (bitmap_of self.now) lbn block.old }
+        ensures writes { OnOk result ((D.disk device.new).image
+            ≡ slice_set (D.disk device.old).image (slice_index (bitmap_of self.now).places (lbn / 4096)) block.new) }
+        ensures marks { OnOk result (IsTrue (D.disk device.old).honest
+            → Marks free (bitmap_of self.now) lbn count (D.disk device.old).image (D.disk device.new).image) }
+        ensures transfers { OnOk result (Went (Changing (D.disk device.old).honest free (bitmap_of self.now) lbn count (D.disk device.old).image)
+            (D.disk device.old) (D.disk device.new) 1 0) }
+        ensures failures { OnErr result (Went (Changing (D.disk device.old).honest free (bitmap_of self.now) lbn count (D.disk device.old).image)
+            (D.disk device.old) (D.disk device.new) 1 1) }
+    {
+        set_bits(block, lbn % BITS, count, free);
+        device.write(self.place(lbn / BITS), block)
+    }
+
+    /// The LBN of a bitmap block.
+    fn place(&self, index: u32) -> u32
+        requires { index < length (bitmap_of self.now).places }
+        ensures { result ≡ slice_index (bitmap_of self.now).places index }
+    {
+        self.places[index as usize]
+    }
+}
+
+/// The number of free blocks of a volume of this size whose bitmap blocks are at these places.
+fn count_blocks<D: Device>(device: &mut D, places: &[u32], size: u32) -> Result<u32, DeviceFault>
+    requires bitmap { IsBitmap (record { places = places.now; size = size }) (length (D.disk device.old).image) }
+    ensures free { IfOk result (λ count. IsTrue (D.disk device.old).honest
+        → count ≡ free_blocks (D.disk device.old).image (record { places = places.now; size = size })) }
+    ensures transfers { OnOk result (Looked (D.disk device.old) (D.disk device.new) (length places.now) 0) }
+    ensures failures { OnErr result (Looked (D.disk device.old) (D.disk device.new) (length places.now) 1) }
+{
+    let mut block = [0; BLOCK_SIZE];
+    let mut count = 0;
+    for index in 0..size.div_ceil(BITS) {
+        device.read(places[index as usize], &mut block)?;
+        count += count_free_below(&block, bits_in(size, index));
+    }
+    Ok(count)
+}
+
+/// Room for the most places, with these at the front.
+fn kept(places: &[u32]) -> [u32; MAX_PLACES]
+    requires { length places.now ≤ 126 }
+    ensures { take (length places.now) result ≡ places.now }
+{
+    let mut kept = [0; MAX_PLACES];
+    kept[..places.len()].copy_from_slice(places);
+    kept
+}
+
+/// How many bits of a bitmap block are those of blocks of a volume of this size.
+fn bits_in(size: u32, index: u32) -> u32
+    requires { 4096 * index < 2 ^ 32 }
+    ensures { result ≡ min (size - 4096 * index) 4096 }
+{
+    size.saturating_sub(index * BITS).min(BITS)
+}
