@@ -1,18 +1,19 @@
 -- Facts about blocks and their words.
 use Rattle.std.proofs.Common.{◌≡◌, ◌≢◌, ◌⊎◌, inl, ⊎_elim, ℕ, zero, suc, ◌+◌, ◌*◌, ◌/◌, ◌%◌, ◌<◌, ◌≤◌, List, take, drop, [], ◌∷◌, length, refl, sym, ◌∙◌, ap, arith, add-one, append_assoc}
 use Rattle.std.proofs.Math.ListN.{set}
+use Rattle.std.proofs.Math.Nat.{mod-add-mod}
 use Rattle.std.specs.Prelude.{slice_index}
 use Rattle.std.proofs.lemmas.List.{length-take, length-set, get_or-set_same, get_or-set_other}
 use Rattle.std.proofs.lemmas.List.Edits.{sets-eq, paste_all}
 use Rattle.std.proofs.lemmas.Slice.{put_mid-paste}
 use Rattle.std.proofs.Math.ListN.{drop_of_length-le}
 use borrow.Rule.Slice.PartMut.{put_mid, mid_of}
-use Rattle.f11_dev.specs.Block.{word, with_word, word_sum}
+use Rattle.f11_dev.specs.Block.{word, with_word, word_total, word_sum}
 
 -- a sum with one word more
 pub word_sum-more : (b : List ℕ) (n sum w : ℕ) → sum ≡ word_sum b n → w ≡ word b (2 * n) → (sum + w) % 65536 ≡ word_sum b (n + 1)
-unfolding word_sum
-word_sum-more b n sum w so_far is = rw (add-one, so_far, is) refl
+unfolding word_sum word_total
+word_sum-more b n sum w so_far is = rw (add-one, so_far, is) (mod-add-mod (word_total b n) 65536 (word b (2 * n)))
 
 -- two bytes put in the place of two are a word
 pub with_word-put_mid : (b buf : List ℕ) (at k w : ℕ) → at + 2 ≤ length b → k ≡ 2 → w < 65536
@@ -46,10 +47,14 @@ word-with_word_apart b at w i apart =
     omega (arith, low, high)
 
 -- the sum of the words before the one that was put stays
-pub word_sum-with_word : (b : List ℕ) (at w n : ℕ) → 2 * n ≤ at → word_sum (with_word b at w) n ≡ word_sum b n
-unfolding word_sum
-word_sum-with_word b at w zero before = refl
-word_sum-with_word b at w (suc n) before =
-    let so_far = word_sum-with_word b at w n (omega arith) in
+word_total-with_word : (b : List ℕ) (at w n : ℕ) → 2 * n ≤ at → word_total (with_word b at w) n ≡ word_total b n
+unfolding word_total
+word_total-with_word b at w zero before = refl
+word_total-with_word b at w (suc n) before =
+    let so_far = word_total-with_word b at w n (omega arith) in
     let last = word-with_word_apart b at w (2 * n) (inl (omega arith)) in
     rw (so_far, last) refl
+
+pub word_sum-with_word : (b : List ℕ) (at w n : ℕ) → 2 * n ≤ at → word_sum (with_word b at w) n ≡ word_sum b n
+unfolding word_sum
+word_sum-with_word b at w n before = ap (λ (total : ℕ). total % 65536) (word_total-with_word b at w n before)

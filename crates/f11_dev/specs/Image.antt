@@ -1,4 +1,5 @@
--- An image: the blocks of a device, in the order of their logical block numbers (LBN), from 0.
+-- An image: the blocks of a device, in the order of their logical block numbers (LBN), from 0 (Files-11
+-- On-Disk Structure Level 1, "Medium").
 use Rattle.std.specs.Prelude.{◌≡◌, ℕ, ◌^◌, ◌<◌, List, length, replicate, Some}
 use Rattle.std.specs.List.{slice_get}
 use Rattle.f11_dev.specs.Block.{IsBlock, zero_block}

@@ -1,8 +1,8 @@
--- What calls did to a disk that they only read.
+-- What calls did to a disk that they only read (profile).
 use Rattle.std.specs.Prelude.{◌≡◌, ℕ, ◌+◌, ◌<◌, ◌≤◌}
 use Rattle.f11_dev.specs.Disk.{Disk}
 
--- No block changed. At most so many transfers were made, exactly so many failed, and none followed a failed one.
+-- No block changed. At most so many transfers were made, exactly so many failed, and none followed the last that failed.
 pub record Looked (old new : Disk) (most faults : ℕ) : Type 0 where
   pub image : new.image ≡ old.image
   pub history : new.history ≡ old.history

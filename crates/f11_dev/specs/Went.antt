@@ -1,4 +1,4 @@
--- What calls did to a disk that they may have written.
+-- What calls did to a disk that they may have written (profile).
 use Rattle.std.specs.Prelude.{◌≡◌, ℕ, ◌+◌, ◌<◌, ◌≤◌, List, [], ◌∷◌, ◌++◌, All}
 use Rattle.f11_dev.specs.Image.{Image}
 use Rattle.f11_dev.specs.Disk.{Disk}
@@ -9,7 +9,7 @@ newest [] image = image
 newest (last ∷ earlier) image = last
 
 -- P holds of each image that stood meanwhile: of `since`, the newest first, whose newest stands at the end.
--- At most so many transfers were made, exactly so many failed, and none followed a failed one.
+-- At most so many transfers were made, exactly so many failed, and none followed the last that failed.
 pub record Went (P : Image → Type 0) (old new : Disk) (most faults : ℕ) : Type 0 where
   pub since : List Image
   pub history : new.history ≡ since ++ old.history

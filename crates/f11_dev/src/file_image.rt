@@ -1,5 +1,5 @@
 //! A device in a file.
-ghost use Rattle.std.specs.Prelude.{◌≡◌, ◌≤◌, ◌<◌, ◌^◌, false, IfOk, length};
+ghost use Rattle.std.specs.Prelude.{◌≡◌, ◌*◌, min, ◌≤◌, ◌<◌, ◌^◌, false, IfOk, length};
 ghost use Rattle.f11_dev.specs.Image.{IsImage, zero_image};
 ghost use Rattle.f11_dev.specs.Disk.{fresh};
 ghost use Rattle.f11_dev.specs.Written.{written_image};
@@ -36,7 +36,7 @@ impl From<io::Error> for CannotOpen {
 }
 
 /// A device in a file: block `n` is the 512 bytes from byte `512 * n` on. Each transfer is one read or write
-/// of the file at that place, and nothing is kept in memory.
+/// of the file at that place, repeated only where the system did less, and nothing is kept in memory.
 ///
 /// To contracts it isn't honest: that the file gives back what was last written, and that nobody else writes
 /// it, is a premise.
@@ -75,8 +75,7 @@ impl<F: FileExt + OpenFile + Drop> FileImage<F> {
         path: &str,
         blocks: u32,
     ) -> Result<FileImage<F>, CannotOpen>
-        ensures { IfOk result (λ image. (file_disk image ≡ fresh false (zero_image (length (file_disk image).image)))
-            × (length (file_disk image).image ≤ MAX_BLOCKS)) }
+        ensures { IfOk result (λ image. file_disk image ≡ fresh false (zero_image (min blocks MAX_BLOCKS))) }
     {
         let file = OpenOptions::new()
             .read(true)
@@ -84,8 +83,7 @@ impl<F: FileExt + OpenFile + Drop> FileImage<F> {
             .create_new(true)
             .open(rt, path)?;
         file.set_len(byte_of(blocks))?;
-        let blocks = blocks_of(&file)?;
-        Ok(FileImage::of(file, blocks))
+        Ok(FileImage::of(file, blocks.min(MAX_BLOCKS)))
     }
 
     fn of(file: F, blocks: u32) -> FileImage<F>
@@ -126,7 +124,9 @@ impl<F: FileExt> Device for FileImage<F> {
 }
 
 /// The byte of a file at which a block begins.
-fn byte_of(lbn: u32) -> u64 {
+fn byte_of(lbn: u32) -> u64
+    ensures { result ≡ 512 * lbn }
+{
     u64::from(lbn) * BLOCK_SIZE as u64
 }
 

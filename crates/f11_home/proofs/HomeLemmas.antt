@@ -6,7 +6,7 @@ use Rattle.std.proofs.lemmas.Bool.Decides.{nat_tests}
 use Rattle.std.proofs.lemmas.Option.{slice_get_past, slice_get_within}
 use Rattle.f11_dev.specs.Image.{Image}
 use Rattle.f11_home.specs.HomeBlock.{IsHomeBlock}
-use Rattle.f11_home.specs.Home.{candidate, candidates, IsCandidate, NoneBelow, HasNoHome}
+use Rattle.f11_home.specs.Home.{HomeFields, candidate, candidates, fields_of, IsCandidate, IsHomeOf, NoneBelow, HasNoHome}
 
 -- the candidates that are counted are below the end
 pub candidate-below : (k n : ℕ) → k < candidates n → candidate k < n
@@ -44,3 +44,21 @@ HasNoHome-all image none k b is =
       | inl below ↦ none k b below is
       | inr past ↦ absurd (omega (arith, candidate-past k (length image) past))
     ]
+
+-- an image has one home block at most
+pub home-unique : (image : Image) (a b : HomeFields) → IsHomeOf image a → IsHomeOf image b → a ≡ b
+home-unique image a b one other =
+    let place : one.place ≡ other.place = elim (cases_lt one.place other.place) [
+      | inl before ↦ absurd (other.first one.place one.block before one.found)
+      | inr after ↦ elim (cases_lt other.place one.place) [
+        | inl behind ↦ absurd (one.first other.place other.block behind other.found)
+        | inr same ↦ omega arith
+      ]
+    ] in
+    let both : Some one.block ≡ Some other.block = sym one.found.stands ∙ ap (λ (k : ℕ). slice_get image (candidate k)) place ∙ other.found.stands in
+    let block : one.block ≡ other.block = cc in
+    one.fields ∙ ap (λ (k : ℕ). fields_of (candidate k) one.block) place ∙ ap (λ (c : List ℕ). fields_of (candidate other.place) c) block ∙ sym other.fields
+
+-- an image that has a home block isn't one that has none
+pub home_or_none : (image : Image) (home : HomeFields) → IsHomeOf image home → ¬ HasNoHome image
+home_or_none image home is none = none is.place is.block is.found

@@ -9,7 +9,8 @@ abbrev pub candidate : ℕ → ℕ
 candidate zero = 1
 candidate (suc k) = 256 * suc k
 
--- how many candidates are below the end of a device of so many blocks
+-- how many candidates are below the end of a device of so many blocks: candidate k is below it exactly where k is below
+-- this number (`candidate-below`, `candidate-past`)
 abbrev pub candidates : ℕ → ℕ
 candidates blocks = if nat_le blocks 1 then 0 else (blocks + 255) / 256
 

@@ -1,3 +1,4 @@
+-- What a fault of looking for the home block says of the transfers (profile).
 use Rattle.std.specs.Prelude.{ℕ}
 use Rattle.f11_home.specs.declared.home.HomeFault.{HomeFault}
 use Rattle.f11_home.specs.declared.home.HomeFault.TheVariants.{NoHome, DeviceFault}

@@ -18,7 +18,7 @@ use Rattle.f11_store.specs.declared.requests.Reply.TheVariants as reply
 use Rattle.f11_store.specs.declared.requests.Request.TheVariants as request
 use Rattle.f11_store.specs.File.{File, no_file, is_marked, stated_end, zero_block, zero_blocks}
 use Rattle.f11_store.specs.Store.{Store, file_of, named, is_held, bars_writing}
-use Rattle.f11_store.specs.Directory.{is_directory, record_in, record_at, entry_count, entries_of, record_id, is_empty, has_name, is_entered, empty_place, needs_block, word_bytes, long_bytes, record_bytes, empty_record, with_record, with_end}
+use Rattle.f11_store.specs.Directory.{is_directory, record_in, record_at, entry_count, entries_of, record_id, record_name, is_empty, has_name, is_entered, empty_place, needs_block, word_bytes, long_bytes, record_bytes, empty_record, with_record, with_end}
 use Rattle.f11_store.specs.Causes.{Cause, ◌⇐◌, first_of, is_bad, is_missing, lacks, growth_causes_if, first_refusal}
 use Rattle.f11_store.specs.Changes.{with_change, with_entry, with_end_after, appended, lengthened, extended, EntersAtEnd, EntersAt}
 use Rattle.f11_store.specs.Step.{Step, MayRefuse}
@@ -77,7 +77,7 @@ removed_causes false true c rest h = absurd (cc)
 removed_causes false false true rest h = absurd (cc)
 
 -- where the name stands, Find isn't refused for want of it
-found_causes :
+pub found_causes :
     (a b c d e f i : Bool) (x : Refusal) → i ≡ true →
     first_of ((BadArgument ⇐ a) ∷ (SystemFile ⇐ b) ∷ (NoSuchFile ⇐ c) ∷ (Marked ⇐ d) ∷ (NoPrivilege ⇐ e)
     ∷ (NotDirectory ⇐ f) ∷ (NoSuchEntry ⇐ not i) ∷ []) ≡ Some x → x ≢ NoSuchEntry
@@ -90,7 +90,7 @@ found_causes false false false false true f true x k h = λ n. cc
 found_causes false false false false false true true x k h = λ n. cc
 found_causes false false false false false false true x k h = absurd (cc)
 
-refused_otherwise :
+pub refused_otherwise :
     (o : Option Refusal) (d : FileId) (name : List ℕ) (e : Refusal) → ((x : Refusal) → o ≡ Some x → x ≢ NoSuchEntry) →
     MayRefuse o (request.Find d name) e → e ≢ NoSuchEntry
 refused_otherwise None d name e h k = absurd k
@@ -101,7 +101,7 @@ word_read : (n : ℕ) → n % 256 + 256 * (n / 256) ≡ n
 word_read n = omega arith
 
 -- a list of five words
-five_words : (name : List ℕ) → IsFiveWords name →
+pub five_words : (name : List ℕ) → IsFiveWords name →
     name ≡ get_or name 0 0 ∷ get_or name 1 0 ∷ get_or name 2 0 ∷ get_or name 3 0 ∷ get_or name 4 0 ∷ []
 five_words (a ∷ b ∷ c ∷ d ∷ e ∷ []) h = refl
 five_words [] h = absurd (omega (arith, h))
@@ -128,22 +128,31 @@ record_of_five id a b c d e good =
     number_of true c h = absurd (cc)
 
 -- the record of a file has its name
-has_name-record_bytes :
+pub has_name-record_bytes :
     (id : FileId) (name : List ℕ) → is_bad id ≡ false → IsFiveWords name → has_name name (record_bytes id name) ≡ true
 has_name-record_bytes id name good five =
     subst (λ (n : List ℕ). has_name n (record_bytes id n) ≡ true) (sym (five_words name five)) (record_of_five id _ _ _ _ _ good)
 
 -- the record of a file has its identification
-record_id-record_bytes : (id : FileId) (name : List ℕ) → record_id (record_bytes id name) ≡ id
+pub record_id-record_bytes : (id : FileId) (name : List ℕ) → record_id (record_bytes id name) ≡ id
 unfolding record_bytes
 record_id-record_bytes id name = rw (word_read id.number, word_read id.sequence, word_read id.volume) refl
+
+-- and its words
+record_name-five : (id : FileId) (a b c d e : ℕ) → record_name (record_bytes id (a ∷ b ∷ c ∷ d ∷ e ∷ [])) ≡ a ∷ b ∷ c ∷ d ∷ e ∷ []
+unfolding record_bytes
+record_name-five id a b c d e = rw (word_read a, word_read b, word_read c, word_read d, word_read e) refl
+
+pub record_name-record_bytes : (id : FileId) (name : List ℕ) → IsFiveWords name → record_name (record_bytes id name) ≡ name
+record_name-record_bytes id name five =
+    subst (λ (n : List ℕ). record_name (record_bytes id n) ≡ n) (sym (five_words name five)) (record_name-five id _ _ _ _ _)
 
 length-five : (id : FileId) (a b c d e : ℕ) → length (record_bytes id (a ∷ b ∷ c ∷ d ∷ e ∷ [])) ≡ 16
 unfolding record_bytes
 length-five id a b c d e = refl
 
 -- it has 16 bytes
-length-record_bytes : (id : FileId) (name : List ℕ) → IsFiveWords name → length (record_bytes id name) ≡ 16
+pub length-record_bytes : (id : FileId) (name : List ℕ) → IsFiveWords name → length (record_bytes id name) ≡ 16
 length-record_bytes id name five =
     subst (λ (n : List ℕ). length (record_bytes id n) ≡ 16) (sym (five_words name five)) (length-five id _ _ _ _ _)
 
@@ -213,14 +222,14 @@ found_answers s other reader d name id before (Err e) s' after there k =
     k.may_refuse
 
 -- a place in the list is within it
-placed : (p : List ℕ → Bool) (xs : List (List ℕ)) (i : ℕ) → position p xs ≡ Some i → i < length xs
+pub placed : (p : List ℕ → Bool) (xs : List (List ℕ)) (i : ℕ) → position p xs ≡ Some i → i < length xs
 placed p xs i h = by_test (nat_lt (position_or_len p xs) (length xs)) refl h
   where
     by_test : (b : Bool) → nat_lt (position_or_len p xs) (length xs) ≡ b → (if b then Some (position_or_len p xs) else None) ≡ Some i → i < length xs
     by_test true t e = let same : position_or_len p xs ≡ i = cc in subst (λ (n : ℕ). n < length xs) same (ltb-true _ _ t)
     by_test false t e = absurd (cc)
 
-length-entries_of : (f : File) → length (entries_of f) ≡ entry_count f
+pub length-entries_of : (f : File) → length (entries_of f) ≡ entry_count f
 unfolding entries_of
 length-entries_of f = length-map (range_with_len 0 (entry_count f)) (record_at f.blocks) ∙ length-range_with_len 0 (entry_count f)
 

@@ -5,6 +5,7 @@ pub mod Frees
 pub mod Growth
 pub mod LagLaws
 pub mod RecordLemmas
+pub mod RemovalLaws
 pub mod SlotLemmas
 pub mod StepLaws
 pub mod StoreLemmas

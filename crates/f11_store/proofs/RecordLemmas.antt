@@ -15,7 +15,7 @@ take_at : (xs ys : List ℕ) (n : ℕ) → length xs ≡ n → take n (xs ++ ys)
 take_at xs ys n h = subst (λ (k : ℕ). take k (xs ++ ys) ≡ xs) h (take-append_seam xs ys)
 
 -- the record that was put
-record_put : (b r : List ℕ) (p : ℕ) → p ≤ length b → length r ≡ 16 → take 16 (drop p (with_bytes b p r)) ≡ r
+pub record_put : (b r : List ℕ) (p : ℕ) → p ≤ length b → length r ≡ 16 → take 16 (drop p (with_bytes b p r)) ≡ r
 record_put b r p within sixteen =
     ap (take 16) (drop_at (take p b) (r ++ drop (p + length r) b) p (length-take-le p b within))
     ∙ take_at r (drop (p + length r) b) 16 sixteen
@@ -50,7 +50,7 @@ nat_order j i differs = by_test (nat_lt j i) refl
     by_test false h = inr (grind (arith, nat_tests))
 
 -- another record of the same block
-record_in-other :
+pub record_in-other :
     (b r : List ℕ) (i j : ℕ) → j ≢ i → 16 * i ≤ length b → length r ≡ 16 → record_in (with_bytes b (16 * i) r) j ≡ record_in b j
 record_in-other b r i j differs within sixteen = by_order (nat_order j i differs)
   where

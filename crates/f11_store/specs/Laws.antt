@@ -10,7 +10,7 @@ use Rattle.f11_store.specs.declared.requests.Reply.{Reply}
 use Rattle.f11_store.specs.declared.requests.Reply.TheVariants as reply
 use Rattle.f11_store.specs.File.{File, zero_block}
 use Rattle.f11_store.specs.Store.{Store, named, id_held, held, is_accessed}
-use Rattle.f11_store.specs.Directory.{record_at, entry_count, place_of, empty_record}
+use Rattle.f11_store.specs.Directory.{record_at, entry_count, record_id, place_of, empty_record}
 use Rattle.f11_store.specs.Causes.{is_bad, first_refusal}
 use Rattle.f11_store.specs.Changes.{next_sequence}
 use Rattle.f11_store.specs.Lags.{Lags}
@@ -153,3 +153,17 @@ RemovedIsEmpty =
     IsWhole (named s d) → Step s task caller (request.Remove d name) block (Ok a) s' block' → place_of name (named s d) ≡ Some i →
     (entry_count (named s' d) ≡ entry_count (named s d)) × (record_at (named s' d).blocks i ≡ empty_record)
     × ((j : ℕ) → j ≢ i → record_at (named s' d).blocks j ≡ record_at (named s d).blocks j)
+
+-- Find's answer where the record at place i is gone: the first record with the name, which stands behind
+-- that place; or a refusal, and no record has the name if that is what it says
+abbrev pub IsFoundElsewhere : ℕ → List ℕ → File → Result Reply Refusal → Type 0
+IsFoundElsewhere i name f (Ok a) = (j : ℕ) × (i < j) × (place_of name f ≡ Some j) × (a ≡ reply.Found (record_id (record_at f.blocks j)))
+IsFoundElsewhere i name f (Err e) = e ≡ NoSuchEntry → place_of name f ≡ None
+
+-- a name that was removed is found in another record, whoever looks for it, or not at all
+abbrev pub RemovedThenFound : Type 0
+RemovedThenFound =
+    (s : Store) (task : ℕ) (caller : Uic) (d : FileId) (name block : List ℕ) (a : Reply) (s' : Store) (block' : List ℕ) (i : ℕ)
+    (other : ℕ) (reader : Uic) (before : List ℕ) (result : Result Reply Refusal) (s'' : Store) (after : List ℕ) →
+    IsWhole (named s d) → Step s task caller (request.Remove d name) block (Ok a) s' block' → place_of name (named s d) ≡ Some i →
+    Step s' other reader (request.Find d name) before result s'' after → IsFoundElsewhere i name (named s' d) result

@@ -42,9 +42,11 @@ pub fn lags()
     ensures step { laws.StepLags }
 {}
 
-/// A name that is entered is found, it can't be entered twice, and one that is removed leaves all others.
+/// A name that is entered is found, and it can't be entered twice; one that is removed leaves all other
+/// records, and is found afterwards in another one or not at all.
 pub fn directories()
     ensures found { laws.EnteredIsFound }
     ensures duplicate { laws.StandingIsDuplicate }
     ensures removed { laws.RemovedIsEmpty }
+    ensures elsewhere { laws.RemovedThenFound }
 {}

@@ -1,10 +1,10 @@
 use Rattle.std.proofs.Common.{refl}
-use Rattle.f11_dev.specs.Block.{word_sum}
+use Rattle.f11_dev.specs.Block.{word_sum, word_total}
 use Rattle.f11_dev.proofs.BlockLemmas.{word_sum-more}
 use Rattle.f11_dev.proofs.words.sum_words.Goals as goal
 
 pub loop-i-init : goal.loop-i-init
-unfolding word_sum
+unfolding word_sum word_total
 loop-i-init c = refl
 
 pub loop-i-preserved : goal.loop-i-preserved

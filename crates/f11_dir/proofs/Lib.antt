@@ -1,0 +1,3 @@
+pub mod RecordPlaces
+pub mod RecordTests
+pub mod RecordWords
