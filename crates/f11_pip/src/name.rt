@@ -8,7 +8,7 @@ use crate::outcome::{Answer, Failure};
 use f11_rad50::{BadName, Name};
 use std::io::{self, Write};
 
-/// Writes the line of a file's name, `words W1 W2 W3 W4 W5`: the three words of its characters and that of its type
+/// Writes the line of a file's name, `words` and its five words: the three of its characters and that of its type
 /// in Radix-50, and its version, in decimal (Files-11 On-Disk Structure Level 1, file names).
 ///
 /// Where the text is no name it writes `bad name`, and answers [`Answer::Fault`].
