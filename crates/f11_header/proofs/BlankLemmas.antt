@@ -1,7 +1,7 @@
 -- Facts about an empty header.
-use Rattle.std.proofs.Common.{◌≡◌, ◌≢◌, ℕ, ◌+◌, ◌*◌, ◌/◌, ◌%◌, ◌<◌, ◌≤◌, List, length, refl, ap, ◌∙◌, sym, arith, inl}
+use Rattle.std.proofs.Common.{◌≡◌, ◌≢◌, ℕ, ◌+◌, ◌*◌, ◌/◌, ◌%◌, ◌≤◌, List, length, refl, ◌∙◌, sym, arith}
 use Rattle.std.proofs.lemmas.Bool.Decides.{nat_tests}
-use Rattle.f11_dev.specs.Block.{word, with_word, word_sum, zero_block}
+use Rattle.f11_dev.specs.Block.{word, word_sum, zero_block}
 use Rattle.f11_dev.proofs.BlockLemmas.{word-with_word, word_sum-with_word}
 use Rattle.f11_store.specs.declared.callers.Uic.{Uic}
 use Rattle.f11_store.specs.declared.files.FileId.{FileId}

@@ -43,6 +43,14 @@ attributes b = slice_range b 14 46
 abbrev pub check_word : List ℕ → ℕ
 check_word b = word b 510
 
+-- the ident area: 23 words from H.IDOF on
+abbrev pub ident_area : List ℕ → List ℕ
+ident_area b = slice_range b (2 * ident_offset b) (2 * ident_offset b + 46)
+
+-- the map area: from H.MPOF up to the check word
+abbrev pub map_area : List ℕ → List ℕ
+map_area b = slice_range b (2 * map_offset b) 510
+
 -- the byte at which the map area begins, and a byte of that area
 abbrev pub map_byte : List ℕ → ℕ → ℕ
 map_byte b i = slice_index b (2 * map_offset b + i)

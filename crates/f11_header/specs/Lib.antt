@@ -1,5 +1,7 @@
 pub mod Fields
 pub mod Header
 pub mod Writing
+pub mod Bytes
 pub mod Lent
+pub mod Lending
 pub use Rattle.f11_dev.specs.Block

@@ -1,5 +1,5 @@
 //! A file header, read in the block that holds it.
-ghost use Rattle.std.specs.Prelude.{◌≡◌, ◌+◌, ◌-◌, ◌*◌, ◌≤◌, length, slice_range};
+ghost use Rattle.std.specs.Prelude.{◌≡◌, ◌+◌, ◌-◌, ◌*◌, ◌≤◌, length};
 
 use crate::fields::{
     ATTRIBUTES, CHARACTERISTICS, CHECK_WORD, IDENT_BYTES, IDENT_OFFSET, MAP_OFFSET, NUMBER, OWNER,
@@ -16,7 +16,7 @@ pub struct Header<'a> {
 
 impl<'a> Header<'a> {
     ghost use Rattle.f11_header.specs.Lent.{header_block};
-    ghost use Rattle.f11_header.specs.Fields.{ident_offset, map_offset, file_number, file_sequence, owner_member, owner_group, protection, characteristics, attributes};
+    ghost use Rattle.f11_header.specs.Fields.{ident_offset, map_offset, ident_area, map_area, file_number, file_sequence, owner_member, owner_group, protection, characteristics, attributes};
 
     /// The header in a block.
     pub fn new(block: &'a Block) -> Header<'a>
@@ -77,11 +77,10 @@ impl<'a> Header<'a> {
         attributes
     }
 
-    /// The ident area, 46 bytes, which the first header of a file has.
+    /// The ident area, 46 bytes. The first header of a file has one, and an extension header none.
     pub fn ident(&self) -> &'a [u8]
         requires { 2 * ident_offset (header_block self.now) + 46 ≤ 510 }
-        ensures area { result.now ≡ slice_range (header_block self.now)
-            (2 * ident_offset (header_block self.now)) (2 * ident_offset (header_block self.now) + 46) }
+        ensures area { result.now ≡ ident_area (header_block self.now) }
         ensures len { length result.now ≡ 46 }
     {
         let block = self.block;
@@ -92,7 +91,7 @@ impl<'a> Header<'a> {
     /// The map area, up to the check word.
     pub fn map(&self) -> &'a [u8]
         requires { map_offset (header_block self.now) ≤ 250 }
-        ensures area { result.now ≡ slice_range (header_block self.now) (2 * map_offset (header_block self.now)) 510 }
+        ensures area { result.now ≡ map_area (header_block self.now) }
         ensures len { length result.now ≡ 510 - 2 * map_offset (header_block self.now) }
     {
         let block = self.block;

@@ -1,14 +1,19 @@
 //! A file header, written in the block that holds it.
-ghost use Rattle.std.specs.Prelude.{◌≡◌};
+ghost use Rattle.std.specs.Prelude.{◌≡◌, ◌+◌, ◌-◌, ◌*◌, ◌≤◌, length};
+ghost use Rattle.std.specs.Borrow.{sem};
 ghost use Rattle.f11_header.specs.Writing.{with_id, with_owner, with_protection, with_characteristics, with_attributes, sealed};
 
-use crate::fields::{ATTRIBUTES, CHARACTERISTICS, CHECK_WORD, NUMBER, OWNER, PROTECTION, SEQUENCE};
+use crate::bytes::bytes_mut;
+use crate::fields::{
+    ATTRIBUTES, CHARACTERISTICS, CHECK_WORD, IDENT_BYTES, IDENT_OFFSET, MAP_OFFSET, NUMBER, OWNER,
+    PROTECTION, SEQUENCE,
+};
 use crate::whole::owner_word;
 use f11_dev::{Block, sum_words, write_word};
 use f11_store::{FileId, Uic};
 
-/// A file header, written in the block that holds it, without a copy. Each writer changes its field alone; the
-/// header is valid again once it is sealed.
+/// A file header, written in the block that holds it, without a copy. Each writer changes its field alone, and what is
+/// written to an area that was lent changes that area alone; the header is valid again once it is sealed.
 #[derive(Drop)]
 pub struct HeaderMut<'a> {
     block: &'a mut Block,
@@ -16,6 +21,8 @@ pub struct HeaderMut<'a> {
 
 impl<'a> HeaderMut<'a> {
     ghost use Rattle.f11_header.specs.Lent.{written_block, lent_name};
+    ghost use Rattle.f11_header.specs.Fields.{ident_offset, map_offset, ident_area, map_area};
+    ghost use Rattle.f11_header.specs.Lending.{LendsIdent, LendsMap};
 
     /// The header in a block.
     pub fn new(block: &'a mut Block) -> HeaderMut<'a>
@@ -23,6 +30,28 @@ impl<'a> HeaderMut<'a> {
         ensures same_reference { lent_name result ≡ block.entry.ghost_name }
     {
         HeaderMut { block }
+    }
+
+    /// The ident area, 46 bytes, to be written. The first header of a file has one, and an extension header none.
+    pub fn ident_mut(&mut self) -> &mut [u8]
+        requires { 2 * ident_offset (written_block self.old) + 46 ≤ 510 }
+        ensures* writes_back { sem 𝓛 (LendsIdent self.entry result) }
+        ensures area { result.now ≡ ident_area (written_block self.old) }
+        ensures len { length result.now ≡ 46 }
+    {
+        let ident = 2 * usize::from(self.block[IDENT_OFFSET]);
+        bytes_mut(self.block, ident, ident + IDENT_BYTES)
+    }
+
+    /// The map area, up to the check word, to be written.
+    pub fn map_mut(&mut self) -> &mut [u8]
+        requires { map_offset (written_block self.old) ≤ 250 }
+        ensures* writes_back { sem 𝓛 (LendsMap self.entry result) }
+        ensures area { result.now ≡ map_area (written_block self.old) }
+        ensures len { length result.now ≡ 510 - 2 * map_offset (written_block self.old) }
+    {
+        let map = 2 * usize::from(self.block[MAP_OFFSET]);
+        bytes_mut(self.block, map, CHECK_WORD)
     }
 
     /// Sets the file number and the file sequence number (H.FNUM, H.FSEQ).

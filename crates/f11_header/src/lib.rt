@@ -5,6 +5,7 @@
 //! blocks and words and on [`f11_store`] for identifications and owners.
 #![tactic(auto)]
 
+mod bytes;
 mod fields;
 mod header;
 mod header_mut;

@@ -70,6 +70,23 @@ fn areas_are_lent(rt: HostRuntime) {
 }
 
 #[test]
+fn areas_are_lent_to_be_written(rt: HostRuntime) {
+    let mut block = directory_header();
+    assert!(rt; block[0] == 23 && block[1] == 46);
+    let before = block;
+    let mut header = HeaderMut::new(&mut block);
+    header.ident_mut()[8] = 2;
+    header.map_mut()[12] = 30;
+    header.map_mut()[417] = 9;
+    assert_eq!(rt; (block[54], block[104], block[509]), (2, 30, 9));
+    for at in 0..512 {
+        if at != 54 && at != 104 && at != 509 {
+            assert_eq!(rt; block[at], before[at], "byte {at}");
+        }
+    }
+}
+
+#[test]
 fn each_condition_is_tested(rt: HostRuntime) {
     for (at, value, valid) in [
         (0, 22, false),

@@ -1,11 +1,11 @@
 -- Facts about retrieval pointers and the blocks that they name.
-use Rattle.std.proofs.Common.{◌≡◌, ℕ, zero, suc, ◌+◌, ◌-◌, ◌*◌, ◌/◌, ◌%◌, ◌<◌, ◌≤◌, min, List, [], ◌∷◌, ◌++◌, length, get_or, take, drop, map, Some, None, refl, sym, ap, ◌∙◌, inl, inr, arith, add-one, drop-cons, append_assoc}
+use Rattle.std.proofs.Common.{◌≡◌, ℕ, zero, suc, ◌+◌, ◌-◌, ◌*◌, ◌/◌, ◌%◌, ◌<◌, ◌≤◌, min, List, [], ◌∷◌, ◌++◌, length, get_or, take, drop, Some, refl, sym, ap, ◌∙◌, arith, add-one, drop-cons, append_assoc}
 use Rattle.std.specs.List.{slice_get, range_with_len}
 use Rattle.std.proofs.lemmas.List.{length-append, get_or-take, get_or-drop, take_more}
 use Rattle.std.proofs.lemmas.List.FromFn.{length-map-range_with_len, get_or-map-range_with_len, length-range_with_len, get_or-range_with_len}
 use Rattle.std.proofs.lemmas.Option.{slice_get-get_or, get_or_from_slice_get, slice_get_within}
-use Rattle.f11_map.specs.MapArea.{run_at, runs_of, blocks_in, words_in_use, most_words, places, map_area, IsMapArea}
-use Rattle.f11_header.specs.Fields.{map_offset, map_byte}
+use Rattle.f11_map.specs.MapArea.{run_at, runs_of, blocks_in, words_in_use, most_words, places, IsMapArea}
+use Rattle.f11_header.specs.Fields.{map_offset, map_area, map_byte}
 use Rattle.f11_header.specs.Header.{IsHeader}
 
 -- two words a pointer

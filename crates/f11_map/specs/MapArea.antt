@@ -1,14 +1,9 @@
 -- The map area of a file header, the bytes from M.ESQN up to the check word (Files-11 On-Disk Structure Level 1, "Map
 -- Area" and "Retrieval Pointers").
-use Rattle.std.specs.Prelude.{◌≡◌, ℕ, ◌+◌, ◌-◌, ◌*◌, ◌/◌, ◌%◌, ◌≤◌, min, List, [], ◌∷◌, ◌++◌, length, map, slice_index, slice_range}
+use Rattle.std.specs.Prelude.{◌≡◌, ℕ, ◌+◌, ◌-◌, ◌*◌, ◌/◌, ◌%◌, ◌≤◌, min, List, [], ◌∷◌, ◌++◌, length, map, slice_index}
 use Rattle.std.specs.List.{range_with_len}
 use Rattle.f11_dev.specs.Block.{word}
-use Rattle.f11_header.specs.Fields.{map_offset}
 use Rattle.f11_store.specs.declared.files.FileId.{FileId}
-
--- the map area of a header: from H.MPOF, in words, up to the check word
-abbrev pub map_area : List ℕ → List ℕ
-map_area b = slice_range b (2 * map_offset b) 510
 
 -- M.ESQN: the segment number
 abbrev pub segment : List ℕ → ℕ

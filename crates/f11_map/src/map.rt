@@ -2,9 +2,9 @@
 ghost use Rattle.std.specs.Prelude.{◌≡◌, ◌<◌, ◌≤◌, ◌+◌, ◌-◌, ◌^◌, length, Some};
 ghost use Rattle.std.specs.List.{slice_get};
 ghost use Rattle.f11_dev.specs.Block.{word};
-ghost use Rattle.f11_header.specs.Fields.{file_number};
+ghost use Rattle.f11_header.specs.Fields.{file_number, map_area};
 ghost use Rattle.f11_header.specs.Header.{IsHeader};
-ghost use Rattle.f11_map.specs.MapArea.{map_area, IsMapArea, segment, link, runs_of, blocks_of, places};
+ghost use Rattle.f11_map.specs.MapArea.{IsMapArea, segment, link, runs_of, blocks_of, places};
 
 use f11_header::Header;
 use f11_store::FileId;

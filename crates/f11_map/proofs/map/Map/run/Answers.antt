@@ -1,5 +1,4 @@
-use Rattle.std.proofs.Common.{◌≡◌, ◌+◌, ◌*◌, Some, sym, ◌∙◌, arith}
-use Rattle.f11_map.specs.MapArea.{run_at}
+use Rattle.std.proofs.Common.{◌+◌, ◌*◌, Some, sym, ◌∙◌, arith}
 use Rattle.f11_map.specs.Map.{area_of}
 use Rattle.f11_map.proofs.MapLemmas.{pointer_within, slice_get-runs_of}
 use Rattle.f11_map.proofs.map.Map.run.Goals as goal
