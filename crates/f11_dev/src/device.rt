@@ -1,5 +1,5 @@
 //! The trait of block devices.
-ghost use Rattle.std.specs.Prelude.{◌≡◌, ◌<◌, length};
+ghost use Rattle.std.specs.Prelude.{◌≡◌, ◌<◌, Some, codes, length};
 ghost use Rattle.f11_dev.specs.Image.{IsImage};
 ghost use Rattle.f11_dev.specs.Disk.{Disk, Reads, Writes};
 
@@ -12,6 +12,8 @@ use std::fmt;
 pub struct DeviceFault;
 
 impl fmt::Display for DeviceFault {
+    ghost output = { λ _. Some (codes "device fault") };
+
     fn fmt<W: fmt::Write>(&self, f: &mut fmt::Formatter<W>) -> fmt::Result {
         write!(f, "device fault")
     }

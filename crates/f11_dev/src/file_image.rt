@@ -1,5 +1,5 @@
 //! A device in a file.
-ghost use Rattle.std.specs.Prelude.{◌≡◌, ◌*◌, min, ◌≤◌, ◌<◌, ◌^◌, false, IfOk, length};
+ghost use Rattle.std.specs.Prelude.{◌≡◌, ◌*◌, min, ◌≤◌, ◌<◌, ◌^◌, false, IfOk, Some, codes, length};
 ghost use Rattle.f11_dev.specs.Image.{IsImage, zero_image};
 ghost use Rattle.f11_dev.specs.Disk.{fresh};
 ghost use Rattle.f11_dev.specs.Written.{written_image};
@@ -22,6 +22,8 @@ pub const MAX_BLOCKS: u32 = 1 << 24;
 pub struct CannotOpen;
 
 impl fmt::Display for CannotOpen {
+    ghost output = { λ _. Some (codes "cannot open") };
+
     fn fmt<W: fmt::Write>(&self, f: &mut fmt::Formatter<W>) -> fmt::Result {
         write!(f, "cannot open")
     }

@@ -1,5 +1,5 @@
 //! A device that lies.
-ghost use Rattle.std.specs.Prelude.{◌≡◌, ◌≢◌, ◌⊎◌, ◌<◌, length, OnOk, OnErr};
+ghost use Rattle.std.specs.Prelude.{◌≡◌, ◌≢◌, ◌⊎◌, ◌<◌, false, length, IsTrue, OnOk};
 ghost use Rattle.f11_dev.specs.Block.{zero_block};
 ghost use Rattle.f11_dev.specs.Disk.{Reads, Writes};
 
@@ -10,7 +10,8 @@ use std::cell::Cell;
 /// A device around another that lies about one block once [`Liar::begin`] was called: reads of it give zeros.
 /// It isn't honest.
 ///
-/// No contract can say what a cell holds, so that it lies from `begin` on and no earlier is tested and not proved.
+/// No contract can say what a cell holds: that the cell is true from `begin` on and no earlier is tested. What a read does
+/// by what it finds there is proved.
 #[derive(Drop)]
 pub struct Liar<D> {
     inner: D,
@@ -36,6 +37,27 @@ impl<D: Device> Liar<D> {
     /// From now on reads of the block give zeros.
     pub fn begin(&self) {
         self.begun.set(true);
+    }
+
+    /// Reads a block as a device whose lies have begun, or not.
+    fn read_having(
+        &mut self,
+        begun: bool,
+        lbn: u32,
+        into: &mut Block,
+    ) -> Result<(), DeviceFault>
+        requires { lbn < length (D.disk (lied_about self.old)).image }
+        ensures reads { Reads result lbn into.new (liar_disk D.disk self.old) (liar_disk D.disk self.new) }
+        ensures true_before { begun ≡ false → Reads result lbn into.new (D.disk (lied_about self.old)) (D.disk (lied_about self.new)) }
+        ensures true_elsewhere { lbn ≢ lies_at self.old → Reads result lbn into.new (D.disk (lied_about self.old)) (D.disk (lied_about self.new)) }
+        ensures zeros { IsTrue begun → lbn ≡ lies_at self.old → OnOk result (into.new ≡ zero_block) }
+        ensures place { lies_at self.new ≡ lies_at self.old }
+    {
+        self.inner.read(lbn, into)?;
+        if begun && lbn == self.lbn {
+            *into = zeros();
+        }
+        Ok(())
     }
 
     /// The device as it is.
@@ -69,11 +91,8 @@ impl<D: Device> Device for Liar<D> {
         ensures zeros_or_true { OnOk result ((into.new ≡ zero_block) ⊎ Reads result lbn into.new (D.disk (lied_about self.old)) (D.disk (lied_about self.new))) }
         ensures place { lies_at self.new ≡ lies_at self.old }
     {
-        self.inner.read(lbn, into)?;
-        if lbn == self.lbn && self.begun.get() {
-            *into = zeros();
-        }
-        Ok(())
+        let begun = self.begun.get();
+        self.read_having(begun, lbn, into)
     }
 
     fn write(&mut self, lbn: u32, from: &Block) -> Result<(), DeviceFault>

@@ -1,5 +1,6 @@
 pub mod Fields
 pub mod Header
+pub mod HeaderFault
 pub mod Writing
 pub mod Bytes
 pub mod Lent

@@ -22,6 +22,11 @@ pub enum HeaderFault {
 }
 
 impl fmt::Display for HeaderFault {
+    ghost use Rattle.std.specs.Prelude.{Some};
+    ghost use Rattle.f11_header.specs.HeaderFault.{header_fault_text};
+
+    ghost output = { λ fault. Some (header_fault_text fault) };
+
     fn fmt<W: fmt::Write>(&self, f: &mut fmt::Formatter<W>) -> fmt::Result {
         match self {
             HeaderFault::Dead => write!(f, "dead"),

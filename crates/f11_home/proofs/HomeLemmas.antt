@@ -1,12 +1,12 @@
 -- Facts about the candidates for the home block.
-use Rattle.std.proofs.Common.{◌≡◌, ℕ, zero, suc, ◌+◌, ◌*◌, ◌/◌, ◌<◌, ◌≤◌, List, length, Some, None, inl, inr, refl, sym, ◌∙◌, ap, subst, arith}
+use Rattle.std.proofs.Common.{◌≡◌, ℕ, zero, suc, ◌+◌, ◌/◌, ◌<◌, ◌≤◌, List, length, Some, inl, inr, refl, sym, ◌∙◌, ap, subst, arith}
 use Rattle.std.specs.List.{slice_get}
 use Rattle.std.proofs.lemmas.Bool.{cases_lt}
 use Rattle.std.proofs.lemmas.Bool.Decides.{nat_tests}
-use Rattle.std.proofs.lemmas.Option.{slice_get_past, slice_get_within}
+use Rattle.std.proofs.lemmas.Option.{slice_get_within}
 use Rattle.f11_dev.specs.Image.{Image}
 use Rattle.f11_home.specs.HomeBlock.{IsHomeBlock}
-use Rattle.f11_home.specs.Home.{HomeFields, candidate, candidates, fields_of, IsCandidate, IsHomeOf, NoneBelow, HasNoHome}
+use Rattle.f11_home.specs.Home.{HomeFields, candidate, candidates, fields_of, IsHomeOf, NoneBelow, HasNoHome}
 
 -- the candidates that are counted are below the end
 pub candidate-below : (k n : ℕ) → k < candidates n → candidate k < n

@@ -21,6 +21,11 @@ pub enum HomeFault {
 }
 
 impl fmt::Display for HomeFault {
+    ghost use Rattle.std.specs.Prelude.{Some};
+    ghost use Rattle.f11_home.specs.HomeFault.{home_fault_text};
+
+    ghost output = { λ fault. Some (home_fault_text fault) };
+
     fn fmt<W: fmt::Write>(&self, f: &mut fmt::Formatter<W>) -> fmt::Result {
         match self {
             HomeFault::NoHome => write!(f, "no home block"),

@@ -1,3 +1,5 @@
+ghost use Rattle.std.specs.Prelude.{Some, codes};
+
 use std::alloc::{AllocError, AllocFailed};
 use std::error::Error;
 use std::fmt;
@@ -7,6 +9,8 @@ use std::fmt;
 pub struct BadCharacter;
 
 impl fmt::Display for BadCharacter {
+    ghost output = { λ _. Some (codes "not a character of Radix-50") };
+
     fn fmt<W: fmt::Write>(&self, f: &mut fmt::Formatter<W>) -> fmt::Result {
         write!(f, "not a character of Radix-50")
     }
@@ -19,6 +23,8 @@ impl Error for BadCharacter {}
 pub struct BadName;
 
 impl fmt::Display for BadName {
+    ghost output = { λ _. Some (codes "bad name") };
+
     fn fmt<W: fmt::Write>(&self, f: &mut fmt::Formatter<W>) -> fmt::Result {
         write!(f, "bad name")
     }
@@ -31,8 +37,10 @@ impl Error for BadName {}
 pub struct NoMemory;
 
 impl fmt::Display for NoMemory {
+    ghost output = { λ _. Some (codes "no memory") };
+
     fn fmt<W: fmt::Write>(&self, f: &mut fmt::Formatter<W>) -> fmt::Result {
-        write!(f, "out of memory")
+        write!(f, "no memory")
     }
 }
 

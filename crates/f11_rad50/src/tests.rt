@@ -191,7 +191,7 @@ fn messages(rt: HostRuntime) -> Result<(), Fail> {
     write!(text, "{BadCharacter}, {BadName}, {NoMemory}")?;
     assert_eq!(rt;
         text.as_str(),
-        "not a character of Radix-50, bad name, out of memory"
+        "not a character of Radix-50, bad name, no memory"
     );
     Ok(())
 }

@@ -1,4 +1,4 @@
-use Rattle.std.proofs.Common.{◌≡◌, ◌≤◌, ◌+◌, ◌*◌, length, inl, sym, ap, ◌∙◌, arith}
+use Rattle.std.proofs.Common.{inl, sym, ap, ◌∙◌, arith}
 use Rattle.f11_dev.specs.Block.{word, word_sum}
 use Rattle.f11_dev.proofs.BlockLemmas.{word-with_word, word-with_word_apart, word_sum-with_word}
 use Rattle.f11_home.proofs.block.seal.Goals as goal
