@@ -1,2 +1,3 @@
 pub mod BlankLemmas
+pub mod AreaLemmas
 pub mod BytesMemory

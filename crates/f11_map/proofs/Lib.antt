@@ -1,1 +1,3 @@
 pub mod MapLemmas
+pub mod RunLemmas
+pub mod PointerLemmas

@@ -1,17 +1,22 @@
 -- Facts about retrieval pointers and the blocks that they name.
 use Rattle.std.proofs.Common.{◌≡◌, ℕ, zero, suc, ◌+◌, ◌-◌, ◌*◌, ◌/◌, ◌%◌, ◌<◌, ◌≤◌, min, List, [], ◌∷◌, ◌++◌, length, get_or, take, drop, Some, refl, sym, ap, ◌∙◌, arith, add-one, drop-cons, append_assoc}
 use Rattle.std.specs.List.{slice_get, range_with_len}
-use Rattle.std.proofs.lemmas.List.{length-append, get_or-take, get_or-drop, take_more}
+use Rattle.std.proofs.lemmas.List.{length-append, take_more}
 use Rattle.std.proofs.lemmas.List.FromFn.{length-map-range_with_len, get_or-map-range_with_len, length-range_with_len, get_or-range_with_len}
 use Rattle.std.proofs.lemmas.Option.{slice_get-get_or, get_or_from_slice_get, slice_get_within}
 use Rattle.f11_map.specs.MapArea.{run_at, runs_of, blocks_in, words_in_use, most_words, places, IsMapArea}
 use Rattle.f11_header.specs.Fields.{map_offset, map_area, map_byte}
 use Rattle.f11_header.specs.Header.{IsHeader}
+use Rattle.f11_header.proofs.AreaLemmas.{slice_index-map_area}
 
 -- two words a pointer
 pub length-runs_of : (m : List ℕ) → length (runs_of m) ≡ words_in_use m / 2
 unfolding runs_of
 length-runs_of m = length-map-range_with_len (run_at m) 0 (words_in_use m / 2)
+
+-- there are no more pointers than places
+pub length-runs_of-le : (m : List ℕ) → IsMapArea m → length (runs_of m) ≤ places m
+length-runs_of-le m area = omega (arith, length-runs_of m, area.within, area.even)
 
 -- each pointer stands in the area
 pub pointer_within : (m : List ℕ) (i : ℕ) → IsMapArea m → i < length (runs_of m) → 14 + 4 * i ≤ length m
@@ -43,7 +48,7 @@ slice_get-append_front [] ys i below = absurd (omega arith)
 slice_get-append_front (x ∷ xs) ys zero below = refl
 slice_get-append_front (x ∷ xs) ys (suc i) below = slice_get-append_front xs ys i (omega arith)
 
-slice_get-append_back : (xs ys : List ℕ) (i n : ℕ) → n ≡ length xs → n ≤ i → slice_get (xs ++ ys) i ≡ slice_get ys (i - n)
+pub slice_get-append_back : (xs ys : List ℕ) (i n : ℕ) → n ≡ length xs → n ≤ i → slice_get (xs ++ ys) i ≡ slice_get ys (i - n)
 slice_get-append_back [] ys i n is behind = ap (λ (j : ℕ). slice_get ys j) (omega arith)
 slice_get-append_back (x ∷ xs) ys zero n is behind = absurd (omega arith)
 slice_get-append_back (x ∷ xs) ys (suc i) n is behind = slice_get-append_back xs ys i (n - 1) (omega arith) (omega arith) ∙ ap (λ (j : ℕ). slice_get ys j) (omega arith)
@@ -62,22 +67,12 @@ block_here rs i left run at within =
     ap (λ (bs : List ℕ). slice_get bs left) (blocks_in-drop rs i run at) ∙ slice_get-append_front (range_with_len run.0 run.1) (blocks_in (drop (i + 1) rs)) left some
     ∙ slice_get-get_or (range_with_len run.0 run.1) left 0 some ∙ ap Some (get_or-range_with_len run.0 run.1 left 0 within)
 
--- a block behind it
-pub block_behind : (rs : List (ℕ × ℕ)) (i left : ℕ) (run : ℕ × ℕ) → slice_get rs i ≡ Some run → run.1 ≤ left → slice_get (blocks_in (drop i rs)) left ≡ slice_get (blocks_in (drop (i + 1) rs)) (left - run.1)
-block_behind rs i left run at past =
-    ap (λ (bs : List ℕ). slice_get bs left) (blocks_in-drop rs i run at)
-    ∙ slice_get-append_back (range_with_len run.0 run.1) (blocks_in (drop (i + 1) rs)) left run.1 (sym (length-range_with_len run.0 run.1)) past
-
--- a byte of the map area
-byte_of : (b : List ℕ) (from to i : ℕ) → i < to - from → get_or (take (to - from) (drop from b)) i 0 ≡ get_or b (from + i) 0
-byte_of b from to i within = get_or-take (to - from) (drop from b) i 0 within ∙ get_or-drop from b i 0
-
 -- the map area of a valid header is one
 pub IsMapArea-map_area : (b : List ℕ) (n : ℕ) → length (map_area b) ≡ 510 - 2 * map_offset b → IsHeader b n → IsMapArea (map_area b)
 IsMapArea-map_area b n size header =
     let within : map_offset b ≤ 250 = header.map_within in
-    let in_use : words_in_use (map_area b) ≡ map_byte b 8 = byte_of b (2 * map_offset b) 510 8 (omega arith) in
-    let most : most_words (map_area b) ≡ map_byte b 9 = byte_of b (2 * map_offset b) 510 9 (omega arith) in
+    let in_use : words_in_use (map_area b) ≡ map_byte b 8 = slice_index-map_area b 8 (omega arith) in
+    let most : most_words (map_area b) ≡ map_byte b 9 = slice_index-map_area b 9 (omega arith) in
     let room : (length (map_area b) - 10) / 2 ≡ 250 - map_offset b = omega (arith, size, within) in
     let same : places (map_area b) ≡ min (map_byte b 9) (250 - map_offset b) / 2 = ap (λ (w : ℕ). min w ((length (map_area b) - 10) / 2) / 2) most ∙ ap (λ (r : ℕ). min (map_byte b 9) r / 2) room in
     record {

@@ -1,6 +1,6 @@
 -- The map area of a file header, the bytes from M.ESQN up to the check word (Files-11 On-Disk Structure Level 1, "Map
 -- Area" and "Retrieval Pointers").
-use Rattle.std.specs.Prelude.{◌≡◌, ℕ, ◌+◌, ◌-◌, ◌*◌, ◌/◌, ◌%◌, ◌≤◌, min, List, [], ◌∷◌, ◌++◌, length, map, slice_index}
+use Rattle.std.specs.Prelude.{◌≡◌, ℕ, ◌+◌, ◌-◌, ◌*◌, ◌/◌, ◌%◌, ◌<◌, ◌≤◌, min, List, [], ◌∷◌, ◌++◌, length, take, map, slice_index, slice_index_or}
 use Rattle.std.specs.List.{range_with_len}
 use Rattle.f11_dev.specs.Block.{word}
 use Rattle.f11_store.specs.declared.files.FileId.{FileId}
@@ -38,6 +38,12 @@ blocks_in (run ∷ runs) = range_with_len run.0 run.1 ++ blocks_in runs
 -- the blocks that the map area names, in order
 abbrev pub blocks_of : List ℕ → List ℕ
 blocks_of m = blocks_in (runs_of m)
+
+-- block number `place` of those that pointers name, from 0, is block number `left` of pointer i
+pub record LiesIn (runs : List (ℕ × ℕ)) (place i left : ℕ) : Type 0 where
+  pub pointer : i < length runs
+  pub within : left < (slice_index_or runs i (0, 0)).1
+  pub behind : place ≡ length (blocks_in (take i runs)) + left
 
 -- the places for pointers: what M.MAX allows, and what fits
 abbrev pub places : List ℕ → ℕ

@@ -1,8 +1,12 @@
-//! Retrieval pointers in the map area of a lent header.
+//! Retrieval pointers in the map area of a lent header: [`Map`] reads them and [`MapMut`] writes them where they stand.
 #![tactic(auto)]
 
+mod fields;
 mod map;
+mod map_mut;
+mod pointer;
 #[cfg(test)]
 mod tests;
 
 pub use map::Map;
+pub use map_mut::{MapFull, MapMut};

@@ -1,34 +1,15 @@
 //! The retrieval pointers of a header.
-ghost use Rattle.std.specs.Prelude.{◌≡◌, ◌<◌, ◌≤◌, ◌+◌, ◌-◌, ◌^◌, length, Some};
+ghost use Rattle.std.specs.Prelude.{◌≡◌, ◌<◌, ◌≤◌, ◌+◌, ◌-◌, ◌^◌, length, Some, MatchOption, IfSome};
 ghost use Rattle.std.specs.List.{slice_get};
 ghost use Rattle.f11_dev.specs.Block.{word};
 ghost use Rattle.f11_header.specs.Fields.{file_number, map_area};
 ghost use Rattle.f11_header.specs.Header.{IsHeader};
-ghost use Rattle.f11_map.specs.MapArea.{IsMapArea, segment, link, runs_of, blocks_of, places};
+ghost use Rattle.f11_map.specs.MapArea.{IsMapArea, LiesIn, segment, link, runs_of, blocks_of, places};
+ghost use Rattle.f11_map.specs.MapWriting.{joins_last};
 
+use crate::fields::{IN_USE, LINK_NUMBER, LINK_SEQUENCE, LINK_VOLUME, MOST, POINTERS, SEGMENT};
 use f11_header::Header;
 use f11_store::FileId;
-
-/// M.ESQN, a byte: the segment number.
-const SEGMENT: usize = 0;
-
-/// M.ERVN, a byte: the relative volume of the next header.
-const LINK_VOLUME: usize = 1;
-
-/// M.EFNU, a word: the file number of the next header.
-const LINK_NUMBER: usize = 2;
-
-/// M.EFSQ, a word: the file sequence number of the next header.
-const LINK_SEQUENCE: usize = 4;
-
-/// M.USE, a byte: the words of pointers in use.
-const IN_USE: usize = 8;
-
-/// M.MAX, a byte: the words of pointers that there may be.
-const MOST: usize = 9;
-
-/// Where the pointers begin.
-const POINTERS: usize = 10;
 
 /// The map area of a header, read where it stands.
 #[derive(Clone, Copy)]
@@ -118,15 +99,39 @@ impl<'a> Map<'a> {
     pub fn lbn_of(&self, place: u32) -> Option<u32>
         ensures { result ≡ slice_get (blocks_of (area_of self.now)) place }
     {
+        let (i, left) = self.find(place)?;
+        Some(self.run(i).0 + left)
+    }
+
+    /// The pointer that names block number `place`, from 0, and the block's number among those of that pointer; `None`
+    /// where the pointers name no more blocks.
+    pub(crate) fn find(&self, place: u32) -> Option<(usize, u32)>
+        ensures found { MatchOption result (length (blocks_of (area_of self.now)) ≤ place)
+            (λ found. LiesIn (runs_of (area_of self.now)) place found.0 found.1) }
+        ensures few { IfSome result (λ found. found.0 < 127) }
+    {
         let mut left = place;
         for i in 0..self.runs() {
-            let (lbn, count) = self.run(i);
+            let count = self.run(i).1;
             if left < count {
-                return Some(lbn + left);
+                return Some((i, left));
             }
             left -= count;
         }
         None
+    }
+
+    /// Whether `count` blocks, 256 at most, from LBN `lbn` on join the last pointer.
+    pub(crate) fn joins_last(&self, lbn: u32, count: u32) -> bool
+        requires { count ≤ 256 }
+        ensures { result ≡ joins_last (runs_of (area_of self.now)) lbn count }
+    {
+        let pointers = self.runs();
+        if pointers == 0 {
+            return false;
+        }
+        let (first, blocks) = self.run(pointers - 1);
+        first + blocks == lbn && blocks + count <= 256
     }
 }
 

@@ -1,3 +1,4 @@
+pub mod DumpLemmas
 pub mod LabelLemmas
 pub mod OctalLemmas
 pub mod WordsLemmas

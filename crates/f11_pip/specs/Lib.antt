@@ -1,4 +1,5 @@
 pub mod Commands
+pub mod Dump
 pub mod Home
 pub mod Label
 pub mod Name

@@ -2,10 +2,11 @@
 //!
 //! Each command is a public function over devices and a writer, whose contract says which lines it writes and what
 //! it answers. [`main`] reads the words, opens the files in their order, and ends with the [`status`] of the outcome.
-//! The crate stands on [`f11_dev`], for devices, on [`f11_home`], for home blocks, on [`f11_rad50`], for names, on
-//! [`f11_store`], for rights, and on [`clap`], for the words.
+//! The crate stands on [`f11_dev`], for devices, on [`f11_home`], for home blocks, on [`f11_header`] and [`f11_map`], for
+//! file headers, on [`f11_rad50`], for names, on [`f11_store`], for rights, and on [`clap`], for the words.
 #![tactic(auto)]
 
+mod dump;
 mod home;
 mod label;
 mod name;

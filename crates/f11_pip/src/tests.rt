@@ -1,5 +1,7 @@
 ghost use Rattle.std.specs.Prelude.{◌+◌, ◌≤◌, length};
 
+mod dump;
+
 use super::*;
 use crate::home::home;
 use crate::label::Label;

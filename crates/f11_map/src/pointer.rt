@@ -1,0 +1,81 @@
+//! Bytes of a map area that are written.
+ghost use Rattle.std.specs.Prelude.{◌≡◌, ◌+◌, ◌*◌, ◌<◌, ◌≤◌, ◌^◌, ◌++◌, [], ◌∷◌, length, take};
+ghost use Rattle.f11_dev.specs.Block.{with_word};
+ghost use Rattle.f11_map.specs.MapArea.{IsMapArea, runs_of, places};
+ghost use Rattle.f11_map.specs.MapWriting.{with_run, with_words_in_use, WritesPointers, WritesLink, StaysHeader};
+
+use crate::fields::{IN_USE, LINK_NUMBER, LINK_SEQUENCE, LINK_VOLUME, POINTERS};
+use f11_store::FileId;
+
+/// Makes pointer `i` the last one, and lets it name `count` blocks, 1 to 256, from LBN `lbn` on, below 16,777,216.
+pub fn put_last(area: &mut [u8], i: usize, lbn: u32, count: u32)
+    requires is_map { IsMapArea area.old }
+    requires pointer { i ≤ length (runs_of area.old) }
+    requires place { i < places area.old }
+    requires lbn { lbn < 2 ^ 24 }
+    requires count { (0 < count) × (count ≤ 256) }
+    ensures is_map { IsMapArea area.new }
+    ensures pointers { runs_of area.new ≡ take i (runs_of area.old) ++ (lbn, count) ∷ [] }
+    ensures rest { WritesPointers area.old area.new }
+    ensures header { StaysHeader area.old area.new }
+{
+    put_run(area, i, lbn, count);
+    put_words_in_use(area, i + 1);
+}
+
+/// Keeps the first `pointers` pointers, at most as many as there are.
+pub fn keep(area: &mut [u8], pointers: usize)
+    requires is_map { IsMapArea area.old }
+    requires pointers { pointers ≤ length (runs_of area.old) }
+    requires few { pointers ≤ 127 }
+    ensures is_map { IsMapArea area.new }
+    ensures pointers { runs_of area.new ≡ take pointers (runs_of area.old) }
+    ensures rest { WritesPointers area.old area.new }
+    ensures header { StaysHeader area.old area.new }
+{
+    put_words_in_use(area, pointers);
+}
+
+/// Writes the next header of the file (M.EFNU, M.EFSQ), and relative volume 0 (M.ERVN).
+pub fn put_link(area: &mut [u8], id: FileId)
+    requires { IsMapArea area.old }
+    ensures is_map { IsMapArea area.new }
+    ensures link { WritesLink area.old area.new id }
+    ensures pointers { runs_of area.new ≡ runs_of area.old }
+    ensures header { StaysHeader area.old area.new }
+{
+    area[LINK_VOLUME] = 0;
+    put_word(area, LINK_NUMBER, id.number);
+    put_word(area, LINK_SEQUENCE, id.sequence);
+}
+
+/// Writes retrieval pointer `i`.
+fn put_run(area: &mut [u8], i: usize, lbn: u32, count: u32)
+    requires room { 14 + 4 * i ≤ length area.old }
+    requires lbn { lbn < 2 ^ 24 }
+    requires count { (0 < count) × (count ≤ 256) }
+    ensures { area.new ≡ with_run area.old i (lbn, count) }
+{
+    let at = POINTERS + 4 * i;
+    area[at] = (lbn / 65536) as u8;
+    area[at + 1] = (count - 1) as u8;
+    put_word(area, at + 2, (lbn % 65536) as u16);
+}
+
+/// Writes how many pointers are in use, 127 at most (M.USE).
+fn put_words_in_use(area: &mut [u8], pointers: usize)
+    requires few { pointers ≤ 127 }
+    requires fields { 10 ≤ length area.old }
+    ensures { area.new ≡ with_words_in_use area.old (2 * pointers) }
+{
+    area[IN_USE] = (2 * pointers) as u8;
+}
+
+/// Writes the word at a byte of the area, the low byte first.
+fn put_word(area: &mut [u8], at: usize, value: u16)
+    requires { at + 1 < length area.old }
+    ensures { area.new ≡ with_word area.old at value }
+{
+    area[at] = (value % 256) as u8;
+    area[at + 1] = (value / 256) as u8;
+}
