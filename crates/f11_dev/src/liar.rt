@@ -40,12 +40,7 @@ impl<D: Device> Liar<D> {
     }
 
     /// Reads a block as a device whose lies have begun, or not.
-    fn read_having(
-        &mut self,
-        begun: bool,
-        lbn: u32,
-        into: &mut Block,
-    ) -> Result<(), DeviceFault>
+    fn read_having(&mut self, begun: bool, lbn: u32, into: &mut Block) -> Result<(), DeviceFault>
         requires { lbn < length (D.disk (lied_about self.old)).image }
         ensures reads { Reads result lbn into.new (liar_disk D.disk self.old) (liar_disk D.disk self.new) }
         ensures true_before { begun ≡ false → Reads result lbn into.new (D.disk (lied_about self.old)) (D.disk (lied_about self.new)) }
