@@ -1,7 +1,7 @@
 -- Facts about a header whose map area is written, and about sealing it.
 use Rattle.std.proofs.Common.{◌≡◌, ℕ, ◌+◌, ◌-◌, ◌*◌, ◌/◌, ◌%◌, ◌<◌, ◌≤◌, min, List, ◌++◌, length, take, drop, sym, ap, ◌∙◌, arith}
 use Rattle.std.specs.Prelude.{slice_index, slice_range}
-use Rattle.std.proofs.lemmas.List.{length-take, length-drop, length-append, get_or-take, get_or-drop, get_or_append_left, get_or-append_right, take_at, drop_at, length-set}
+use Rattle.std.proofs.lemmas.List.{length-take, length-drop, length-append, take-append-drop, drop-drop, get_or-take, get_or-drop, get_or_append_left, get_or-append_right, take_at, drop_at, length-set}
 use Rattle.std.proofs.lemmas.Grind.{same_number_lists}
 use Rattle.std.proofs.Math.ListN.{set}
 use Rattle.f11_dev.specs.Block.{word_sum}
@@ -120,3 +120,12 @@ IsHeader-sealed b n long header =
       even = ap (λ (words : ℕ). words % 2) (byte 8 (omega arith)) ∙ header.even;
       use_within = omega (arith, byte 8 (omega arith), same_places, header.use_within);
     }
+
+-- the map area put where it stood
+pub with_map-map_area : (b : List ℕ) → map_offset b ≤ 255 → with_map b (map_area b) ≡ b
+with_map-map_area b low =
+    let whole : 2 * map_offset b + (510 - 2 * map_offset b) ≡ 510 = omega (arith, low) in
+    let behind : drop (510 - 2 * map_offset b) (drop (2 * map_offset b) b) ≡ drop 510 b = drop-drop (510 - 2 * map_offset b) (2 * map_offset b) b ∙ ap (λ (k : ℕ). drop k b) whole in
+    ap (λ (rest : List ℕ). take (2 * map_offset b) b ++ (map_area b ++ rest)) (sym behind)
+    ∙ ap (λ (rest : List ℕ). take (2 * map_offset b) b ++ rest) (take-append-drop (510 - 2 * map_offset b) (drop (2 * map_offset b) b))
+    ∙ take-append-drop (2 * map_offset b) b

@@ -16,7 +16,7 @@ pub struct Header<'a> {
 
 impl<'a> Header<'a> {
     ghost use Rattle.f11_header.specs.Lent.{header_block};
-    ghost use Rattle.f11_header.specs.Fields.{ident_offset, map_offset, ident_area, map_area, file_number, file_sequence, owner_member, owner_group, protection, characteristics, attributes};
+    ghost use Rattle.f11_header.specs.Fields.{ident_offset, map_offset, ident_area, map_area, file_number, file_sequence, owner_member, owner_group, protection, characteristics, attributes, segment};
 
     /// The header in a block.
     pub fn new(block: &'a Block) -> Header<'a>
@@ -77,9 +77,10 @@ impl<'a> Header<'a> {
         attributes
     }
 
-    /// The ident area, 46 bytes. The first header of a file has one, and an extension header none.
+    /// The ident area, 46 bytes, which the first header of a file has, and an extension header hasn't.
     pub fn ident(&self) -> &'a [u8]
-        requires { 2 * ident_offset (header_block self.now) + 46 ≤ 510 }
+        requires first { segment (header_block self.now) ≡ 0 }
+        requires within { 2 * ident_offset (header_block self.now) + 46 ≤ 510 }
         ensures area { result.now ≡ ident_area (header_block self.now) }
         ensures len { length result.now ≡ 46 }
     {

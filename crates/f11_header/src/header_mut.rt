@@ -13,7 +13,7 @@ use f11_dev::{Block, sum_words, write_word};
 use f11_store::{FileId, Uic};
 
 /// A file header, written in the block that holds it, without a copy. Each writer changes its field alone, and what is
-/// written to an area that was lent changes that area alone; the header is valid again once it is sealed.
+/// written to an area that was lent changes that area alone; `seal` makes the check word right again.
 #[derive(Drop)]
 pub struct HeaderMut<'a> {
     block: &'a mut Block,
@@ -21,7 +21,7 @@ pub struct HeaderMut<'a> {
 
 impl<'a> HeaderMut<'a> {
     ghost use Rattle.f11_header.specs.Lent.{written_block, lent_name};
-    ghost use Rattle.f11_header.specs.Fields.{ident_offset, map_offset, ident_area, map_area};
+    ghost use Rattle.f11_header.specs.Fields.{ident_offset, map_offset, ident_area, map_area, segment};
     ghost use Rattle.f11_header.specs.Lending.{LendsIdent, LendsMap};
 
     /// The header in a block.
@@ -32,9 +32,10 @@ impl<'a> HeaderMut<'a> {
         HeaderMut { block }
     }
 
-    /// The ident area, 46 bytes, to be written. The first header of a file has one, and an extension header none.
+    /// The ident area, 46 bytes, to be written: the first header of a file has one, and an extension header hasn't.
     pub fn ident_mut(&mut self) -> &mut [u8]
-        requires { 2 * ident_offset (written_block self.old) + 46 ≤ 510 }
+        requires first { segment (written_block self.old) ≡ 0 }
+        requires within { 2 * ident_offset (written_block self.old) + 46 ≤ 510 }
         ensures* writes_back { sem 𝓛 (LendsIdent self.entry result) }
         ensures area { result.now ≡ ident_area (written_block self.old) }
         ensures len { length result.now ≡ 46 }

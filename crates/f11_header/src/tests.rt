@@ -60,7 +60,7 @@ fn header_of_a_fresh_directory(rt: HostRuntime) {
 #[test]
 fn areas_are_lent(rt: HostRuntime) {
     let block = directory_header();
-    assert!(rt; block[0] == 23 && block[1] == 46);
+    assert!(rt; block[0] == 23 && block[1] == 46 && block[92] == 0);
     let header = Header::new(&block);
     let ident = header.ident();
     let map = header.map();
@@ -72,7 +72,7 @@ fn areas_are_lent(rt: HostRuntime) {
 #[test]
 fn areas_are_lent_to_be_written(rt: HostRuntime) {
     let mut block = directory_header();
-    assert!(rt; block[0] == 23 && block[1] == 46);
+    assert!(rt; block[0] == 23 && block[1] == 46 && block[92] == 0);
     let before = block;
     let mut header = HeaderMut::new(&mut block);
     header.ident_mut()[8] = 2;
@@ -86,39 +86,72 @@ fn areas_are_lent_to_be_written(rt: HostRuntime) {
     }
 }
 
+/// What `check` says of a header with these bytes in place of its own, once it is sealed, and of one whose check word is wrong.
+fn checked(header: &Block, bytes: &[(usize, u8)], n: u16) -> [Result<(), HeaderFault>; 2] {
+    let mut block = *header;
+    for (at, value) in bytes {
+        if *at < 512 {
+            block[*at] = *value;
+        }
+    }
+    HeaderMut::new(&mut block).seal();
+    let sealed = check(&block, n);
+    block[510] ^= 1;
+    [sealed, check(&block, n)]
+}
+
 #[test]
 fn each_condition_is_tested(rt: HostRuntime) {
-    for (at, value, valid) in [
-        (0, 22, false),
-        (0, 24, false),
-        (1, 45, false),
-        (1, 251, false),
-        (2, 5, false),
-        (4, 0, false),
-        (6, 2, false),
-        (14, 7, true),
-        (98, 2, false),
-        (99, 4, false),
-        (100, 3, false),
-        (100, 204, true),
-        (100, 206, false),
-        (101, 1, false),
-        (101, 2, true),
+    let header = directory_header();
+    let good = Ok(());
+    let bad = Err(HeaderFault::Bad);
+    for (bytes, outcome) in [
+        ([(2, 5), (14, 1)], bad),
+        ([(4, 0), (14, 1)], bad),
+        ([(6, 2), (14, 1)], bad),
+        ([(7, 0), (14, 1)], bad),
+        ([(14, 7), (15, 7)], good),
+        ([(0, 22), (14, 1)], bad),
+        ([(0, 24), (14, 1)], bad),
+        ([(98, 2), (14, 1)], bad),
+        ([(99, 4), (14, 1)], bad),
+        ([(100, 3), (14, 1)], bad),
+        ([(100, 204), (14, 1)], good),
+        ([(100, 206), (14, 1)], bad),
+        ([(101, 1), (14, 1)], bad),
+        ([(101, 2), (14, 1)], good),
+        ([(101, 3), (100, 4)], bad),
+        ([(101, 255), (100, 204)], good),
+        ([(101, 255), (100, 206)], bad),
     ] {
-        let mut block = directory_header();
-        if at < 512 {
-            block[at] = value;
-        }
-        HeaderMut::new(&mut block).seal();
-        assert_eq!(rt; check(&block, 4).is_ok(), valid, "byte {value} at {at}");
-        block[510] ^= 1;
-        assert_eq!(rt; check(&block, 4), Err(HeaderFault::Bad), "a wrong sum");
+        assert_eq!(rt; checked(&header, &bytes, 4), [outcome, bad], "{bytes:?}");
     }
-    let mut extension = blank_of(7, 2, 0, 1);
-    extension[1] = 46;
-    extension[0] = 46;
-    HeaderMut::new(&mut extension).seal();
-    assert_eq!(rt; check(&extension, 7).is_ok(), true);
+    assert_eq!(rt; check(&header, 3), bad);
+}
+
+#[test]
+fn the_map_area_stands_behind_the_ident_area(rt: HostRuntime) {
+    let empty = blank_of(7, 2, 0, 0);
+    let last = [(1, 250), (506, 1), (507, 3)];
+    assert_eq!(rt; checked(&empty, &last, 7)[0], Ok(()));
+    let past = [(1, 251), (508, 1), (509, 3)];
+    assert_eq!(rt; checked(&empty, &past, 7)[0], Err(HeaderFault::Bad));
+    let before = [(1, 45), (96, 1), (97, 3)];
+    assert_eq!(rt; checked(&empty, &before, 7)[0], Err(HeaderFault::Bad));
+    let extension = blank_of(7, 2, 0, 1);
+    for (ident, outcome) in [
+        (22, Err(HeaderFault::Bad)),
+        (23, Ok(())),
+        (24, Ok(())),
+        (46, Ok(())),
+        (47, Err(HeaderFault::Bad)),
+    ] {
+        assert_eq!(rt;
+            checked(&extension, &[(0, ident)], 7)[0],
+            outcome,
+            "{ident}"
+        );
+    }
 }
 
 #[test]

@@ -1,7 +1,6 @@
 //! What is done to a header's block as a whole.
 ghost use Rattle.std.specs.Prelude.{◌≡◌, ◌≢◌};
-ghost use Rattle.f11_header.specs.Fields.{places, words_in_use};
-ghost use Rattle.f11_header.specs.Header.{IsHeader};
+ghost use Rattle.f11_header.specs.Header.{IsHeader, IsDead, IsEmptyHeader};
 ghost use Rattle.f11_header.specs.Writing.{owner_word, formatted, blank_header, sealed, killed};
 
 use crate::fields::{CHECK_WORD, LEVEL, NUMBER, OWNER, PROTECTION, SEQUENCE};
@@ -13,9 +12,9 @@ use f11_store::{FileId, Uic};
 pub fn blank(block: &mut Block, id: FileId, owner: Uic, protection: u16, segment: u8)
     ensures block { block.new ≡ blank_header id owner protection segment }
 
-    // Once sealed it is a valid header, and no pointer is in use.
+    // Once sealed it is a valid header with these fields and no others, and no pointer is in use.
     ensures valid { id.number ≢ 0 → id.sequence ≢ 0 → IsHeader (sealed block.new) id.number }
-    ensures room { (places block.new ≡ 102) × (words_in_use block.new ≡ 0) }
+    ensures empty { IsEmptyHeader (sealed block.new) id owner protection segment }
 {
     *block = zeros();
     format(block);
@@ -45,7 +44,8 @@ pub fn owner_word(owner: Uic) -> u16
 
 /// Makes the file number and the check word of a header 0, and leaves the rest: the header is dead.
 pub fn kill(block: &mut Block)
-    ensures { block.new ≡ killed block.old }
+    ensures block { block.new ≡ killed block.old }
+    ensures dead { IsDead block.new }
 {
     write_word(block, NUMBER, 0);
     write_word(block, CHECK_WORD, 0);

@@ -78,6 +78,8 @@ IsMapArea-map_area b n size header =
     record {
       in_block = omega (arith, size);
       fields = omega (arith, size, within);
+      count_is = slice_index-map_area b 6 (omega arith) ∙ header.count_is;
+      lbn_is = slice_index-map_area b 7 (omega arith) ∙ header.lbn_is;
       even = ap (λ (w : ℕ). w % 2) in_use ∙ header.even;
       within = omega (arith, in_use, same, header.use_within);
     }

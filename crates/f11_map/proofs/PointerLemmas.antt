@@ -137,7 +137,7 @@ WritesPointers-from old new i n writes long =
       front = same_number_lists (take 8 new) (take 8 old) (omega (arith, length-take 8 new, length-take 8 old))
           (λ k below. let few : k < 8 = omega (arith, length-take 8 new) in get_or-take 8 new k 0 few ∙ writes.others k (λ is. omega arith) (inl (omega arith)) ∙ sym (get_or-take 8 old k 0 few));
       most = writes.others 9 (λ is. omega arith) (inl (omega arith));
-      behind = λ k past_old past_new. writes.others k (λ is. omega arith) (inr (omega arith));
+      behind = λ k past. writes.others k (λ is. omega arith) (inr (omega arith));
     }
 
 -- the places are as many
@@ -152,6 +152,8 @@ IsMapArea-from old new i n writes area few =
     record {
       in_block = omega (arith, area.in_block);
       fields = omega (arith, area.fields);
+      count_is = writes.others 6 (λ is. omega arith) (inl (omega arith)) ∙ area.count_is;
+      lbn_is = writes.others 7 (λ is. omega arith) (inl (omega arith)) ∙ area.lbn_is;
       even = omega (arith, writes.in_use);
       within = omega (arith, writes.in_use, same);
     }
@@ -196,6 +198,8 @@ StaysHeader-with_link m volume number sequence area =
     StaysHeader-from m new long (byte 0 (inl refl)) (byte 6 (inr (omega arith))) (byte 7 (inr (omega arith))) (record {
       in_block = omega (arith, area.in_block);
       fields = omega (arith, area.fields);
+      count_is = byte 6 (inr (omega arith)) ∙ area.count_is;
+      lbn_is = byte 7 (inr (omega arith)) ∙ area.lbn_is;
       even = ap (λ (words : ℕ). words % 2) in_use ∙ area.even;
       within = omega (arith, area.within);
     })

@@ -13,6 +13,13 @@ segment m = slice_index m 0
 abbrev pub link : List ℕ → FileId
 link m = record { number = word m 2; sequence = word m 4; volume = slice_index m 1 }
 
+-- M.CTSZ and M.LBSZ: the sizes of a retrieval pointer's count and LBN
+abbrev pub count_size : List ℕ → ℕ
+count_size m = slice_index m 6
+
+abbrev pub lbn_size : List ℕ → ℕ
+lbn_size m = slice_index m 7
+
 -- M.USE: how many words of retrieval pointers are in use
 abbrev pub words_in_use : List ℕ → ℕ
 words_in_use m = slice_index m 8
@@ -49,9 +56,11 @@ pub record LiesIn (runs : List (ℕ × ℕ)) (place i left : ℕ) : Type 0 where
 abbrev pub places : List ℕ → ℕ
 places m = min (most_words m) ((length m - 10) / 2) / 2
 
--- a map area lies in a block, and has whole pointers, no more than there are places for
+-- a map area lies in a block, and has whole pointers of format 1, no more than there are places for
 pub record IsMapArea (m : List ℕ) : Type 0 where
   pub in_block : length m ≤ 512
   pub fields : 10 ≤ length m
+  pub count_is : count_size m ≡ 1
+  pub lbn_is : lbn_size m ≡ 3
   pub even : words_in_use m % 2 ≡ 0
   pub within : words_in_use m ≤ 2 * places m

@@ -39,12 +39,12 @@ abbrev pub with_words_in_use : List ℕ → ℕ → List ℕ
 with_words_in_use m words = slice_set m 8 words
 
 -- Pointers are written: M.USE and the pointers may change, and all else stays: M.ESQN, the link and the sizes before M.USE,
--- M.MAX, and what stands behind the pointers.
+-- M.MAX, and what stands behind the pointers that there are then.
 pub record WritesPointers (old new : List ℕ) : Type 0 where
   pub size : length new ≡ length old
   pub front : take 8 new ≡ take 8 old
   pub most : most_words new ≡ most_words old
-  pub behind : (i : ℕ) → 10 + 4 * length (runs_of old) ≤ i → 10 + 4 * length (runs_of new) ≤ i → slice_index new i ≡ slice_index old i
+  pub behind : (i : ℕ) → 10 + 4 * length (runs_of new) ≤ i → slice_index new i ≡ slice_index old i
 
 -- A link is written: M.ERVN, M.EFNU and M.EFSQ alone may change, and M.ERVN is 0.
 pub record WritesLink (old new : List ℕ) (id : FileId) : Type 0 where

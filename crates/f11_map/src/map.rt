@@ -95,7 +95,8 @@ impl<'a> Map<'a> {
         blocks
     }
 
-    /// The LBN of block number `place`, from 0, of those that the pointers name; `None` where they name no more.
+    /// The LBN of block number `place`, from 0, of those that the pointers name; `None` where they name no more. It takes at
+    /// most one step a pointer, and no memory.
     pub fn lbn_of(&self, place: u32) -> Option<u32>
         ensures { result ≡ slice_get (blocks_of (area_of self.now)) place }
     {

@@ -26,7 +26,7 @@ impl fmt::Display for MapFull {
 
 impl Error for MapFull {}
 
-/// The map area of a header, written where it stands. The header is valid again once it is sealed.
+/// The map area of a header, written where it stands. A valid header is valid again once it is sealed.
 #[derive(Drop)]
 pub struct MapMut<'a> {
     area: &'a mut [u8],

@@ -2,6 +2,7 @@ ghost use Rattle.std.specs.Prelude.{◌≡◌, ◌<◌, ◌≤◌, ◌^◌, ◌+
 ghost use Rattle.std.specs.List.{range_with_len};
 ghost use Rattle.f11_header.specs.Fields.{map_area};
 ghost use Rattle.f11_header.specs.Header.{IsHeader};
+ghost use Rattle.f11_header.specs.Writing.{sealed};
 ghost use Rattle.f11_map.specs.MapArea.{IsMapArea, blocks_of};
 ghost use Rattle.f11_map.specs.MapWriting.{StaysHeader};
 
@@ -166,7 +167,7 @@ fn append(block: &mut Block, lbn: u32, count: u32) -> Result<(), MapFull>
     requires count { (0 < count) × (count ≤ 256) }
     ensures header { IsHeader block.new 6 }
     ensures blocks { IsOk result → blocks_of (map_area block.new) ≡ blocks_of (map_area block.old) ++ range_with_len lbn count }
-    ensures unchanged { IsErr result → map_area block.new ≡ map_area block.old }
+    ensures unchanged { IsErr result → block.new ≡ sealed block.old }
 {
     let mut header = HeaderMut::new(block);
     let answer = append_to(header.map_mut(), lbn, count);

@@ -56,12 +56,12 @@ fn append(area: &mut [u8], lbn: u32, count: u32)
     let _ = MapMut::new(area).append(lbn, count);
 }
 
-/// Names header `n` and adds these blocks to those that it names.
+/// Names header `n`, the first one of its file, and adds these blocks to those that it names.
 fn fill(rt: &impl Abort, block: &mut Block, n: u16, words: &[u16; 5], runs: &[(u32, u32)]) {
     let mut header = HeaderMut::new(block);
     header.seal();
     assert_eq!(rt; check(block, n), Ok(()));
-    assert!(rt; block[0] == 23);
+    assert!(rt; block[0] == 23 && block[1] == 46 && block[92] == 0);
     let mut header = HeaderMut::new(block);
     put_name(header.ident_mut(), words);
     for (lbn, count) in runs {
@@ -98,7 +98,8 @@ fn data_header(rt: &impl Abort, words: &[u16; 5]) -> Block {
     block
 }
 
-/// Header 7, the second one of a file of [200,7] with header 9 as its third, with a name in its ident area.
+/// Header 7, the second one of a file of [200,7] with header 9 as its third, and with the words of a name where a
+/// first header has its ident area.
 fn extension_header(rt: &impl Abort) -> Block {
     let owner = Uic {
         group: 0o200,
@@ -108,7 +109,13 @@ fn extension_header(rt: &impl Abort) -> Block {
     HeaderMut::new(&mut block).set_characteristics(0o100200);
     write_word(&mut block, 94, 9);
     write_word(&mut block, 96, 513);
-    fill(rt, &mut block, 7, &[1600, 0, 0, 32980, 1], &[(0x1_3412, 1)]);
+    for (i, word) in [1600, 0, 0, 32980, 1].iter().enumerate() {
+        if i < 5 {
+            write_word(&mut block, 46 + 2 * i, *word);
+        }
+    }
+    add(rt, &mut block, 7, 0x1_3412, 1);
+    HeaderMut::new(&mut block).seal();
     block
 }
 

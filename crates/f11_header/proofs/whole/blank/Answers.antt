@@ -1,9 +1,8 @@
-use Rattle.std.proofs.Common.{ap, ◌∙◌, subst, sym}
+use Rattle.std.proofs.Common.{ap, ◌∙◌, subst, sym, rules}
 use Rattle.f11_dev.specs.Block.{with_word}
 use Rattle.f11_header.specs.Writing.{formatted, owner_word, sealed}
-use Rattle.f11_header.specs.Header.{IsHeader}
-use Rattle.f11_header.specs.Fields.{places, words_in_use}
-use Rattle.f11_header.proofs.BlankLemmas.{IsHeader-blank_header, places-blank_header, words_in_use-blank_header}
+use Rattle.f11_header.specs.Header.{IsHeader, IsEmptyHeader}
+use Rattle.f11_header.proofs.BlankLemmas.{IsHeader-blank_header, IsEmptyHeader-blank_header}
 use Rattle.f11_header.proofs.whole.blank.Goals as goal
 
 -- each write in its turn
@@ -20,8 +19,7 @@ pub returns-clause-valid : goal.returns-clause-valid
 returns-clause-valid c = λ some_number some_sequence.
     subst (λ b. IsHeader (sealed b) c.args.id.number) (sym (returns-clause-block c)) (IsHeader-blank_header c.args.id c.args.owner c.args.protection c.args.segment some_number some_sequence)
 
-pub returns-clause-room : goal.returns-clause-room
-returns-clause-room c = (
-  ap places (returns-clause-block c) ∙ places-blank_header c.args.id c.args.owner c.args.protection c.args.segment,
-  ap words_in_use (returns-clause-block c) ∙ words_in_use-blank_header c.args.id c.args.owner c.args.protection c.args.segment,
-)
+pub returns-clause-empty : goal.returns-clause-empty
+returns-clause-empty c =
+    subst (λ b. IsEmptyHeader (sealed b) c.args.id c.args.owner c.args.protection c.args.segment) (sym (returns-clause-block c))
+    (IsEmptyHeader-blank_header c.args.id c.args.owner c.args.protection c.args.segment (search rules) (search rules) (search rules))

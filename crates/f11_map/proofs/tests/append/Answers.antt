@@ -1,9 +1,9 @@
-use Rattle.std.proofs.Common.{◌≡◌, ◌++◌, ℕ, List, length, rules, subst, sym, ap, ◌∙◌, arith}
+use Rattle.std.proofs.Common.{◌≡◌, ◌≤◌, ◌++◌, ℕ, List, length, rules, subst, sym, ap, ◌∙◌, arith}
 use Rattle.std.specs.List.{range_with_len}
-use Rattle.f11_header.specs.Fields.{map_area}
+use Rattle.f11_header.specs.Fields.{map_offset, map_area}
 use Rattle.f11_header.specs.Header.{IsHeader}
 use Rattle.f11_header.specs.Writing.{sealed, with_map}
-use Rattle.f11_header.proofs.AreaLemmas.{length-map_area, length-with_map, map_area-with_map, map_area-sealed, IsHeader-sealed}
+use Rattle.f11_header.proofs.AreaLemmas.{length-map_area, length-with_map, map_area-with_map, map_area-sealed, with_map-map_area, IsHeader-sealed}
 use Rattle.f11_map.specs.MapArea.{blocks_of}
 use Rattle.f11_map.proofs.tests.append.Goals as goal
 
@@ -35,6 +35,6 @@ returns-clause-unchanged c =
     let b = c.args.block.now in
     let map = c.append_to-answer.new.area in
     let lent = c.map_mut.ensures.area ∙ ap map_area c.new-header.ensures.block in
-    let put = map_area-put b map 6 c.told-block c.requires.header (c.append_to-answer.ensures.size ∙ ap length lent) in
     let end : c.block-1.given.0 ≡ sealed (with_map b map) = search rules in
-    (λ full. ap map_area end ∙ put ∙ c.append_to-answer.ensures.unchanged full ∙ lent)
+    let low : map_offset b ≤ 250 = c.requires.header.map_within in
+    (λ full. end ∙ ap (λ area. sealed (with_map b area)) (c.append_to-answer.ensures.unchanged full ∙ lent) ∙ ap sealed (with_map-map_area b (omega (arith, low))))

@@ -13,6 +13,8 @@ unfolding zero_block
 IsMapArea-blank_header id owner protection segment = record {
   in_block = omega arith;
   fields = omega arith;
+  count_is = refl;
+  lbn_is = refl;
   even = refl;
   within = omega arith;
 }
