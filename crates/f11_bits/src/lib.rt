@@ -7,8 +7,6 @@
 
 mod bits;
 mod storage;
-#[cfg(test)]
-mod tests;
 
 pub use bits::{count_free, first_run, word_sum};
 pub use storage::{MAX_PLACES, Storage};

@@ -1,7 +1,6 @@
 //! A device in a file.
-ghost use Rattle.std.specs.Prelude.{◌≡◌, ◌*◌, min, ◌≤◌, ◌<◌, ◌^◌, false, IfOk, Some, codes, length};
-ghost use Rattle.f11_dev.specs.Image.{IsImage, zero_image};
-ghost use Rattle.f11_dev.specs.Disk.{fresh};
+ghost use Rattle.std.specs.Prelude.{◌≡◌, ◌*◌, min, ◌≤◌, ◌<◌, ◌^◌, IfOk, Some, codes, length};
+ghost use Rattle.f11_dev.specs.Image.{IsImage};
 ghost use Rattle.f11_dev.specs.Written.{written_image};
 ghost use Rattle.f11_dev.specs.declared.file_image.TheConstants.{MAX_BLOCKS};
 
@@ -9,8 +8,9 @@ use crate::outcomes::Outcomes;
 use crate::written::Written;
 use crate::{BLOCK_SIZE, Block, Device, DeviceFault};
 use std::error::Error;
-use std::fs::{OpenFile, OpenOptions};
-use std::os::unix::fs::FileExt;
+use std::fs::{Metadata, OpenFile, OpenOptions};
+use std::io::{Seek, SeekFrom};
+use std::os::unix::fs::{FileExt, FileTypeExt};
 use std::rt::Files;
 use std::{fmt, io};
 
@@ -52,21 +52,47 @@ pub struct FileImage<F> {
     ghost size: { length (written_image blocks written) ≡ blocks },
 }
 
-impl<F: FileExt + OpenFile + Drop> FileImage<F> {
-    ghost use Rattle.f11_dev.specs.FileImage.{file_disk};
+impl<F: FileExt + OpenFile + Seek + Drop> FileImage<F> {
+    ghost use Rattle.f11_dev.specs.FileImage.{file_disk, IsMade, IsOpened};
 
-    /// Opens a file to read and write, or where that isn't allowed to read alone: then each write fails.
+    /// Opens a file, or a block device, to read and write.
     ///
     /// Its blocks are its length divided by 512, rounded down, and [`MAX_BLOCKS`] at most.
+    ///
+    /// # Errors
+    ///
+    /// `CannotOpen` where the system doesn't open it so, and where it is no file or block device: a directory, a pipe, a
+    /// terminal, the null device.
     pub fn open<R: Files<File = F>>(rt: &R, path: &str) -> Result<FileImage<F>, CannotOpen>
-        ensures { IfOk result (λ image. (file_disk image ≡ fresh false (zero_image (length (file_disk image).image)))
-            × (length (file_disk image).image ≤ MAX_BLOCKS)) }
+        ensures { IfOk result (λ image. IsOpened (file_disk image)) }
     {
-        let file = match OpenOptions::new().read(true).write(true).open(rt, path) {
-            Ok(file) => file,
-            Err(_) => OpenOptions::new().read(true).open(rt, path)?,
-        };
-        let blocks = blocks_of(&file)?;
+        FileImage::opened(rt, path, OpenOptions::new().read(true).write(true))
+    }
+
+    /// Opens a file, or a block device, to read alone: each write to it fails. All else is as for [`FileImage::open`].
+    ///
+    /// # Errors
+    ///
+    /// `CannotOpen` as for [`FileImage::open`].
+    pub fn open_to_read<R: Files<File = F>>(rt: &R, path: &str) -> Result<FileImage<F>, CannotOpen>
+        ensures { IfOk result (λ image. IsOpened (file_disk image)) }
+    {
+        FileImage::opened(rt, path, OpenOptions::new().read(true))
+    }
+
+    /// What no image can be isn't opened, since opening a pipe may wait.
+    fn opened<R: Files<File = F>>(
+        rt: &R,
+        path: &str,
+        how: &OpenOptions,
+    ) -> Result<FileImage<F>, CannotOpen>
+        ensures { IfOk result (λ image. IsOpened (file_disk image)) }
+    {
+        if !is_image(&rt.metadata(path)?) {
+            return Err(CannotOpen);
+        }
+        let mut file = how.open(rt, path)?;
+        let blocks = blocks_of(&mut file)?;
         Ok(FileImage::of(file, blocks))
     }
 
@@ -77,7 +103,7 @@ impl<F: FileExt + OpenFile + Drop> FileImage<F> {
         path: &str,
         blocks: u32,
     ) -> Result<FileImage<F>, CannotOpen>
-        ensures { IfOk result (λ image. file_disk image ≡ fresh false (zero_image (min blocks MAX_BLOCKS))) }
+        ensures { IfOk result (λ image. IsMade (file_disk image) (min blocks MAX_BLOCKS)) }
     {
         let file = OpenOptions::new()
             .read(true)
@@ -89,7 +115,7 @@ impl<F: FileExt + OpenFile + Drop> FileImage<F> {
     }
 
     fn of(file: F, blocks: u32) -> FileImage<F>
-        ensures { file_disk result ≡ fresh false (zero_image blocks) }
+        ensures { IsMade (file_disk result) blocks }
     {
         FileImage {
             file,
@@ -132,10 +158,24 @@ fn byte_of(lbn: u32) -> u64
     u64::from(lbn) * BLOCK_SIZE as u64
 }
 
-/// How many blocks of a file are used.
-fn blocks_of(file: &impl OpenFile) -> io::Result<u32>
+/// Whether a file, or a block device.
+fn is_image(metadata: &Metadata) -> bool {
+    metadata.is_file() || metadata.file_type().is_block_device()
+}
+
+/// How many blocks of a file, or a block device, are used.
+fn blocks_of<F: OpenFile + Seek>(file: &mut F) -> Result<u32, CannotOpen>
     ensures { IfOk result (λ blocks. blocks ≤ MAX_BLOCKS) }
 {
-    let blocks = file.metadata()?.len() / BLOCK_SIZE as u64;
+    let metadata = file.metadata()?;
+    if !is_image(&metadata) {
+        return Err(CannotOpen);
+    }
+    let bytes = if metadata.is_file() {
+        metadata.len()
+    } else {
+        file.seek(SeekFrom::End(0))?
+    };
+    let blocks = bytes / BLOCK_SIZE as u64;
     Ok(blocks.min(u64::from(MAX_BLOCKS)) as u32)
 }

@@ -18,8 +18,6 @@ mod liar;
 mod memory;
 mod no_memory;
 mod outcomes;
-#[cfg(test)]
-mod tests;
 mod words;
 mod written;
 

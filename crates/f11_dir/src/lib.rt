@@ -12,8 +12,6 @@
 mod edit;
 mod record;
 mod search;
-#[cfg(test)]
-mod tests;
 
 pub use edit::{clear, put};
 pub use record::Record;

@@ -9,8 +9,6 @@ mod bytes;
 mod fields;
 mod header;
 mod header_mut;
-#[cfg(test)]
-mod tests;
 mod validity;
 mod whole;
 

@@ -6,8 +6,6 @@
 
 mod block;
 mod home;
-#[cfg(test)]
-mod tests;
 
 pub use block::seal;
 pub use home::{Home, HomeFault, find};

@@ -5,8 +5,6 @@ mod fields;
 mod map;
 mod map_mut;
 mod pointer;
-#[cfg(test)]
-mod tests;
 
 pub use map::Map;
 pub use map_mut::{MapFull, MapMut};

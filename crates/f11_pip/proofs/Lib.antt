@@ -1,4 +1,2 @@
-pub mod DumpLemmas
-pub mod LabelLemmas
 pub mod OctalLemmas
 pub mod WordsLemmas

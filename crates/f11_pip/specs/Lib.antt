@@ -1,9 +1,4 @@
 pub mod Commands
-pub mod Dump
-pub mod Home
-pub mod Label
-pub mod Name
 pub mod Octal
 pub mod Outcome
-pub mod Rights
 pub mod Words

@@ -2,8 +2,10 @@
 use Rattle.std.specs.Prelude.{ℕ, List, codes, Result, Ok, Err}
 use Rattle.clap.specs.declared.error.kind.ErrorKind.{ErrorKind}
 use Rattle.clap.specs.declared.error.kind.ErrorKind.TheVariants.{OutOfMemory}
-use Rattle.f11_pip.specs.declared.outcome.Answer.{Answer}
-use Rattle.f11_pip.specs.declared.outcome.Answer.TheVariants.{Done, Fault}
+use Rattle.f11_commands.specs.declared.outcome.Answer.{Answer}
+use Rattle.f11_commands.specs.declared.outcome.Answer.TheVariants.{Done, Fault}
+use Rattle.f11_commands.specs.declared.outcome.Failure.{Failure as CommandFailure}
+use Rattle.f11_commands.specs.declared.outcome.Failure.TheVariants as commands
 use Rattle.f11_pip.specs.declared.outcome.Failure.{Failure}
 use Rattle.f11_pip.specs.declared.outcome.Failure.TheVariants.{Usage, CannotOpen, DeviceFault, CannotWrite, NoMemory}
 
@@ -29,3 +31,8 @@ failure_line NoMemory = codes "f11_pip: no memory"
 abbrev pub failure_of_kind : ErrorKind → Failure
 failure_of_kind OutOfMemory = NoMemory
 failure_of_kind _ = Usage
+
+-- a command's failure is the program's of that name
+abbrev pub failure_of_command : CommandFailure → Failure
+failure_of_command commands.DeviceFault = DeviceFault
+failure_of_command commands.CannotWrite = CannotWrite

@@ -1,62 +1,110 @@
 //! The program: `f11_pip COMMAND ..` works on Files-11 volumes in image files.
 //!
-//! Each command is a public function over devices and a writer, whose contract says which lines it writes and what
-//! it answers. [`main`] reads the words, opens the files in their order, and ends with the [`status`] of the outcome.
-//! The crate stands on [`f11_dev`], for devices, on [`f11_home`], for home blocks, on [`f11_header`] and [`f11_map`], for
-//! file headers, on [`f11_rad50`], for names, on [`f11_store`], for rights, and on [`clap`], for the words.
+//! [`main`] reads the words, opens the files in their order, calls the command's function of [`f11_commands`], and ends with
+//! the [`status`] of the outcome. The crate stands on [`f11_dev`], for images, on [`f11_rad50`] and [`f11_store`], for
+//! what words spell, and on [`clap`], for the words.
 #![tactic(auto)]
 
-mod dump;
-mod home;
-mod label;
-mod name;
+mod help;
 mod octal;
 mod outcome;
-mod rights;
 mod words;
 
+use f11_commands::{Answer, print_home, print_name, print_rights};
 use f11_dev::FileImage;
-use outcome::{Answer, Failure, status};
+use outcome::{Failure, status};
 use std::env;
-use std::io::{self, ErrorKind, Write};
+use std::fs::File;
+use std::io::{self, BufWriter, ErrorKind, Write};
 use std::process::ExitCode;
 use words::Words;
 
 fn main(rt: HostRuntime) -> ExitCode {
-    let outcome = answer(&rt);
-    if let Err(failure) = outcome {
-        let _ = eprintln!(rt; "{failure}");
-    }
+    let outcome = match Start::new(&rt) {
+        Ok(start) => told(
+            &rt,
+            answer(&rt, start.words.as_slice()),
+            start.words.as_slice(),
+        ),
+        Err(failure) => told(&rt, Err(failure), &[]),
+    };
     ExitCode::from(status(outcome))
 }
 
-/// Does what the command line asks for.
-fn answer(rt: &HostRuntime) -> Result<Answer, Failure> {
-    let words: Vec<String> = env::args(rt).map_err(args_failure)?.collect(rt.alloc())?;
-    let words = words::parse(rt.alloc(), words.as_slice())?;
-    run(rt, words, &mut io::writer(rt))
+/// What the program starts with.
+#[derive(Drop)]
+struct Start {
+    /// The words of the command line, of which the first is the program's name.
+    words: Vec<String>,
+    /// The null device, three times. Where one of the standard descriptors 0, 1 and 2 was closed, it is taken by one of
+    /// these: so no file that is opened later becomes standard output. They are open to be read alone.
+    null: [File; 3],
+}
+
+impl Start {
+    fn new(rt: &HostRuntime) -> Result<Start, Failure> {
+        let null = [null(rt)?, null(rt)?, null(rt)?];
+        let words = env::args(rt).map_err(failure_of)?.collect(rt.alloc())?;
+        Ok(Start { words, null })
+    }
+}
+
+fn null(rt: &HostRuntime) -> Result<File, Failure> {
+    File::open(rt, "/dev/null").map_err(|_| Failure::CannotOpen)
+}
+
+/// Says on standard error why the work isn't done, and at wrong words the words of the command that was meant.
+fn told(
+    rt: &HostRuntime,
+    outcome: Result<Answer, Failure>,
+    words: &[String],
+) -> Result<Answer, Failure> {
+    if let Err(failure) = outcome {
+        let _ = eprintln!(rt; "{failure}");
+        if failure == Failure::Usage
+            && !help::is_asked(words)
+            && let Some(meant) = help::meant(words)
+        {
+            let _ = eprintln!(rt; "{meant}");
+        }
+    }
+    outcome
+}
+
+/// Does what the words ask for. Standard output is written in pieces of 8 KiB, the last one here.
+fn answer(rt: &HostRuntime, words: &[String]) -> Result<Answer, Failure> {
+    let mut writer = BufWriter::new(rt.alloc(), io::writer(rt)).map_err(failure_of)?;
+    let outcome = if help::is_asked(words) {
+        help::write_all(&mut writer)
+            .map_err(Failure::from)
+            .and(Err(Failure::Usage))
+    } else {
+        words::parse(rt.alloc(), words).and_then(|words| run(rt, words, &mut writer))
+    };
+    let flushed = writer.flush();
+    let answer = outcome?;
+    flushed?;
+    Ok(answer)
 }
 
 /// Opens the files that the words name, in their order, and does the work.
 fn run<W: Write>(rt: &HostRuntime, words: Words<'_>, writer: &mut W) -> Result<Answer, Failure> {
-    match words {
-        Words::Home { image } => home::home(&mut FileImage::open(rt, image)?, writer),
-        Words::Name { text } => name::name(text, writer),
+    let answer = match words {
+        Words::Home { image } => print_home(&mut FileImage::open_to_read(rt, image)?, writer)?,
+        Words::Name { text } => print_name(text, writer)?,
         Words::Rights {
             caller,
             owner,
             protection,
-        } => rights::rights(caller, owner, protection, writer),
-    }
+        } => print_rights(caller, owner, protection, writer)?,
+    };
+    Ok(answer)
 }
 
-/// Why the words can't be had: one of them is no text, or no memory is left.
-fn args_failure(error: io::Error) -> Failure {
+/// Why the words, or room for output, can't be had: a word is no text, or no memory is left.
+fn failure_of(error: io::Error) -> Failure {
     match error.kind() {
         ErrorKind::OutOfMemory => Failure::NoMemory,
         _ => Failure::Usage,
     }
 }
-
-#[cfg(test)]
-mod tests;

@@ -5,20 +5,12 @@ ghost use Rattle.f11_pip.specs.Outcome.{failure_of_kind, status_of};
 ghost use Rattle.f11_pip.specs.declared.outcome.Failure.TheVariants as failures;
 
 use clap::error::ErrorKind;
-use f11_dev::{CannotOpen, DeviceFault, NoMemory};
+use f11_commands::Answer;
+use f11_dev::{CannotOpen, NoMemory};
 use std::alloc::AllocError;
 use std::{fmt, io};
 
-/// What a command answers when its work is done. Its lines are on standard output.
-#[derive(Clone, Copy, Debug, PartialEq, Eq)]
-pub enum Answer {
-    /// All is well.
-    Done,
-    /// A fault of the volume, or a name or parameter that can't be.
-    Fault,
-}
-
-/// Why a command's work isn't done. Its line is on standard error.
+/// Why the work isn't done. Its line is on standard error.
 #[derive(Clone, Copy, Debug, PartialEq, Eq)]
 pub enum Failure {
     /// The words don't parse, ask for help, or there are none.
@@ -58,15 +50,21 @@ impl From<CannotOpen> for Failure {
     }
 }
 
-impl From<DeviceFault> for Failure {
-    ghost from_gives = { λ _ failure. failure ≡ failures.DeviceFault };
+/// A command's failure is the program's.
+impl From<f11_commands::Failure> for Failure {
+    ghost use Rattle.f11_pip.specs.Outcome.{failure_of_command};
 
-    fn from(_: DeviceFault) -> Self {
-        Failure::DeviceFault
+    ghost from_gives = { λ command failure. failure ≡ failure_of_command command };
+
+    fn from(failure: f11_commands::Failure) -> Self {
+        match failure {
+            f11_commands::Failure::DeviceFault => Failure::DeviceFault,
+            f11_commands::Failure::CannotWrite => Failure::CannotWrite,
+        }
     }
 }
 
-/// An error of a command's writer.
+/// An error of standard output.
 impl From<io::Error> for Failure {
     ghost from_gives = { λ _ failure. failure ≡ failures.CannotWrite };
 

@@ -9,8 +9,6 @@ mod errors;
 mod file_name;
 mod pieces;
 mod radix50;
-#[cfg(test)]
-mod tests;
 
 pub use errors::{BadCharacter, BadName, NoMemory};
 pub use file_name::Name;

@@ -17,6 +17,3 @@ pub use files::{Attr, Change, FileId, Mode};
 pub use protection::{Class, Right, Rights, allowed, may};
 pub use refusals::Refusal;
 pub use requests::{Reply, Request};
-
-#[cfg(test)]
-mod tests;

@@ -1,0 +1,2 @@
+pub mod DumpLemmas
+pub mod LabelLemmas

@@ -1,0 +1,88 @@
+-- What a block holds as a file header, in lines (profile).
+use Rattle.std.specs.Prelude.{◌≡◌, ◌≢◌, ℕ, false, List, [], ◌∷◌, ◌++◌, codes}
+use Rattle.std.specs.Fmt.{decimal, digits}
+use Rattle.std.specs.List.{concat, flat_map}
+use Rattle.f11_dev.specs.Block.{word}
+use Rattle.f11_header.specs.Fields.{file_number, file_sequence, owner_group, owner_member, protection, characteristics, check_word, ident_area, map_area}
+use Rattle.f11_header.specs.Header.{IsDead, IsHeader}
+use Rattle.f11_map.specs.MapArea.{link, runs_of, segment}
+use Rattle.f11_rad50.specs.Name.{IsName, name_text}
+use Rattle.f11_commands.specs.declared.dump.Fields.{Fields}
+
+-- a number in octal, without leading zeros; 0 is `0`
+abbrev pub octal_digits : ℕ → List ℕ
+octal_digits n = digits 8 false n
+
+-- the fields of a header that its line shows; the next header of the file is that of the link
+abbrev pub fields_of : List ℕ → Fields
+fields_of b = record {
+  id = record { number = file_number b; sequence = file_sequence b; volume = 0 };
+  segment = segment (map_area b);
+  owner = record { group = owner_group b; member = owner_member b };
+  protection = protection b;
+  characteristics = characteristics b;
+  link = link (map_area b);
+  sum = check_word b;
+}
+
+-- the line of the fields of header n: owner, protection word and characteristics in octal, all else in decimal
+abbrev pub fields_line : ℕ → Fields → List ℕ
+fields_line n fields = concat (codes "header " ∷ decimal n
+    ∷ codes " file " ∷ decimal fields.id.number ∷ codes "," ∷ decimal fields.id.sequence
+    ∷ codes " segment " ∷ decimal fields.segment
+    ∷ codes " owner [" ∷ octal_digits fields.owner.group ∷ codes "," ∷ octal_digits fields.owner.member
+    ∷ codes "] prot " ∷ octal_digits fields.protection
+    ∷ codes " char " ∷ octal_digits fields.characteristics
+    ∷ codes " link " ∷ decimal fields.link.number ∷ codes "," ∷ decimal fields.link.sequence
+    ∷ codes " sum " ∷ decimal fields.sum
+    ∷ codes " good" ∷ (10 ∷ []) ∷ [])
+
+-- the line of a valid header n
+abbrev pub header_line : List ℕ → ℕ → List ℕ
+header_line b n = fields_line n (fields_of b)
+
+-- the five words at the front of an ident area: three of the name, type, version
+abbrev pub name_words : List ℕ → List ℕ
+name_words ident = word ident 0 ∷ word ident 2 ∷ word ident 4 ∷ word ident 6 ∷ word ident 8 ∷ []
+
+-- the line of a name
+abbrev pub name_line : List ℕ → List ℕ
+name_line words = codes "name " ++ (name_text words ++ 10 ∷ [])
+
+-- the line of five words: that of their name, and a question mark where they are none
+pub record IsNameLine (words line : List ℕ) : Type 0 where
+  pub name : IsName words → line ≡ name_line words
+  pub no_name : ¬ IsName words → line ≡ codes "name ?" ++ 10 ∷ []
+
+-- a file's first header, of segment 0, has the line of its ident area's name, and no other header has one
+pub record IsNamePart (b part : List ℕ) : Type 0 where
+  pub first : segment (map_area b) ≡ 0 → IsNameLine (name_words (ident_area b)) part
+  pub extension : segment (map_area b) ≢ 0 → part ≡ []
+
+-- the line of a retrieval pointer: the LBN of its first block, and how many blocks it names
+abbrev pub run_line : ℕ × ℕ → List ℕ
+run_line run = codes "run " ++ (decimal run.0 ++ (codes " " ++ (decimal run.1 ++ 10 ∷ [])))
+
+-- a line for each retrieval pointer, in order
+abbrev pub run_lines : List (ℕ × ℕ) → List ℕ
+run_lines runs = flat_map run_line runs
+
+-- the lines of a valid header n: its fields, its name, its retrieval pointers
+pub record IsHeaderText (b : List ℕ) (n : ℕ) (text : List ℕ) : Type 0 where
+  pub name : List ℕ
+  pub is_name : IsNamePart b name
+  pub is_text : text ≡ header_line b n ++ (name ++ run_lines (runs_of (map_area b)))
+
+-- the line of a dead header
+abbrev pub dead_line : ℕ → List ℕ
+dead_line n = codes "header " ++ (decimal n ++ (codes " dead" ++ 10 ∷ []))
+
+-- the line of a block that isn't dead and is no valid header n
+abbrev pub bad_line : ℕ → List ℕ
+bad_line n = codes "header " ++ (decimal n ++ (codes " bad" ++ 10 ∷ []))
+
+-- what a block holds as header n
+pub record IsDump (b : List ℕ) (n : ℕ) (text : List ℕ) : Type 0 where
+  pub valid : IsHeader b n → IsHeaderText b n text
+  pub dead : IsDead b → text ≡ dead_line n
+  pub bad : ¬ IsHeader b n → ¬ IsDead b → text ≡ bad_line n

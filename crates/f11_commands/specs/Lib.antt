@@ -1,0 +1,5 @@
+pub mod Dump
+pub mod Home
+pub mod Label
+pub mod Name
+pub mod Rights

@@ -1,0 +1,165 @@
+//! What a block holds, line by line.
+ghost use Rattle.std.specs.Prelude.{◌≡◌, ℕ, List, length, IfErr, IfOk, OnOk};
+ghost use Rattle.std.specs.Io.KnownBytes.{Appends};
+ghost use Rattle.f11_header.specs.Fields.{file_number};
+ghost use Rattle.f11_header.specs.Header.{IsHeader};
+ghost use Rattle.f11_map.specs.Map.{area_of};
+ghost use Rattle.f11_map.specs.MapArea.{runs_of};
+ghost use Rattle.f11_commands.specs.Dump.{IsDump, IsHeaderText, IsNamePart, fields_line, name_line, name_words, run_lines};
+
+use crate::outcome::{Answer, Failure};
+use f11_dev::{Block, read_word};
+use f11_header::{Header, HeaderFault, check};
+use f11_map::Map;
+use f11_rad50::Name;
+use f11_store::{FileId, Uic};
+use std::io::{self, Write};
+
+/// H.CKSM, a word of a header: its check word (Files-11 On-Disk Structure Level 1, "File Header").
+const CHECK_WORD: usize = 510;
+
+/// The fields of a header that its line shows.
+#[derive(Clone, Copy)]
+struct Fields {
+    /// The header's own file number and file sequence number.
+    id: FileId,
+    /// The segment number, 0 in the first header of a file.
+    segment: u8,
+    owner: Uic,
+    protection: u16,
+    characteristics: u16,
+    /// The next header of the file; file number 0 is none.
+    link: FileId,
+    /// The check word.
+    sum: u16,
+}
+
+impl Fields {
+    ghost use Rattle.f11_commands.specs.Dump.{fields_of};
+
+    /// The fields of a valid header.
+    fn of(block: &Block) -> Fields
+        requires { IsHeader block.now (file_number block.now) }
+        ensures { result ≡ fields_of block.now }
+    {
+        let header = Header::new(block);
+        let map = Map::of(&header);
+        Fields {
+            id: header.id(),
+            segment: map.segment(),
+            owner: header.owner(),
+            protection: header.protection(),
+            characteristics: header.characteristics(),
+            link: map.link(),
+            sum: read_word(block, CHECK_WORD),
+        }
+    }
+}
+
+/// Writes what a block holds as header `n`.
+///
+/// For a valid header: `header N file F,S segment G owner [g,m] prot W char C link F,S sum X good`, then in segment 0,
+/// which is a file's first header, `name NAME.TYP;VERSION`, or `name ?` where the ident area has no name, and then
+/// `run LBN COUNT` for each retrieval pointer, in blocks. Else one line: `header N dead` where the file number is 0,
+/// and else `header N bad`. Owner, protection word and characteristics are octal, all else is decimal (profile).
+///
+/// # Errors
+///
+/// [`Failure::CannotWrite`] where the writer takes no more: then it may hold a part of the lines.
+pub fn dump_header<W: Write>(writer: &mut W, block: &Block, n: u16) -> Result<Answer, Failure>
+    ensures text { IfOk result (λ answer. (answer ≡ Answer.Done) × ((text : List ℕ) × IsDump block.now n text
+        × Appends (W.contents writer.old) (W.contents writer.new) text)) }
+    ensures failures { IfErr result (λ failure. failure ≡ Failure.CannotWrite) }
+{
+    match check(block, n) {
+        Ok(()) => write_header(writer, block, n)?,
+        Err(HeaderFault::Dead) => writeln!(writer, "header {n} dead")?,
+        Err(HeaderFault::Bad) => writeln!(writer, "header {n} bad")?,
+    }
+    Ok(Answer::Done)
+}
+
+/// Writes the lines of a valid header.
+fn write_header<W: Write>(writer: &mut W, block: &Block, n: u16) -> io::Result<()>
+    requires { IsHeader block.now n }
+    ensures { OnOk result ((text : List ℕ) × IsHeaderText block.now n text
+        × Appends (W.contents writer.old) (W.contents writer.new) text) }
+{
+    let fields = Fields::of(block);
+    write_fields(writer, n, &fields)?;
+    write_name(writer, block)?;
+    let map = Map::of(&Header::new(block));
+    write_runs(writer, &map)
+}
+
+/// Writes the line of the fields of a valid header.
+fn write_fields<W: Write>(writer: &mut W, n: u16, fields: &Fields) -> io::Result<()>
+    ensures { OnOk result (Appends (W.contents writer.old) (W.contents writer.new) (fields_line n fields.now)) }
+{
+    let Fields {
+        id,
+        segment,
+        owner,
+        protection,
+        characteristics,
+        link,
+        sum,
+    } = *fields;
+    writeln!(
+        writer,
+        "header {n} file {},{} segment {segment} owner [{:o},{:o}] prot {protection:o} char {characteristics:o} link {},{} sum {sum} good",
+        id.number, id.sequence, owner.group, owner.member, link.number, link.sequence
+    )
+}
+
+/// Writes the line of the name in a valid header of segment 0, and nothing in any other.
+fn write_name<W: Write>(writer: &mut W, block: &Block) -> io::Result<()>
+    requires { IsHeader block.now (file_number block.now) }
+    ensures { OnOk result ((part : List ℕ) × IsNamePart block.now part
+        × Appends (W.contents writer.old) (W.contents writer.new) part) }
+{
+    let header = Header::new(block);
+    if Map::of(&header).segment() != 0 {
+        return Ok(());
+    }
+    match Name::from_words(words_of(header.ident())) {
+        Some(name) => write_name_line(writer, &name),
+        None => writeln!(writer, "name ?"),
+    }
+}
+
+/// Writes the line of a name.
+fn write_name_line<W: Write>(writer: &mut W, name: &Name) -> io::Result<()>
+    ensures { OnOk result (Appends (W.contents writer.old) (W.contents writer.new) (name_line name.now)) }
+{
+    let mut text = [0; 19];
+    let length = name.spell(&mut text);
+    writer.write_all(b"name ")?;
+    writer.write_all(&text[..length])?;
+    writer.write_all(b"\n")
+}
+
+/// The five words at the front of an ident area.
+fn words_of(ident: &[u8]) -> [u16; 5]
+    requires { length ident.now ≡ 46 }
+    ensures { result ≡ name_words ident.now }
+{
+    [
+        u16::from_le_bytes([ident[0], ident[1]]),
+        u16::from_le_bytes([ident[2], ident[3]]),
+        u16::from_le_bytes([ident[4], ident[5]]),
+        u16::from_le_bytes([ident[6], ident[7]]),
+        u16::from_le_bytes([ident[8], ident[9]]),
+    ]
+}
+
+/// Writes the lines of the retrieval pointers.
+fn write_runs<W: Write>(writer: &mut W, map: &Map<'_>) -> io::Result<()>
+    ensures { OnOk result (Appends (W.contents writer.old) (W.contents writer.new) (run_lines (runs_of (area_of map.now)))) }
+{
+    for i in 0..map.runs() {
+        let (lbn, count) = map.run(i);
+        writeln!(writer, "run {lbn} {count}")?;
+    }
+    Ok(())
+}

@@ -1,0 +1,21 @@
+//! The commands of the program `f11_pip`, each a function over devices and a writer.
+//!
+//! A command's contract says which lines it writes and what it answers; it knows nothing of files, words or terminals. The
+//! program opens the files and calls them, and so can whatever else wants their lines. The crate stands on [`f11_dev`], for
+//! devices, on [`f11_home`], for home blocks, on [`f11_header`] and [`f11_map`], for file headers, on [`f11_rad50`], for
+//! names, and on [`f11_store`], for rights.
+#![tactic(auto)]
+
+mod dump;
+mod home;
+mod label;
+mod name;
+mod outcome;
+mod rights;
+
+pub use dump::dump_header;
+pub use home::print_home;
+pub use label::Label;
+pub use name::print_name;
+pub use outcome::{Answer, Failure};
+pub use rights::print_rights;

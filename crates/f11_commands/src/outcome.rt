@@ -1,0 +1,41 @@
+//! How a command ends.
+ghost use Rattle.std.specs.Prelude.{◌≡◌};
+ghost use Rattle.f11_commands.specs.declared.outcome.Failure.TheVariants as failures;
+
+use f11_dev::DeviceFault;
+use std::io;
+
+/// What a command answers when its work is done. Its lines are on its writer.
+#[derive(Clone, Copy, Debug, PartialEq, Eq)]
+pub enum Answer {
+    /// All is well.
+    Done,
+    /// A fault of the volume, or a name or parameter that can't be.
+    Fault,
+}
+
+/// Why a command's work isn't done.
+#[derive(Clone, Copy, Debug, PartialEq, Eq)]
+pub enum Failure {
+    /// A transfer failed.
+    DeviceFault,
+    /// The writer takes no more.
+    CannotWrite,
+}
+
+impl From<DeviceFault> for Failure {
+    ghost from_gives = { λ _ failure. failure ≡ failures.DeviceFault };
+
+    fn from(_: DeviceFault) -> Self {
+        Failure::DeviceFault
+    }
+}
+
+/// An error of a command's writer.
+impl From<io::Error> for Failure {
+    ghost from_gives = { λ _ failure. failure ≡ failures.CannotWrite };
+
+    fn from(_: io::Error) -> Self {
+        Failure::CannotWrite
+    }
+}

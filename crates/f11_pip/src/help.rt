@@ -1,0 +1,61 @@
+//! What the program says of its words.
+use std::io::{self, Write};
+
+/// A command: its name, its words, and what it does.
+struct Synopsis {
+    name: &'static str,
+    words: &'static str,
+    does: &'static str,
+}
+
+const COMMANDS: [Synopsis; 3] = [
+    Synopsis {
+        name: "home",
+        words: "f11_pip home IMAGE",
+        does: "shows the home block of a Files-11 volume",
+    },
+    Synopsis {
+        name: "name",
+        words: "f11_pip name TEXT",
+        does: "shows the five words of a file's name, as A.TXT;1",
+    },
+    Synopsis {
+        name: "rights",
+        words: "f11_pip rights UIC OWNER WORD",
+        does: "shows the rights of a caller, as 200,1, to a file of an owner with a protection word",
+    },
+];
+
+/// Whether the words, of which the first is the program's name, ask for help: by `help` in a command's place, or by
+/// `--help` or `-h` there or behind a command.
+pub fn is_asked(words: &[String]) -> bool {
+    match words {
+        [_, first, rest @ ..] => {
+            first.as_str() == "help" || is_help(first) || rest.iter().any(is_help)
+        }
+        _ => false,
+    }
+}
+
+fn is_help(word: &String) -> bool {
+    matches!(word.as_str(), "--help" | "-h")
+}
+
+/// Writes each command's words and what it does, two lines a command.
+pub fn write_all<W: Write>(writer: &mut W) -> io::Result<()> {
+    for command in &COMMANDS {
+        writeln!(writer, "{}\n    {}", command.words, command.does)?;
+    }
+    Ok(())
+}
+
+/// The words of the command that was meant, where the first word behind the program's name is a command.
+pub fn meant(words: &[String]) -> Option<&'static str> {
+    let name = words.get(1)?;
+    for command in &COMMANDS {
+        if command.name == name.as_str() {
+            return Some(command.words);
+        }
+    }
+    None
+}

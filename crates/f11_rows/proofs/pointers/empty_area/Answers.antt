@@ -1,0 +1,25 @@
+use Rattle.std.proofs.Common.{List, ℕ, subst, refl, sym, ap, ◌∙◌, arith}
+use Rattle.std.specs.Prelude.{slice_range}
+use Rattle.f11_dev.specs.Block.{zero_block}
+use Rattle.f11_store.specs.declared.callers.Uic.{Uic}
+use Rattle.f11_store.specs.declared.files.FileId.{FileId}
+use Rattle.f11_header.specs.Writing.{blank_header}
+use Rattle.f11_map.specs.MapArea.{IsMapArea}
+use Rattle.f11_rows.proofs.pointers.empty_area.Goals as goal
+
+-- the map area of an empty header
+IsMapArea-blank_header : (id : FileId) (owner : Uic) (protection segment : ℕ) → IsMapArea (slice_range (blank_header id owner protection segment) 92 510)
+unfolding zero_block
+IsMapArea-blank_header id owner protection segment = record {
+  in_block = omega arith;
+  fields = omega arith;
+  count_is = refl;
+  lbn_is = refl;
+  even = refl;
+  within = omega arith;
+}
+
+pub returns : goal.returns
+returns c =
+    subst IsMapArea (sym (c.copy_from_slice.ensures.after ∙ ap (λ (b : List ℕ). slice_range b 92 510) c.blank.ensures.block))
+    (IsMapArea-blank_header c.file.result (record { group = 1; member = 1 }) 0 0)

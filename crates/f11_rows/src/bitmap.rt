@@ -1,0 +1,201 @@
+//! The storage bitmap.
+ghost use Rattle.std.specs.Prelude.{◌≡◌, ◌<◌, ◌≤◌, ◌+◌, [], ◌∷◌, IfOk};
+ghost use Rattle.f11_bits.specs.Storage.{bitmap_of};
+
+use crate::fixtures::{ZEROS, put};
+use f11_bits::{Storage, count_free, first_run, word_sum};
+use f11_dev::{BLOCK_SIZE, Block, Device, DeviceFault, FailOnce, Fuse, Liar, Memory};
+use std::alloc::Global;
+use std::test::Fail;
+
+const ONES: Block = [255; BLOCK_SIZE];
+
+/// What the calls of [`small_volume`] answer: what was taken, and the number of free blocks before and after.
+type Answers = ([Option<(u32, u32)>; 4], u32, u32);
+
+/// A bitmap block with blocks 0 to 21 used. The bits past the volume's end are 1, which counts for nothing.
+fn block_with_22_used() -> Block {
+    let mut block = ONES;
+    block[0] = 0;
+    block[1] = 0;
+    block[2] = 0b1100_0000;
+    block
+}
+
+/// A device with these bitmap blocks at 1 and 2.
+fn device_with(alloc: Global, first: &Block, second: &Block) -> Result<Memory, Fail> {
+    let mut device = Memory::new(alloc, 3)?;
+    put(&mut device, 1, first)?;
+    put(&mut device, 2, second)?;
+    Ok(device)
+}
+
+/// Loads the bitmap through a device that isn't honest to contracts, though it never begins to lie: so the calls below
+/// require nothing of the image.
+fn load<D: Device>(device: &mut Liar<D>, size: u32) -> Result<Storage, DeviceFault>
+    requires some { 0 < size }
+    requires few { size ≤ 8192 }
+    ensures { IfOk result (λ storage. bitmap_of storage ≡ record { places = 1 ∷ 2 ∷ []; size = size }) }
+{
+    if device.blocks() < 3 {
+        return Err(DeviceFault);
+    }
+    Storage::load(device, &[1, 2], size)
+}
+
+fn take<D: Device>(
+    storage: &mut Storage,
+    device: &mut Liar<D>,
+    size: u32,
+    from: u32,
+    most: u32,
+) -> Result<Option<(u32, u32)>, DeviceFault>
+    requires some { 0 < size }
+    requires few { size ≤ 8192 }
+    requires bitmap { bitmap_of storage.old ≡ record { places = 1 ∷ 2 ∷ []; size = size } }
+    requires most { 0 < most }
+    ensures { bitmap_of storage.new ≡ bitmap_of storage.old }
+{
+    if device.blocks() < 3 {
+        return Err(DeviceFault);
+    }
+    storage.take(device, from, most)
+}
+
+fn give<D: Device>(
+    storage: &mut Storage,
+    device: &mut Liar<D>,
+    size: u32,
+    lbn: u32,
+    count: u32,
+) -> Result<(), DeviceFault>
+    requires within { lbn + count ≤ size }
+    requires few { size ≤ 8192 }
+    requires bitmap { bitmap_of storage.old ≡ record { places = 1 ∷ 2 ∷ []; size = size } }
+    requires count { 0 < count }
+    ensures { bitmap_of storage.new ≡ bitmap_of storage.old }
+{
+    if device.blocks() < 3 {
+        return Err(DeviceFault);
+    }
+    storage.give(device, lbn, count)
+}
+
+/// Calls on a volume of 400 blocks.
+fn small_volume<D: Device>(device: &mut Liar<D>) -> Result<Answers, DeviceFault> {
+    let mut storage = load(device, 400)?;
+    let before = storage.free();
+    let first = take(&mut storage, device, 400, 0, 300)?;
+    let second = take(&mut storage, device, 400, 0, 300)?;
+    let none = take(&mut storage, device, 400, 0, 1)?;
+    give(&mut storage, device, 400, 30, 4)?;
+    let last = take(&mut storage, device, 400, 31, 9)?;
+    Ok(([first, second, none, last], before, storage.free()))
+}
+
+/// What they are to answer.
+fn answers() -> Answers {
+    (
+        [Some((22, 256)), Some((278, 122)), None, Some((31, 3))],
+        378,
+        1,
+    )
+}
+
+#[test]
+fn bits_of_a_block(rt: HostRuntime) {
+    let block = block_with_22_used();
+    assert_eq!(rt; (count_free(&block), count_free(&ZEROS)), (4074, 0));
+    for (from, most, run) in [
+        (0, 300, Some((22, 256))),
+        (0, 4, Some((22, 4))),
+        (4000, 300, Some((4000, 96))),
+        (4096, 300, None),
+    ] {
+        assert_eq!(rt; first_run(&block, from, most), run, "from {from}");
+    }
+    assert_eq!(rt; first_run(&ZEROS, 0, 300), None);
+    assert_eq!(rt; word_sum(&ONES), 65281);
+}
+
+#[test]
+fn a_small_volume(rt: HostRuntime) -> Result<(), Fail> {
+    let mut device = Liar::new(device_with(rt.alloc(), &block_with_22_used(), &ONES)?, 0);
+    assert_eq!(rt; small_volume(&mut device)?, answers());
+    // two transfers to write the bitmap, and 1 to load, 2, 2 and 1 to take, 2 to give and 2 to take again
+    assert_eq!(rt; device.into_inner().transfers(), 12);
+    Ok(())
+}
+
+#[test]
+fn a_run_over_two_bitmap_blocks(rt: HostRuntime) -> Result<(), Fail> {
+    let mut device = Liar::new(device_with(rt.alloc(), &ONES, &ONES)?, 0);
+    let mut storage = load(&mut device, 4200)?;
+    assert_eq!(rt; storage.free(), 4200);
+    assert_eq!(rt;
+        take(&mut storage, &mut device, 4200, 4090, 256)?,
+        Some((4090, 110))
+    );
+    assert_eq!(rt; storage.free(), 4090);
+    give(&mut storage, &mut device, 4200, 4090, 110)?;
+    assert_eq!(rt; storage.free(), 4200);
+    Ok(())
+}
+
+#[test]
+fn a_device_that_stops(rt: HostRuntime) -> Result<(), Fail> {
+    for transfers in 0..12 {
+        let inner = device_with(rt.alloc(), &block_with_22_used(), &ONES)?;
+        let mut device = Liar::new(Fuse::new(inner, transfers), 0);
+        let done = small_volume(&mut device);
+        if transfers < 10 {
+            assert_eq!(rt; done, Err(DeviceFault), "after {transfers}");
+        } else {
+            assert_eq!(rt; done, Ok(answers()), "after {transfers}");
+        }
+    }
+    Ok(())
+}
+
+#[test]
+fn a_device_that_fails_once(rt: HostRuntime) -> Result<(), Fail> {
+    // the transfer that fails, and the free blocks of the image after it, where a write didn't land and where it did
+    for (transfer, kept, landed) in [
+        (1, 378, 378),
+        (2, 378, 378),
+        (3, 378, 122),
+        (4, 122, 122),
+        (5, 122, 0),
+        (6, 0, 0),
+        (7, 0, 0),
+        (8, 0, 4),
+        (9, 4, 4),
+        (10, 4, 1),
+    ] {
+        for (lands, free) in [(false, kept), (true, landed)] {
+            let inner = device_with(rt.alloc(), &block_with_22_used(), &ONES)?;
+            let mut device = Liar::new(FailOnce::new(inner, transfer, lands), 0);
+            assert_eq!(rt; small_volume(&mut device), Err(DeviceFault));
+            let storage = load(&mut device, 400)?;
+            assert_eq!(rt; storage.free(), free, "at {transfer}");
+        }
+    }
+    Ok(())
+}
+
+#[test]
+fn what_was_taken_is_given_back(rt: HostRuntime) -> Result<(), Fail> {
+    let mut device = device_with(rt.alloc(), &block_with_22_used(), &ONES)?;
+    if device.blocks() < 3 {
+        return Ok(());
+    }
+    let mut storage = Storage::load(&mut device, &[1, 2], 400)?;
+    let run = storage.take(&mut device, 0, 300)?;
+    assert_eq!(rt; run, Some((22, 256)));
+    assert_eq!(rt; storage.free(), 122);
+    if let Some((lbn, count)) = run {
+        storage.give(&mut device, lbn, count)?;
+    }
+    assert_eq!(rt; storage.free(), 378);
+    Ok(())
+}

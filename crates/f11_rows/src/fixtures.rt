@@ -1,0 +1,72 @@
+//! What the tests have in common.
+use f11_dev::{BLOCK_SIZE, Block, Device, DeviceFault, Memory, NoMemory, zeros};
+use f11_header::blank;
+use f11_store::{FileId, Uic};
+use std::alloc::Global;
+use std::io::Cursor;
+
+pub const ZEROS: Block = [0; BLOCK_SIZE];
+
+/// A block whose bytes are all the same.
+pub const SEVENS: Block = [7; BLOCK_SIZE];
+
+pub const SYSTEM: Uic = Uic {
+    group: 1,
+    member: 1,
+};
+
+/// The name words of `A.TXT;1`.
+pub const A_TXT: [u16; 5] = [1600, 0, 0, 32980, 1];
+
+pub fn file(number: u16, sequence: u16) -> FileId {
+    FileId {
+        number,
+        sequence,
+        volume: 0,
+    }
+}
+
+/// Memory for a device, asked for again where it is refused once.
+pub fn memory(alloc: Global, blocks: u32) -> Result<Memory, NoMemory> {
+    Memory::new(alloc, blocks).or_else(|_| Memory::new(alloc, blocks))
+}
+
+/// Reads a block, where the device has it.
+pub fn get(device: &mut impl Device, lbn: u32) -> Result<Block, DeviceFault> {
+    let mut block = SEVENS;
+    if lbn >= device.blocks() {
+        return Err(DeviceFault);
+    }
+    device.read(lbn, &mut block)?;
+    Ok(block)
+}
+
+/// Writes a block, where the device has it.
+pub fn put(device: &mut impl Device, lbn: u32, block: &Block) -> Result<(), DeviceFault> {
+    if lbn >= device.blocks() {
+        return Err(DeviceFault);
+    }
+    device.write(lbn, block)
+}
+
+/// An empty header of a file that [1,1] owns, not sealed yet.
+pub fn blank_of(id: FileId, protection: u16, segment: u8) -> Block {
+    let mut block = zeros();
+    blank(&mut block, id, SYSTEM, protection, segment);
+    block
+}
+
+/// Room for some lines.
+pub type Lines = Cursor<[u8; 160]>;
+
+pub fn lines() -> Lines {
+    Cursor::new([0; 160])
+}
+
+/// What was written.
+pub fn text_of(lines: &Lines) -> &[u8] {
+    lines
+        .get_ref()
+        .get(..lines.position() as usize)
+        .unwrap_or(&[])
+}

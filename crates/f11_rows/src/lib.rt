@@ -1,0 +1,24 @@
+//! Tests alone: of calls that no command reaches (devices that fail, refused memory, lent blocks, kernels), a module a layer.
+//!
+//! What the program can show is a case under `cases/`. The crate stands on all libraries below the program, so that none of
+//! them is proved a second time for its tests.
+#![tactic(auto)]
+
+#[cfg(test)]
+mod bitmap;
+#[cfg(test)]
+mod directories;
+#[cfg(test)]
+mod fixtures;
+#[cfg(test)]
+mod headers;
+#[cfg(test)]
+mod lines;
+#[cfg(test)]
+mod names;
+#[cfg(test)]
+mod pointers;
+#[cfg(test)]
+mod refused;
+#[cfg(test)]
+mod requests;
