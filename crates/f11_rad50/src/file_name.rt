@@ -5,6 +5,7 @@ ghost use Rattle.f11_rad50.specs.Name.{IsProper, words_of, unpadded, name_of, ty
 use crate::errors::{BadName, NoMemory};
 use crate::{pieces, radix50};
 use std::alloc::Global;
+use std::fmt;
 use std::marker::Model;
 
 /// The name of a file: up to nine characters, a type of up to three, not both empty, and a version from
@@ -153,10 +154,22 @@ impl Name {
         ensures text { IfOk result (λ text. string_bytes text ≡ name_text self.now) }
         ensures reads_back { IfOk result (λ text. Spells (string_bytes text) self.now) }
     {
+        // So that the proof knows that the words are those of a name.
+        let _ = &self.words;
+        Ok(format!(in alloc; "{self}")?)
+    }
+}
+
+impl fmt::Display for Name {
+    ghost use Rattle.std.specs.Prelude.{Some};
+
+    ghost output = { λ name. Some (name_text name) };
+
+    /// Writes the text `NAME.TYP;VERSION`, as [`Name::text`] gives it.
+    fn fmt<W: fmt::Write>(&self, f: &mut fmt::Formatter<W>) -> fmt::Result {
         let mut buffer = [0; 19];
         let length = self.spell(&mut buffer);
-        let text = str::from_utf8(&buffer[..length]).unwrap();
-        Ok(String::from_str(alloc, text)?)
+        f.write_str(str::from_utf8(&buffer[..length]).unwrap())
     }
 }
 

@@ -10,4 +10,5 @@ pub mod Rights
 pub mod Run
 pub mod Step
 pub mod Store
+pub mod Text
 pub mod Worked

@@ -2,6 +2,7 @@
 
 ghost use Rattle.std.specs.Prelude.{◌≡◌, ℕ, ◌<◌, ◌↔◌, IsSome, IfSome};
 
+use std::fmt;
 use std::marker::Model;
 
 /// A user identification code: a group and a member of it
@@ -12,6 +13,18 @@ pub struct Uic {
     pub group: u8,
     /// The member of the group, 0 to octal 377.
     pub member: u8,
+}
+
+impl fmt::Display for Uic {
+    ghost use Rattle.std.specs.Prelude.{Some};
+    ghost use Rattle.f11_store.specs.Text.{uic_text};
+
+    ghost output = { λ uic. Some (uic_text uic) };
+
+    /// Writes `[GROUP,MEMBER]`, both in octal without leading zeros (profile).
+    fn fmt<W: fmt::Write>(&self, f: &mut fmt::Formatter<W>) -> fmt::Result {
+        write!(f, "[{:o},{:o}]", self.group, self.member)
+    }
 }
 
 /// One of the eight tasks that a volume serves (profile). Contracts see its number.

@@ -1,6 +1,7 @@
 //! What a request says of a file.
 
 use crate::callers::Uic;
+use std::fmt;
 
 /// A file identification: slot number, sequence number, relative volume
 /// (Files-11 On-Disk Structure Level 1, file identification).
@@ -12,6 +13,23 @@ pub struct FileId {
     pub sequence: u16,
     /// The relative volume, 0 on a volume that stands alone.
     pub volume: u16,
+}
+
+impl fmt::Display for FileId {
+    ghost use Rattle.std.specs.Prelude.{Some};
+    ghost use Rattle.f11_store.specs.Text.{id_text};
+
+    ghost output = { λ id. Some (id_text id) };
+
+    /// Writes `NUMBER,SEQUENCE`, and `,VOLUME` behind it where the relative volume isn't 0, in
+    /// decimal (profile).
+    fn fmt<W: fmt::Write>(&self, f: &mut fmt::Formatter<W>) -> fmt::Result {
+        write!(f, "{},{}", self.number, self.sequence)?;
+        if self.volume != 0 {
+            write!(f, ",{}", self.volume)?;
+        }
+        Ok(())
+    }
 }
 
 /// How a file is accessed (profile).
