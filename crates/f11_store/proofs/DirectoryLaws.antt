@@ -17,13 +17,13 @@ use Rattle.f11_store.specs.declared.requests.Reply.{Reply}
 use Rattle.f11_store.specs.declared.requests.Reply.TheVariants as reply
 use Rattle.f11_store.specs.declared.requests.Request.TheVariants as request
 use Rattle.f11_store.specs.File.{File, no_file, is_marked, stated_end, zero_block, zero_blocks}
-use Rattle.f11_store.specs.Store.{Store, file_of, named, is_held, bars_writing}
-use Rattle.f11_store.specs.Directory.{is_directory, record_in, record_at, entry_count, entries_of, record_id, record_name, is_empty, has_name, is_entered, empty_place, needs_block, word_bytes, long_bytes, record_bytes, empty_record, with_record, with_end}
+use Rattle.f11_store.specs.Store.{Store, file_of, file_named, is_held, bars_writing}
+use Rattle.f11_store.specs.Directory.{is_directory, record_in, record_at, entry_count, entries_of, record_id, record_name, is_empty, has_name, is_entered, index_of_empty, needs_block, word_bytes, long_bytes, record_bytes, empty_record, with_record, with_end}
 use Rattle.f11_store.specs.Causes.{Cause, ◌⇐◌, first_of, is_bad, is_missing, lacks, growth_causes_if, first_refusal}
-use Rattle.f11_store.specs.Changes.{with_change, with_entry, with_end_after, appended, lengthened, extended, EntersAtEnd, EntersAt}
+use Rattle.f11_store.specs.Changes.{with_change, with_entry, with_end_after, with_entry_at_end, grown_file, with_grown_file, EntersAtEnd, EntersAt}
 use Rattle.f11_store.specs.Step.{Step, MayRefuse}
 use Rattle.f11_store.specs.Laws.{IsWhole, IsFiveWords, IsFound, EnteredIsFound, StandingIsDuplicate, RemovedIsEmpty}
-use Rattle.f11_store.proofs.StoreLemmas.{same_number, other_number, named-changed, named-there}
+use Rattle.f11_store.proofs.StoreLemmas.{same_number, other_number, file_named-changed, file_named-there}
 use Rattle.f11_store.proofs.RecordLemmas.{record_at-same, record_at-other, none_passes, first_found, some_passes}
 
 -- where no cause against Remove holds, the first against Enter is that the name stands
@@ -46,9 +46,9 @@ duplicate_first false false false false false false true i bad rest h k = absurd
 
 pub standing_is_duplicate : StandingIsDuplicate
 standing_is_duplicate s task caller d name id h good =
-    duplicate_first (is_bad d) (nat_lt d.number 4) (is_missing s d) (is_marked (named s d)) (lacks right.Write caller (named s d))
-    (is_held bars_writing s d) (not (is_directory (named s d))) (is_entered name (named s d)) (is_bad id)
-    (growth_causes_if (needs_block (named s d)) s (named s d) 1) h good
+    duplicate_first (is_bad d) (nat_lt d.number 4) (is_missing s d) (is_marked (file_named s d)) (lacks right.Write caller (file_named s d))
+    (is_held bars_writing s d) (not (is_directory (file_named s d))) (is_entered name (file_named s d)) (is_bad id)
+    (growth_causes_if (needs_block (file_named s d)) s (file_named s d) 1) h good
 
 -- what a served Enter tells: the identification is good, the directory is there, the name doesn't stand
 entered_causes :
@@ -211,14 +211,14 @@ pub record IsThere (name : List ℕ) (f : File) (r : List ℕ) : Type 0 where
 -- what Find then answers
 found_answers :
     (s : Store) (other : ℕ) (reader : Uic) (d : FileId) (name : List ℕ) (id : FileId) (before : List ℕ) (result : Result Reply Refusal) (s' : Store) (after : List ℕ) →
-    IsThere name (named s d) (record_bytes id name) → Step s other reader (request.Find d name) before result s' after → IsFound id result
+    IsThere name (file_named s d) (record_bytes id name) → Step s other reader (request.Find d name) before result s' after → IsFound id result
 found_answers s other reader d name id before (Ok a) s' after there k =
     k.reply_is ∙ ap (λ o. reply.Found (record_id (unwrap_or o []))) there.found ∙ ap reply.Found (record_id-record_bytes id name)
 found_answers s other reader d name id before (Err e) s' after there k =
     refused_otherwise (first_refusal s other reader (request.Find d name)) d name e
-    (λ x h. found_causes (is_bad d) (nat_lt d.number 4) (is_missing s d) (is_marked (named s d)) (lacks right.Read reader (named s d))
-    (not (is_directory (named s d))) (is_entered name (named s d)) x
-    (some_passes (has_name name) (entries_of (named s d)) (record_bytes id name) there.found) h)
+    (λ x h. found_causes (is_bad d) (nat_lt d.number 4) (is_missing s d) (is_marked (file_named s d)) (lacks right.Read reader (file_named s d))
+    (not (is_directory (file_named s d))) (is_entered name (file_named s d)) x
+    (some_passes (has_name name) (entries_of (file_named s d)) (record_bytes id name) there.found) h)
     k.may_refuse
 
 -- a place in the list is within it
@@ -247,34 +247,34 @@ in_blocks f i h = omega (arith, h)
 
 pub removed_is_empty : RemovedIsEmpty
 removed_is_empty s task caller d name block a s' block' i whole h there =
-    subst (λ (f : File). (entry_count f ≡ entry_count (named s d)) × (record_at f.blocks i ≡ empty_record)
-    × ((j : ℕ) → j ≢ i → record_at f.blocks j ≡ record_at (named s d).blocks j)) (sym after) (
-      count-with_entry (named s d) i empty_record,
-      record_at-same (named s d).blocks i empty_record in_it full refl,
-      λ j differs. record_at-other (named s d).blocks i j empty_record differs in_it full refl,
+    subst (λ (f : File). (entry_count f ≡ entry_count (file_named s d)) × (record_at f.blocks i ≡ empty_record)
+    × ((j : ℕ) → j ≢ i → record_at f.blocks j ≡ record_at (file_named s d).blocks j)) (sym after) (
+      count-with_entry (file_named s d) i empty_record,
+      record_at-same (file_named s d).blocks i empty_record in_it full refl,
+      λ j differs. record_at-other (file_named s d).blocks i j empty_record differs in_it full refl,
     )
   where
     missing : is_missing s d ≡ false
     missing = removed_causes (is_bad d) (nat_lt d.number 4) (is_missing s d)
-        ((Marked ⇐ is_marked (named s d)) ∷ (NoPrivilege ⇐ lacks right.Write caller (named s d)) ∷ (Conflict ⇐ is_held bars_writing s d)
-        ∷ (NotDirectory ⇐ not (is_directory (named s d))) ∷ (NoSuchEntry ⇐ not (is_entered name (named s d))) ∷ []) h.no_cause
+        ((Marked ⇐ is_marked (file_named s d)) ∷ (NoPrivilege ⇐ lacks right.Write caller (file_named s d)) ∷ (Conflict ⇐ is_held bars_writing s d)
+        ∷ (NotDirectory ⇐ not (is_directory (file_named s d))) ∷ (NoSuchEntry ⇐ not (is_entered name (file_named s d))) ∷ []) h.no_cause
 
-    after : named s' d ≡ with_entry i empty_record (named s d)
+    after : file_named s' d ≡ with_entry i empty_record (file_named s d)
     after =
-        ap (λ t. named t d) (h.changes ∙ ap (λ o. with_change s d.number (with_entry (unwrap_or o 0) empty_record)) there)
-        ∙ named-changed s d (with_entry i empty_record) (λ f. refl) missing
+        ap (λ t. file_named t d) (h.changes ∙ ap (λ o. with_change s d.number (with_entry (unwrap_or o 0) empty_record)) there)
+        ∙ file_named-changed s d (with_entry i empty_record) (λ f. refl) missing
 
-    in_it : i / 32 < length (named s d).blocks
-    in_it = in_blocks (named s d) i (subst (λ (n : ℕ). i < n) (length-entries_of (named s d)) (placed (has_name name) (entries_of (named s d)) i there))
+    in_it : i / 32 < length (file_named s d).blocks
+    in_it = in_blocks (file_named s d) i (subst (λ (n : ℕ). i < n) (length-entries_of (file_named s d)) (placed (has_name name) (entries_of (file_named s d)) i there))
 
-    full : length (get_or (named s d).blocks (i / 32) []) ≡ 512
-    full = All-get_or (λ b. length b ≡ 512) (named s d).blocks (i / 32) [] in_it whole.blocks
+    full : length (get_or (file_named s d).blocks (i / 32) []) ≡ 512
+    full = All-get_or (λ b. length b ≡ 512) (file_named s d).blocks (i / 32) [] in_it whole.blocks
 
 -- a record put past the others, with the end moved past it, is one of the records
-count-appended :
+count-with_entry_at_end :
     (g : File) (i : ℕ) (r : List ℕ) → length g.attr ≡ 32 → 16 * (i + 1) ≤ 512 * length g.blocks →
     i < entry_count (with_end_after i (with_entry i r g))
-count-appended g i r long within =
+count-with_entry_at_end g i r long within =
     rw (stated_end-with_end g.attr (length (with_record g.blocks i r)) (16 * (i + 1)) long, length-with_record g.blocks i r) (omega (arith, within))
 
 -- a block of zeros is as long as any
@@ -283,76 +283,76 @@ unfolding zero_block
 length-zero_block = length-replicate {A = ℕ} 512 0
 
 -- records below the end of a file that was lengthened are as they were
-record_at-lengthened : (f : File) (more : List (List ℕ)) (j : ℕ) → j < entry_count f → record_at (f.blocks ++ more) j ≡ record_at f.blocks j
+record_at-grown_file : (f : File) (more : List (List ℕ)) (j : ℕ) → j < entry_count f → record_at (f.blocks ++ more) j ≡ record_at f.blocks j
 unfolding record_at
-record_at-lengthened f more j h = ap (λ b. record_in b (j % 32)) (get_or_append_left f.blocks more [] (j / 32) (in_blocks f j h))
+record_at-grown_file f more j h = ap (λ b. record_in b (j % 32)) (get_or_append_left f.blocks more [] (j / 32) (in_blocks f j h))
 
 -- the file that grew, by its identification
-file_of-extended :
+file_of-with_grown_file :
     (s : Store) (d : FileId) (f : File) (n : ℕ) (blocks : List (List ℕ)) (added pointers room : ℕ) →
     s.file d.number ≡ Some f → is_none (file_of s d) ≡ false →
-    file_of (extended s d.number f n blocks added pointers room) d ≡ Some (lengthened s f blocks added pointers room)
-file_of-extended s d f n blocks added pointers room was there =
+    file_of (with_grown_file s d.number f n blocks added pointers room) d ≡ Some (grown_file s f blocks added pointers room)
+file_of-with_grown_file s d f n blocks added pointers room was there =
     rw (same_number d.number) (by_test (f.sequence == d.sequence) (rw was at there))
   where
     by_test : (b : Bool) → is_none (if b then Some f else None) ≡ false →
-        (if b then Some (lengthened s f blocks added pointers room) else None) ≡ Some (lengthened s f blocks added pointers room)
+        (if b then Some (grown_file s f blocks added pointers room) else None) ≡ Some (grown_file s f blocks added pointers room)
     by_test true e = refl
     by_test false e = absurd (cc)
 
 -- what is known where a record is entered
 pub record Enterable (s : Store) (d : FileId) (name r : List ℕ) : Type 0 where
   pub there : is_none (file_of s d) ≡ false
-  pub whole : IsWhole (named s d)
-  pub none : is_entered name (named s d) ≡ false
+  pub whole : IsWhole (file_named s d)
+  pub none : is_entered name (file_named s d) ≡ false
   pub has : has_name name r ≡ true
   pub sixteen : length r ≡ 16
 
 -- in place of an empty record
 entered_in_place :
-    (s : Store) (d : FileId) (name r : List ℕ) (i : ℕ) → Enterable s d name r → empty_place (named s d) ≡ Some i →
-    IsThere name (named (with_change s d.number (with_entry i r)) d) r
+    (s : Store) (d : FileId) (name r : List ℕ) (i : ℕ) → Enterable s d name r → index_of_empty (file_named s d) ≡ Some i →
+    IsThere name (file_named (with_change s d.number (with_entry i r)) d) r
 entered_in_place s d name r i can place =
-    subst (λ (f : File). IsThere name f r) (sym (named-changed s d (with_entry i r) (λ f. refl) can.there)) (record {
-      found = found_at (named s d) (with_entry i r (named s d)) (named s d).blocks i name r refl
-          (subst (λ (n : ℕ). i < n) (sym (count-with_entry (named s d) i r)) within) (omega (arith, within)) (λ j h. refl) in_it
-          (All-get_or (λ b. length b ≡ 512) (named s d).blocks (i / 32) [] in_it can.whole.blocks) can.sixteen can.none can.has;
+    subst (λ (f : File). IsThere name f r) (sym (file_named-changed s d (with_entry i r) (λ f. refl) can.there)) (record {
+      found = found_at (file_named s d) (with_entry i r (file_named s d)) (file_named s d).blocks i name r refl
+          (subst (λ (n : ℕ). i < n) (sym (count-with_entry (file_named s d) i r)) within) (omega (arith, within)) (λ j h. refl) in_it
+          (All-get_or (λ b. length b ≡ 512) (file_named s d).blocks (i / 32) [] in_it can.whole.blocks) can.sixteen can.none can.has;
     })
   where
-    within : i < entry_count (named s d)
-    within = subst (λ (n : ℕ). i < n) (length-entries_of (named s d)) (placed is_empty (entries_of (named s d)) i place)
+    within : i < entry_count (file_named s d)
+    within = subst (λ (n : ℕ). i < n) (length-entries_of (file_named s d)) (placed is_empty (entries_of (file_named s d)) i place)
 
-    in_it : i / 32 < length (named s d).blocks
-    in_it = in_blocks (named s d) i within
+    in_it : i / 32 < length (file_named s d).blocks
+    in_it = in_blocks (file_named s d) i within
 
 -- at the end, where the allocation has room
 entered_past_end :
-    (s : Store) (d : FileId) (name r : List ℕ) → Enterable s d name r → 16 * entry_count (named s d) < 512 * length (named s d).blocks →
-    IsThere name (named (appended s d.number (entry_count (named s d)) r) d) r
+    (s : Store) (d : FileId) (name r : List ℕ) → Enterable s d name r → 16 * entry_count (file_named s d) < 512 * length (file_named s d).blocks →
+    IsThere name (file_named (with_entry_at_end s d.number (entry_count (file_named s d)) r) d) r
 entered_past_end s d name r can room =
     subst (λ (f : File). IsThere name f r)
-    (sym (named-changed s d (λ f. with_end_after (entry_count (named s d)) (with_entry (entry_count (named s d)) r f)) (λ f. refl) can.there)) (record {
-      found = found_at (named s d) (with_end_after i (with_entry i r (named s d))) (named s d).blocks i name r refl
-          (count-appended (named s d) i r can.whole.attr (omega (arith, room))) (omega arith) (λ j h. refl) in_it
-          (All-get_or (λ b. length b ≡ 512) (named s d).blocks (i / 32) [] in_it can.whole.blocks) can.sixteen can.none can.has;
+    (sym (file_named-changed s d (λ f. with_end_after (entry_count (file_named s d)) (with_entry (entry_count (file_named s d)) r f)) (λ f. refl) can.there)) (record {
+      found = found_at (file_named s d) (with_end_after i (with_entry i r (file_named s d))) (file_named s d).blocks i name r refl
+          (count-with_entry_at_end (file_named s d) i r can.whole.attr (omega (arith, room))) (omega arith) (λ j h. refl) in_it
+          (All-get_or (λ b. length b ≡ 512) (file_named s d).blocks (i / 32) [] in_it can.whole.blocks) can.sixteen can.none can.has;
     })
   where
     i : ℕ
-    i = entry_count (named s d)
+    i = entry_count (file_named s d)
 
-    in_it : i / 32 < length (named s d).blocks
+    in_it : i / 32 < length (file_named s d).blocks
     in_it = omega (arith, room)
 
 -- at the end, after one more block
 entered_in_new_block :
     (s : Store) (d : FileId) (name r : List ℕ) (f : File) (added pointers room : ℕ) → Enterable s d name r → s.file d.number ≡ Some f →
-    named s d ≡ f → IsThere name (named (appended (extended s d.number f 1 (zero_blocks 1) added pointers room) d.number (entry_count f) r) d) r
+    file_named s d ≡ f → IsThere name (file_named (with_entry_at_end (with_grown_file s d.number f 1 (zero_blocks 1) added pointers room) d.number (entry_count f) r) d) r
 unfolding zero_blocks
 entered_in_new_block s d name r f added pointers room can was is =
     subst (λ (g : File). IsThere name g r) (sym after) (record {
       found = found_at f (with_end_after i (with_entry i r g)) (f.blocks ++ zero_blocks 1) i name r refl
-          (count-appended g i r (subst (λ (x : File). length x.attr ≡ 32) is can.whole.attr) (rw longer (omega arith))) (omega arith)
-          (λ j h. record_at-lengthened f (zero_blocks 1) j h) in_it
+          (count-with_entry_at_end g i r (subst (λ (x : File). length x.attr ≡ 32) is can.whole.attr) (rw longer (omega arith))) (omega arith)
+          (λ j h. record_at-grown_file f (zero_blocks 1) j h) in_it
           (All-get_or (λ b. length b ≡ 512) (f.blocks ++ zero_blocks 1) (i / 32) [] in_it full) can.sixteen
           (subst (λ (x : File). is_entered name x ≡ false) is can.none) can.has;
     })
@@ -361,17 +361,17 @@ entered_in_new_block s d name r f added pointers room can was is =
     i = entry_count f
 
     g : File
-    g = lengthened s f (zero_blocks 1) added pointers room
+    g = grown_file s f (zero_blocks 1) added pointers room
 
     grown : Store
-    grown = extended s d.number f 1 (zero_blocks 1) added pointers room
+    grown = with_grown_file s d.number f 1 (zero_blocks 1) added pointers room
 
     of_grown : file_of grown d ≡ Some g
-    of_grown = file_of-extended s d f 1 (zero_blocks 1) added pointers room was can.there
+    of_grown = file_of-with_grown_file s d f 1 (zero_blocks 1) added pointers room was can.there
 
-    after : named (appended grown d.number i r) d ≡ with_end_after i (with_entry i r g)
+    after : file_named (with_entry_at_end grown d.number i r) d ≡ with_end_after i (with_entry i r g)
     after =
-        named-changed grown d (λ f. with_end_after i (with_entry i r f)) (λ f. refl) (ap is_none of_grown)
+        file_named-changed grown d (λ f. with_end_after i (with_entry i r f)) (λ f. refl) (ap is_none of_grown)
         ∙ ap (λ o. with_end_after i (with_entry i r (unwrap_or o no_file))) of_grown
 
     longer : length (f.blocks ++ zero_block ∷ []) ≡ length f.blocks + 1
@@ -385,33 +385,33 @@ entered_in_new_block s d name r f added pointers room can was is =
 
 -- wherever the record is entered
 entered_there :
-    (o : Option ℕ) (s : Store) (d : FileId) (name r : List ℕ) (s' : Store) → Enterable s d name r → empty_place (named s d) ≡ o →
-    EntersAt o s d r s' → IsThere name (named s' d) r
+    (o : Option ℕ) (s : Store) (d : FileId) (name r : List ℕ) (s' : Store) → Enterable s d name r → index_of_empty (file_named s d) ≡ o →
+    EntersAt o s d r s' → IsThere name (file_named s' d) r
 entered_there (Some i) s d name r s' can place h =
-    subst (λ (x : Store). IsThere name (named x d) r) (sym h) (entered_in_place s d name r i can place)
-entered_there None s d name r s' can place h = at_end (needs_block (named s d)) refl h
+    subst (λ (x : Store). IsThere name (file_named x d) r) (sym h) (entered_in_place s d name r i can place)
+entered_there None s d name r s' can place h = at_end (needs_block (file_named s d)) refl h
   where
-    no_room : needs_block (named s d) ≡ false → 16 * entry_count (named s d) < 512 * length (named s d).blocks
-    no_room e = let t : nat_le (512 * length (named s d).blocks) (16 * entry_count (named s d)) ≡ false = (rw place at e) in grind (arith, nat_tests)
+    no_room : needs_block (file_named s d) ≡ false → 16 * entry_count (file_named s d) < 512 * length (file_named s d).blocks
+    no_room e = let t : nat_le (512 * length (file_named s d).blocks) (16 * entry_count (file_named s d)) ≡ false = (rw place at e) in grind (arith, nat_tests)
 
-    at_end : (b : Bool) → needs_block (named s d) ≡ b → EntersAtEnd b s d.number (entry_count (named s d)) r s' → IsThere name (named s' d) r
-    at_end false e k = subst (λ (x : Store). IsThere name (named x d) r) (sym k) (entered_past_end s d name r can (no_room e))
+    at_end : (b : Bool) → needs_block (file_named s d) ≡ b → EntersAtEnd b s d.number (entry_count (file_named s d)) r s' → IsThere name (file_named s' d) r
+    at_end false e k = subst (λ (x : Store). IsThere name (file_named x d) r) (sym k) (entered_past_end s d name r can (no_room e))
     at_end true e (grown, grows, k) =
-        let is : named s d ≡ grows.before = named-there s d grows.before grows.was can.there in
-        subst (λ (x : Store). IsThere name (named x d) r) (sym (k ∙ ap (λ t. appended t d.number (entry_count (named s d)) r) grows.store_is))
-        (subst (λ (n : ℕ). IsThere name (named (appended (extended s d.number grows.before 1 (zero_blocks 1) grows.added grows.pointers grows.room) d.number n r) d) r)
+        let is : file_named s d ≡ grows.before = file_named-there s d grows.before grows.was can.there in
+        subst (λ (x : Store). IsThere name (file_named x d) r) (sym (k ∙ ap (λ t. with_entry_at_end t d.number (entry_count (file_named s d)) r) grows.store_is))
+        (subst (λ (n : ℕ). IsThere name (file_named (with_entry_at_end (with_grown_file s d.number grows.before 1 (zero_blocks 1) grows.added grows.pointers grows.room) d.number n r) d) r)
         (ap entry_count (sym is))
         (entered_in_new_block s d name r grows.before grows.added grows.pointers grows.room can grows.was is))
 
 pub entered_is_found : EnteredIsFound
 entered_is_found s task caller d name id block a s' block' other reader before result s'' after whole five h k =
     found_answers s' other reader d name id before result s'' after
-    (entered_there (empty_place (named s d)) s d name (record_bytes id name) s' can refl h.changes) k
+    (entered_there (index_of_empty (file_named s d)) s d name (record_bytes id name) s' can refl h.changes) k
   where
-    causes : (is_bad id ≡ false) × (is_missing s d ≡ false) × (is_entered name (named s d) ≡ false)
-    causes = entered_causes (is_bad d) (is_bad id) (nat_lt d.number 4) (is_missing s d) (is_marked (named s d)) (lacks right.Write caller (named s d))
-        (is_held bars_writing s d) (not (is_directory (named s d))) (is_entered name (named s d))
-        (growth_causes_if (needs_block (named s d)) s (named s d) 1) h.no_cause
+    causes : (is_bad id ≡ false) × (is_missing s d ≡ false) × (is_entered name (file_named s d) ≡ false)
+    causes = entered_causes (is_bad d) (is_bad id) (nat_lt d.number 4) (is_missing s d) (is_marked (file_named s d)) (lacks right.Write caller (file_named s d))
+        (is_held bars_writing s d) (not (is_directory (file_named s d))) (is_entered name (file_named s d))
+        (growth_causes_if (needs_block (file_named s d)) s (file_named s d) 1) h.no_cause
 
     can : Enterable s d name (record_bytes id name)
     can = record {

@@ -10,11 +10,11 @@ use Rattle.f11_store.specs.declared.requests.Request.TheVariants as request
 use Rattle.f11_store.specs.File.{File, length_of, with_mark, zero_block, zero_blocks}
 use Rattle.std.specs.List.{range_with_len}
 use Rattle.f11_store.specs.declared.refusals.Refusal.TheVariants.{NoHeader}
-use Rattle.f11_store.specs.Store.{Store, named, id_held, held, is_accessed, free_slots, free_headers, least_free}
-use Rattle.f11_store.specs.Changes.{Truncates, Grows, next_sequence, with_file, marked, deleted, shortened}
+use Rattle.f11_store.specs.Store.{Store, file_named, id_held, file_held, is_accessed, free_slots, free_headers, least_free}
+use Rattle.f11_store.specs.Changes.{Truncates, Grows, next_sequence, with_file, with_marked_file, without_file_at, with_cut_file}
 use Rattle.f11_store.specs.Step.{Serves, next_id, block_at}
 use Rattle.f11_store.specs.Laws.{NewSlotWasFree, NewFileIsNext, AccessedKeepsBlocks, CutComesBackZero}
-use Rattle.f11_store.proofs.StoreLemmas.{none_first, none_rest, same_number, kept-with_change, length-named}
+use Rattle.f11_store.proofs.StoreLemmas.{none_first, none_rest, same_number, kept-with_change, length-file_named}
 
 -- the identification that was created
 created_id : (id next : FileId) → reply.Created id ≡ reply.Created next → id ≡ next
@@ -72,14 +72,14 @@ new_file_is_next s task caller word ident attr block id s' block' h =
 
 pub accessed_keeps_blocks : AccessedKeepsBlocks
 accessed_keeps_blocks s task caller id block a s' block' h accessed =
-    subst (λ (x : Store). ((named x id).blocks ≡ (named s id).blocks) × (x.access ≡ s.access)) (sym is_marked)
+    subst (λ (x : Store). ((file_named x id).blocks ≡ (file_named s id).blocks) × (x.access ≡ s.access)) (sym is_marked)
     (kept-with_change s id (λ f. record f { characteristics = with_mark f.characteristics }) (λ f. refl) (λ f. f.blocks) (λ f. refl), refl)
   where
-    by_test : (b : Bool) → b ≡ true → (if b then marked s id.number else deleted s id.number) ≡ marked s id.number
+    by_test : (b : Bool) → b ≡ true → (if b then with_marked_file s id.number else without_file_at s id.number) ≡ with_marked_file s id.number
     by_test true e = refl
     by_test false e = absurd (cc)
 
-    is_marked : s' ≡ marked s id.number
+    is_marked : s' ≡ with_marked_file s id.number
     is_marked = h.changes ∙ by_test (is_accessed s id) accessed
 
 -- a block among n zeros past the first ones
@@ -104,14 +104,14 @@ file_there s k f g h = by_test (k == k) (same_number k) (s.file k) h
 -- a served Truncate is within the file
 can_cut :
     (s : Store) (task : ℕ) (caller : Uic) (lun to : ℕ) (block : List ℕ) (a : Reply) (s' : Store) (block' : List ℕ) →
-    Serves s task caller (request.Truncate lun to) block a s' block' → to ≤ length_of (held s task lun)
+    Serves s task caller (request.Truncate lun to) block a s' block' → to ≤ length_of (file_held s task lun)
 can_cut s task caller lun to block a s' block' h =
-    ltb-false (length_of (held s task lun)) to (none_first _ _ _ (none_rest _ _ _ h.no_cause))
+    ltb-false (length_of (file_held s task lun)) to (none_first _ _ _ (none_rest _ _ _ h.no_cause))
 
 -- a file that was cut and then extended
 cut_then_grown :
     (s s'' : Store) (k to n vbn : ℕ) (f : File) (headers pointers room : ℕ) →
-    Grows (shortened s k f to headers pointers room) k n (zero_blocks n) s'' →
+    Grows (with_cut_file s k f to headers pointers room) k n (zero_blocks n) s'' →
     to ≤ length f.blocks → to < vbn → vbn ≤ to + n → IsSomeAnd (s''.file k) (λ g. block_at g vbn ≡ zero_block)
 cut_then_grown s s'' k to n vbn f headers pointers room grows long above below =
     subst (λ (x : Store). IsSomeAnd (x.file k) (λ g. block_at g vbn ≡ zero_block)) (sym grows.store_is)
@@ -132,4 +132,4 @@ cut_comes_back_zero s task caller lun to n block a b s' s'' block' block'' vbn h
 
     long : to ≤ length cut.before.blocks
     long =
-        omega (arith, can_cut s task caller lun to block a s' block' h, length-named s (id_held s task lun) cut.before cut.was)
+        omega (arith, can_cut s task caller lun to block a s' block' h, length-file_named s (id_held s task lun) cut.before cut.was)

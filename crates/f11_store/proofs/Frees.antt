@@ -3,7 +3,7 @@ use Rattle.std.proofs.Common.{◌≡◌, ℕ, ◌≤◌, ◌==◌, ◌&&◌, ◌
 use Rattle.f11_store.specs.declared.files.FileId.{FileId}
 use Rattle.f11_store.specs.File.{File, with_mark}
 use Rattle.f11_store.specs.Store.{Store, Access, id_in, id_held, is_accessed}
-use Rattle.f11_store.specs.Changes.{with_change, with_access, is_due, deleted, marked, settled, after_delete, given_up, deaccessed, released}
+use Rattle.f11_store.specs.Changes.{with_change, with_access, is_due, without_file_at, with_marked_file, without_due_file, after_delete, after_giving_up, after_deaccess, after_release}
 use Rattle.f11_store.specs.Lags.{is_meant}
 use Rattle.f11_store.specs.declared.requests.Request.TheVariants as request
 
@@ -38,7 +38,7 @@ frees_change s k change = record {
 }
 
 -- a file that goes
-pub frees_deleted : (s : Store) (k : ℕ) → Frees s (λ n. n == k) (deleted s k)
+pub frees_deleted : (s : Store) (k : ℕ) → Frees s (λ n. n == k) (without_file_at s k)
 frees_deleted s k = record {
   others = λ n out. rw out;
   free = omega arith;
@@ -60,25 +60,25 @@ frees_either s meant false t u h k = k
 pub frees_access : (s : Store) (meant : ℕ → Bool) (task lun : ℕ) (a : Option Access) → Frees s meant (with_access s task lun a)
 frees_access s meant task lun a = record { others = λ n out. refl; free = omega arith; unused = λ n h. h; last = λ n. refl; slots = refl }
 
-pub frees_settled : (s : Store) (id : FileId) → Frees s (λ n. n == id.number) (settled s id)
+pub frees_settled : (s : Store) (id : FileId) → Frees s (λ n. n == id.number) (without_due_file s id)
 frees_settled s id =
-    frees_either s (λ n. n == id.number) (is_due s id) (deleted s id.number) s
+    frees_either s (λ n. n == id.number) (is_due s id) (without_file_at s id.number) s
     (frees_deleted s id.number) (frees_nothing s (λ n. n == id.number))
 
 pub frees_after_delete : (s : Store) (id : FileId) → Frees s (λ n. n == id.number) (after_delete s id)
 frees_after_delete s id =
-    frees_either s (λ n. n == id.number) (is_accessed s id) (marked s id.number) (deleted s id.number)
+    frees_either s (λ n. n == id.number) (is_accessed s id) (with_marked_file s id.number) (without_file_at s id.number)
     (frees_change s id.number (λ f. record f { characteristics = with_mark f.characteristics })) (frees_deleted s id.number)
 
 -- what is given up
 pub frees_given_up :
-    (s : Store) (task lun : ℕ) (o : Option Access) → Frees s (λ n. n == (id_in o).number) (given_up s task lun o)
+    (s : Store) (task lun : ℕ) (o : Option Access) → Frees s (λ n. n == (id_in o).number) (after_giving_up s task lun o)
 frees_given_up s task lun None = frees_nothing s (λ n. n == 0)
 frees_given_up s task lun (Some a) =
-    frees_then s (with_access s task lun None) (settled (with_access s task lun None) a.file) (λ n. n == a.file.number)
+    frees_then s (with_access s task lun None) (without_due_file (with_access s task lun None) a.file) (λ n. n == a.file.number)
     (frees_access s (λ n. n == a.file.number) task lun None) (frees_settled (with_access s task lun None) a.file)
 
-pub frees_deaccessed : (s : Store) (task lun : ℕ) → Frees s (λ n. n == (id_held s task lun).number) (deaccessed s task lun)
+pub frees_deaccessed : (s : Store) (task lun : ℕ) → Frees s (λ n. n == (id_held s task lun).number) (after_deaccess s task lun)
 frees_deaccessed s task lun = frees_given_up s task lun (s.access task lun)
 
 -- more files may be meant
@@ -94,14 +94,14 @@ frees_more s t meant more h k = record {
 -- another lun holds what it held
 access_of_given_up :
     (s : Store) (task lun other : ℕ) (o : Option Access) → (other == lun) ≡ false →
-    (given_up s task lun o).access task other ≡ s.access task other
+    (after_giving_up s task lun o).access task other ≡ s.access task other
 access_of_given_up s task lun other None h = refl
 access_of_given_up s task lun other (Some a) h =
     by_test (is_due (with_access s task lun None) a.file)
     ∙ not_taken (task == task) (other == lun) h
   where
     by_test : (b : Bool) →
-        (if b then deleted (with_access s task lun None) a.file.number else with_access s task lun None).access task other
+        (if b then without_file_at (with_access s task lun None) a.file.number else with_access s task lun None).access task other
         ≡ (with_access s task lun None).access task other
     by_test true = refl
     by_test false = refl
@@ -132,25 +132,25 @@ held_by_none s task n h =
 frees_next :
     (s t : Store) (task lun : ℕ) (meant : ℕ → Bool) → t.access task lun ≡ s.access task lun →
     ((n : ℕ) → meant n ≡ false → (n == (id_held s task lun).number) ≡ false) →
-    Frees s meant t → Frees s meant (deaccessed t task lun)
+    Frees s meant t → Frees s meant (after_deaccess t task lun)
 frees_next s t task lun meant held h frees =
-    frees_then s t (deaccessed t task lun) meant frees
-    (frees_more t (deaccessed t task lun) (λ n. n == (id_held t task lun).number) meant
+    frees_then s t (after_deaccess t task lun) meant frees
+    (frees_more t (after_deaccess t task lun) (λ n. n == (id_held t task lun).number) meant
     (λ n out. subst (λ (o : Option Access). (n == (id_in o).number) ≡ false) (sym held) (h n out))
     (frees_deaccessed t task lun))
 
-pub frees_released : (s : Store) (task : ℕ) → Frees s (is_meant s task request.Release) (released s task)
+pub frees_released : (s : Store) (task : ℕ) → Frees s (is_meant s task request.Release) (after_release s task)
 frees_released s task =
-    frees_next s (deaccessed (deaccessed (deaccessed s task 0) task 1) task 2) task 3 meant
-    (held (deaccessed (deaccessed s task 0) task 1) 2 3 refl ∙ held (deaccessed s task 0) 1 3 refl ∙ held s 0 3 refl)
+    frees_next s (after_deaccess (after_deaccess (after_deaccess s task 0) task 1) task 2) task 3 meant
+    (held (after_deaccess (after_deaccess s task 0) task 1) 2 3 refl ∙ held (after_deaccess s task 0) 1 3 refl ∙ held s 0 3 refl)
     (λ n out. (held_by_none s task n out).3)
-    (frees_next s (deaccessed (deaccessed s task 0) task 1) task 2 meant
-    (held (deaccessed s task 0) 1 2 refl ∙ held s 0 2 refl) (λ n out. (held_by_none s task n out).2)
-    (frees_next s (deaccessed s task 0) task 1 meant (held s 0 1 refl) (λ n out. (held_by_none s task n out).1)
-    (frees_more s (deaccessed s task 0) (λ n. n == (id_held s task 0).number) meant (λ n out. (held_by_none s task n out).0) (frees_deaccessed s task 0))))
+    (frees_next s (after_deaccess (after_deaccess s task 0) task 1) task 2 meant
+    (held (after_deaccess s task 0) 1 2 refl ∙ held s 0 2 refl) (λ n out. (held_by_none s task n out).2)
+    (frees_next s (after_deaccess s task 0) task 1 meant (held s 0 1 refl) (λ n out. (held_by_none s task n out).1)
+    (frees_more s (after_deaccess s task 0) (λ n. n == (id_held s task 0).number) meant (λ n out. (held_by_none s task n out).0) (frees_deaccessed s task 0))))
   where
     meant : ℕ → Bool
     meant = is_meant s task request.Release
 
-    held : (t : Store) (lun other : ℕ) → (other == lun) ≡ false → (deaccessed t task lun).access task other ≡ t.access task other
+    held : (t : Store) (lun other : ℕ) → (other == lun) ≡ false → (after_deaccess t task lun).access task other ≡ t.access task other
     held t lun other h = access_of_given_up t task lun other (t.access task lun) h

@@ -4,9 +4,9 @@ use Rattle.std.proofs.lemmas.List.{append-nil}
 use Rattle.std.proofs.lemmas.Bool.Decides.{eqb_tells}
 use Rattle.f11_store.specs.declared.files.FileId.{FileId}
 use Rattle.f11_store.specs.File.{File, no_file, zero_blocks, zero_block}
-use Rattle.f11_store.specs.Store.{Store, named, free_slots, free_headers}
+use Rattle.f11_store.specs.Store.{Store, file_named, free_slots, free_headers}
 use Rattle.f11_store.specs.Directory.{with_record, with_end}
-use Rattle.f11_store.specs.Changes.{is_in, next_sequence, lengthened, extended, with_entry, with_end_after, appended}
+use Rattle.f11_store.specs.Changes.{is_in, next_sequence, grown_file, with_grown_file, with_entry, with_end_after, with_entry_at_end}
 use Rattle.f11_store.specs.Lags.{part_on, with_no_mark, with_zero_block, extend_parts, with_parts, AreLike}
 use Rattle.f11_store.proofs.StoreLemmas.{same_number}
 use Rattle.f11_store.proofs.SlotLemmas.{filter_but, filter_more}
@@ -77,26 +77,26 @@ StoresAlike t u = (m : ℕ) → AreLike (t.file m) (u.file m)
 -- a file that grew is like one that grew part by part
 pub extended_alike :
     (s : Store) (k n : ℕ) (f : File) (added pointers room : ℕ) → s.file k ≡ Some f →
-    StoresAlike (extended s k f n (zero_blocks n) added pointers room) (with_parts s (extend_parts k n))
+    StoresAlike (with_grown_file s k f n (zero_blocks n) added pointers room) (with_parts s (extend_parts k n))
 unfolding extend_parts
 extended_alike s k n f added pointers room was m = by_number (eqb_tells m k)
   where
     here : (with_parts s (extend_parts k n)).file k ≡ Some (record (with_no_mark f) { blocks = f.blocks ++ zero_blocks n })
     here = blocks_one_by_one n (part_on k with_no_mark s) k (with_no_mark f) (rw (same_number k, was) refl)
 
-    at_k : AreLike ((extended s k f n (zero_blocks n) added pointers room).file k) ((with_parts s (extend_parts k n)).file k)
-    at_k = rw (same_number k) (subst (λ (o : Option File). AreLike (Some (lengthened s f (zero_blocks n) added pointers room)) o) (sym here)
+    at_k : AreLike ((with_grown_file s k f n (zero_blocks n) added pointers room).file k) ((with_parts s (extend_parts k n)).file k)
+    at_k = rw (same_number k) (subst (λ (o : Option File). AreLike (Some (grown_file s f (zero_blocks n) added pointers room)) o) (sym here)
         (record { sequence = refl; owner = refl; protection = refl; characteristics = refl; ident = refl; attr = refl; blocks = refl }))
 
     elsewhere : (m == k) ≡ false → (with_parts s (extend_parts k n)).file m ≡ s.file m
     elsewhere h = blocks_elsewhere n (part_on k with_no_mark s) k m h ∙ rw h refl
 
     by_number : ((m == k) ≡ true) × (m ≡ k) ⊎ ((m == k) ≡ false) × (m ≢ k) →
-        AreLike ((extended s k f n (zero_blocks n) added pointers room).file m) ((with_parts s (extend_parts k n)).file m)
+        AreLike ((with_grown_file s k f n (zero_blocks n) added pointers room).file m) ((with_parts s (extend_parts k n)).file m)
     by_number (inl w) =
-        subst (λ (i : ℕ). AreLike ((extended s k f n (zero_blocks n) added pointers room).file i) ((with_parts s (extend_parts k n)).file i)) (sym w.1) at_k
+        subst (λ (i : ℕ). AreLike ((with_grown_file s k f n (zero_blocks n) added pointers room).file i) ((with_parts s (extend_parts k n)).file i)) (sym w.1) at_k
     by_number (inr w) =
-        subst (λ (o : Option File). AreLike ((extended s k f n (zero_blocks n) added pointers room).file m) o) (sym (elsewhere w.0))
+        subst (λ (o : Option File). AreLike ((with_grown_file s k f n (zero_blocks n) added pointers room).file m) o) (sym (elsewhere w.0))
         (rw w.0 (alike (s.file m)))
 
 -- the parts of Extend leave the number of slots
@@ -113,8 +113,8 @@ slots_one_by_one (suc n) t =
     ∙ ap (λ m. record t { slots = m }) (let e : t.slots + 1 + n ≡ t.slots + suc n = omega arith in e)
 
 -- the file that an identification names has no more room than that of its number
-pub room-named : (s : Store) (id : FileId) (f : File) → s.file id.number ≡ Some f → (named s id).room ≤ f.room
-room-named s id f h = rw h (by_test (f.sequence == id.sequence))
+pub room-file_named : (s : Store) (id : FileId) (f : File) → s.file id.number ≡ Some f → (file_named s id).room ≤ f.room
+room-file_named s id f h = rw h (by_test (f.sequence == id.sequence))
   where
     by_test : (b : Bool) → (unwrap_or (if b then Some f else None) no_file).room ≤ f.room
     by_test true = omega arith
@@ -123,7 +123,7 @@ room-named s id f h = rw h (by_test (f.sequence == id.sequence))
 -- two files are alike after a record was put and the end moved, where they were before
 pub appended_alike :
     (t u : Store) (k i : ℕ) (r : List ℕ) → StoresAlike t u →
-    StoresAlike (appended t k i r) (part_on k (with_end_after i) (part_on k (with_entry i r) u))
+    StoresAlike (with_entry_at_end t k i r) (part_on k (with_end_after i) (part_on k (with_entry i r) u))
 appended_alike t u k i r h m =
     rw (same_number k) (by_test (m == k) (t.file k) (u.file k) (h k) (t.file m) (u.file m) (h m))
   where

@@ -10,14 +10,14 @@ use Rattle.f11_store.specs.declared.files.FileId.{FileId}
 use Rattle.f11_store.specs.declared.requests.Request.{Request}
 use Rattle.f11_store.specs.declared.requests.Request.TheVariants as request
 use Rattle.f11_store.specs.File.{File, need, zero_blocks, without_contiguous}
-use Rattle.f11_store.specs.Store.{Store, named, id_held, held, index_file, least_free, free_slots, free_headers}
-use Rattle.f11_store.specs.Directory.{place_of, empty_place, empty_record, entry_count, needs_block, record_bytes}
+use Rattle.f11_store.specs.Store.{Store, file_named, id_held, file_held, index_file, least_free, free_slots, free_headers}
+use Rattle.f11_store.specs.Directory.{index_of_name, index_of_empty, empty_record, entry_count, needs_block, record_bytes}
 use Rattle.f11_store.specs.Causes.{first_refusal}
-use Rattle.f11_store.specs.Changes.{is_in, next_sequence, created, shortened, extended, MayGrow, GrowsIndex, with_more_slots, with_end_after, appended, Extends, EntersAtEnd, EntersAt, Enters, with_change, with_block, with_entry, with_attributes, after_delete, deaccessed, released, removed}
+use Rattle.f11_store.specs.Changes.{is_in, next_sequence, after_create, with_cut_file, with_grown_file, MayGrow, GrowsIndex, with_more_slots, with_end_after, with_entry_at_end, Extends, EntersAtEnd, EntersAt, Enters, with_change, with_block, with_entry, with_replacement, after_delete, after_deaccess, after_release, after_remove}
 use Rattle.f11_store.specs.Lags.{Part, part_on, parts_if, served_parts, parts_of, with_parts, with_no_mark, grow_parts, extend_parts, end_parts, append_parts, enter_parts, is_meant, AreLike, Lags}
 use Rattle.f11_store.specs.Laws.{LagsItself, StepLags}
 use Rattle.f11_store.proofs.Frees.{Frees, frees_change, frees_access, frees_after_delete, frees_deaccessed, frees_released}
-use Rattle.f11_store.proofs.Growth.{alike, headers_taken, last_or_next, stays_unused, extended_alike, extend_and_slots, slots_one_by_one, room-named, StoresAlike, appended_alike}
+use Rattle.f11_store.proofs.Growth.{alike, headers_taken, last_or_next, stays_unused, extended_alike, extend_and_slots, slots_one_by_one, room-file_named, StoresAlike, appended_alike}
 use Rattle.f11_store.proofs.SlotLemmas.{filter_no_less}
 
 pub lags_itself : LagsItself
@@ -100,27 +100,27 @@ taken_at_most n slots = rw length-take (omega arith)
 created_lags :
     (s : Store) (task : ℕ) (caller : Uic) (word : ℕ) (ident attr block : List ℕ) →
     first_refusal s task caller (request.Create word ident attr) ≡ None →
-    Lags (created s caller word ident attr) s task caller (request.Create word ident attr) block
+    Lags (after_create s caller word ident attr) s task caller (request.Create word ident attr) block
 created_lags s task caller word ident attr block none = record {
   done = 1;
-  files = λ n. rw done (alike ((created s caller word ident attr).file n));
+  files = λ n. rw done (alike ((after_create s caller word ident attr).file n));
   slots = rw done refl;
   others = λ n out. rw out refl;
   free_blocks = omega arith;
-  headers = headers_taken s (created s caller word ident attr) (least_free s ∷ [])
+  headers = headers_taken s (after_create s caller word ident attr) (least_free s ∷ [])
       (λ n out unused. stays_unused (is_in (least_free s ∷ []) n) (s.in_use n) out unused) (omega arith);
   last = λ n h k. last_or_next (is_in (least_free s ∷ []) n) (s.last n);
   new_slots = λ n h k. absurd (omega arith);
 }
   where
-    done : take 1 (parts_of s task caller (request.Create word ident attr) block) ≡ (λ (t : Store). created t caller word ident attr) ∷ []
+    done : take 1 (parts_of s task caller (request.Create word ident attr) block) ≡ (λ (t : Store). after_create t caller word ident attr) ∷ []
     done = ap (take 1) (parts_served s task caller (request.Create word ident attr) block none)
 
 -- a file that is cut
 shortened_lags :
     (s : Store) (task : ℕ) (caller : Uic) (lun to : ℕ) (block : List ℕ) (f : File) (headers pointers room : ℕ) →
     first_refusal s task caller (request.Truncate lun to) ≡ None → s.file (id_held s task lun).number ≡ Some f →
-    Lags (shortened s (id_held s task lun).number f to headers pointers room) s task caller (request.Truncate lun to) block
+    Lags (with_cut_file s (id_held s task lun).number f to headers pointers room) s task caller (request.Truncate lun to) block
 shortened_lags s task caller lun to block f headers pointers room none was = record {
   done = 1;
   files = λ n. rw (done, was) (by_test (n == (id_held s task lun).number) (s.file n));
@@ -129,7 +129,7 @@ shortened_lags s task caller lun to block f headers pointers room none was = rec
   free_blocks = omega arith;
   headers = omega (
     arith,
-    free_headers_grow s (shortened s (id_held s task lun).number f to headers pointers room)
+    free_headers_grow s (with_cut_file s (id_held s task lun).number f to headers pointers room)
         (λ n unused. out_of_use _ (s.in_use n) unused) refl,
   );
   last = λ n h k. inl refl;
@@ -168,7 +168,7 @@ pub record Takes (s : Store) (k blocks headers : ℕ) (t : Store) : Type 0 where
 extended_takes :
     (s : Store) (k n : ℕ) (f : File) (blocks : List (List ℕ)) (added pointers room less : ℕ) →
     MayGrow f n added pointers room → less ≤ f.room →
-    Takes s k n (need less n) (extended s k f n blocks added pointers room)
+    Takes s k n (need less n) (with_grown_file s k f n blocks added pointers room)
 extended_takes s k n f blocks added pointers room less may h = record {
   others = λ m out. rw out refl;
   free = omega arith;
@@ -177,7 +177,7 @@ extended_takes s k n f blocks added pointers room less may h = record {
     may.headers,
     need_no_less less f.room n h,
     taken_at_most added (free_slots s),
-    headers_taken s (extended s k f n blocks added pointers room) (take added (free_slots s))
+    headers_taken s (with_grown_file s k f n blocks added pointers room) (take added (free_slots s))
         (λ m out unused. stays_unused (is_in (take added (free_slots s)) m) (s.in_use m) out unused) (omega arith),
   );
   last = λ m. last_or_next (is_in (take added (free_slots s)) m) (s.last m);
@@ -206,20 +206,20 @@ extended_lags s s' task caller lun n block none grows =
     k = (id_held s task lun).number
 
     after : Store
-    after = extended s k grows.before n (zero_blocks n) grows.added grows.pointers grows.room
+    after = with_grown_file s k grows.before n (zero_blocks n) grows.added grows.pointers grows.room
 
     parts : take (length (parts_of s task caller (request.Extend lun n) block)) (parts_of s task caller (request.Extend lun n) block) ≡ extend_parts k n
     parts = all_parts s task caller (request.Extend lun n) block none
 
-    takes : Takes s k n (need (held s task lun).room n) after
-    takes = extended_takes s k n grows.before (zero_blocks n) grows.added grows.pointers grows.room (held s task lun).room
-        grows.may_grow (room-named s (id_held s task lun) grows.before grows.was)
+    takes : Takes s k n (need (file_held s task lun).room n) after
+    takes = extended_takes s k n grows.before (zero_blocks n) grows.added grows.pointers grows.room (file_held s task lun).room
+        grows.may_grow (room-file_named s (id_held s task lun) grows.before grows.was)
 
 -- a record that is entered: what is taken, and which parts are done
 pub record Entered (s : Store) (d : FileId) (t u : Store) : Type 0 where
   pub files : StoresAlike t u
   pub same_slots : t.slots ≡ u.slots
-  pub takes : Takes s d.number 1 (need (named s d).room 1) t
+  pub takes : Takes s d.number 1 (need (file_named s d).room 1) t
 
 -- a change of one file takes nothing
 change_takes : (s : Store) (k blocks headers : ℕ) (change : File → File) → Takes s k blocks headers (with_change s k change)
@@ -250,21 +250,21 @@ entered_at_end false s d i r s' h =
     subst (λ (x : Store). Entered s d x (with_parts s (append_parts false d.number i r))) (sym h) (record {
       files = appended_alike s s d.number i r (λ m. alike (s.file m));
       same_slots = refl;
-      takes = change_takes s d.number 1 (need (named s d).room 1) (λ f. with_end_after i (with_entry i r f));
+      takes = change_takes s d.number 1 (need (file_named s d).room 1) (λ f. with_end_after i (with_entry i r f));
     })
 entered_at_end true s d i r s' (grown, grows, e) =
-    subst (λ (x : Store). Entered s d x (with_parts s (append_parts true d.number i r))) (sym (e ∙ ap (λ t. appended t d.number i r) grows.store_is)) (record {
-      files = λ m. subst (λ (x : Store). AreLike ((appended after d.number i r).file m) (x.file m)) (sym joined)
+    subst (λ (x : Store). Entered s d x (with_parts s (append_parts true d.number i r))) (sym (e ∙ ap (λ t. with_entry_at_end t d.number i r) grows.store_is)) (record {
+      files = λ m. subst (λ (x : Store). AreLike ((with_entry_at_end after d.number i r).file m) (x.file m)) (sym joined)
           (appended_alike after (with_parts s (extend_parts d.number 1)) d.number i r
           (extended_alike s d.number 1 grows.before grows.added grows.pointers grows.room grows.was) m);
       same_slots = sym (ap (λ x. x.slots) joined ∙ extend_and_slots s d.number 1);
-      takes = takes_then_change s after d.number 1 (need (named s d).room 1) (λ f. with_end_after i (with_entry i r f))
-          (extended_takes s d.number 1 grows.before (zero_blocks 1) grows.added grows.pointers grows.room (named s d).room
-          grows.may_grow (room-named s d grows.before grows.was));
+      takes = takes_then_change s after d.number 1 (need (file_named s d).room 1) (λ f. with_end_after i (with_entry i r f))
+          (extended_takes s d.number 1 grows.before (zero_blocks 1) grows.added grows.pointers grows.room (file_named s d).room
+          grows.may_grow (room-file_named s d grows.before grows.was));
     })
   where
     after : Store
-    after = extended s d.number grows.before 1 (zero_blocks 1) grows.added grows.pointers grows.room
+    after = with_grown_file s d.number grows.before 1 (zero_blocks 1) grows.added grows.pointers grows.room
 
     joined : with_parts s (append_parts true d.number i r)
         ≡ part_on d.number (with_end_after i) (part_on d.number (with_entry i r) (with_parts s (extend_parts d.number 1)))
@@ -277,9 +277,9 @@ entered_at (Some i) s d r s' h =
     subst (λ (x : Store). Entered s d x (with_parts s (enter_parts (Some i) s d r))) (sym h) (record {
       files = λ m. alike ((with_change s d.number (with_entry i r)).file m);
       same_slots = refl;
-      takes = change_takes s d.number 1 (need (named s d).room 1) (with_entry i r);
+      takes = change_takes s d.number 1 (need (file_named s d).room 1) (with_entry i r);
     })
-entered_at None s d r s' h = entered_at_end (needs_block (named s d)) s d (entry_count (named s d)) r s' h
+entered_at None s d r s' h = entered_at_end (needs_block (file_named s d)) s d (entry_count (file_named s d)) r s' h
 
 -- a record that is entered
 entered_lags :
@@ -297,11 +297,11 @@ entered_lags s s' task caller d name id block none enters = record {
   new_slots = λ m h l. absurd (omega (arith, entered.takes.slots));
 }
   where
-    entered : Entered s d s' (with_parts s (enter_parts (empty_place (named s d)) s d (record_bytes id name)))
-    entered = entered_at (empty_place (named s d)) s d (record_bytes id name) s' enters
+    entered : Entered s d s' (with_parts s (enter_parts (index_of_empty (file_named s d)) s d (record_bytes id name)))
+    entered = entered_at (index_of_empty (file_named s d)) s d (record_bytes id name) s' enters
 
     parts : take (length (parts_of s task caller (request.Enter d name id) block)) (parts_of s task caller (request.Enter d name id) block)
-        ≡ enter_parts (empty_place (named s d)) s d (record_bytes id name)
+        ≡ enter_parts (index_of_empty (file_named s d)) s d (record_bytes id name)
     parts = all_parts s task caller (request.Enter d name id) block none
 
 -- slots that are added have no sequence number yet, and the others keep theirs
@@ -343,7 +343,7 @@ grown_lags s s' task caller n block none grew =
     })
   where
     after : Store
-    after = extended s 1 grew.grows.before n [] grew.grows.added grew.grows.pointers grew.grows.room
+    after = with_grown_file s 1 grew.grows.before n [] grew.grows.added grew.grows.pointers grew.grows.room
 
     less_room : (index_file s).room ≤ grew.grows.before.room
     less_room = rw grew.grows.was (omega arith)
@@ -388,11 +388,11 @@ step_lags s task caller (request.Access id m lun) block (Ok a) s' block' h =
     (frees_lags s _ task caller (request.Access id m lun) block 0 (λ n. alike (s.file n)) refl
     (frees_access s (λ _. false) task lun (Some (record { file = id; mode = m }))))
 step_lags s task caller (request.Deaccess lun) block (Ok a) s' block' h =
-    one_part_lags s s' task caller (request.Deaccess lun) block (λ t. deaccessed t task lun) h.no_cause refl h.changes
+    one_part_lags s s' task caller (request.Deaccess lun) block (λ t. after_deaccess t task lun) h.no_cause refl h.changes
     (frees_deaccessed s task lun)
 step_lags s task caller request.Release block (Ok a) s' block' h =
     subst (λ (x : Store). Lags x s task caller request.Release block) (sym h.changes)
-    (frees_lags s (released s task) task caller request.Release block 4 (λ n. alike ((released s task).file n)) refl
+    (frees_lags s (after_release s task) task caller request.Release block 4 (λ n. alike ((after_release s task).file n)) refl
     (frees_released s task))
 step_lags s task caller (request.ReadBlock lun vbn) block (Ok a) s' block' h =
     unchanged_lags s s' task caller (request.ReadBlock lun vbn) block h.changes
@@ -404,11 +404,11 @@ step_lags s task caller (request.Find d name) block (Ok a) s' block' h =
 step_lags s task caller (request.Enter d name id) block (Ok a) s' block' h =
     entered_lags s s' task caller d name id block h.no_cause h.changes
 step_lags s task caller (request.Remove d name) block (Ok a) s' block' h =
-    one_part_lags s s' task caller (request.Remove d name) block (λ t. removed t d name) h.no_cause refl h.changes
-    (frees_change s d.number (with_entry (unwrap_or (place_of name (named s d)) 0) empty_record))
+    one_part_lags s s' task caller (request.Remove d name) block (λ t. after_remove t d name) h.no_cause refl h.changes
+    (frees_change s d.number (with_entry (unwrap_or (index_of_name name (file_named s d)) 0) empty_record))
 step_lags s task caller (request.ReadAttr id) block (Ok a) s' block' h =
     unchanged_lags s s' task caller (request.ReadAttr id) block h.changes
 step_lags s task caller (request.WriteAttr id c) block (Ok a) s' block' h =
-    one_part_lags s s' task caller (request.WriteAttr id c) block (part_on id.number (with_attributes c))
-    h.no_cause refl h.changes (frees_change s id.number (with_attributes c))
+    one_part_lags s s' task caller (request.WriteAttr id c) block (part_on id.number (with_replacement c))
+    h.no_cause refl h.changes (frees_change s id.number (with_replacement c))
 step_lags s task caller request.Space block (Ok a) s' block' h = unchanged_lags s s' task caller request.Space block h.changes

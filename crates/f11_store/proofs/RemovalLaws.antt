@@ -16,8 +16,8 @@ use Rattle.f11_store.specs.declared.requests.Reply.{Reply}
 use Rattle.f11_store.specs.declared.requests.Reply.TheVariants as reply
 use Rattle.f11_store.specs.declared.requests.Request.TheVariants as request
 use Rattle.f11_store.specs.File.{File, is_marked}
-use Rattle.f11_store.specs.Store.{Store, named}
-use Rattle.f11_store.specs.Directory.{is_directory, record_at, entry_count, entries_of, record_id, has_name, place_of, record_of, is_entered, empty_record}
+use Rattle.f11_store.specs.Store.{Store, file_named}
+use Rattle.f11_store.specs.Directory.{is_directory, record_at, entry_count, entries_of, record_id, has_name, index_of_name, record_of, is_entered, empty_record}
 use Rattle.f11_store.specs.Causes.{◌⇐◌, first_of, is_bad, is_missing, lacks, first_refusal}
 use Rattle.f11_store.specs.Step.{Step}
 use Rattle.f11_store.specs.Laws.{IsFoundElsewhere, RemovedThenFound}
@@ -75,7 +75,7 @@ unfolding has_name
 has_name-empty_record name = refl
 
 -- a record before the first with the name hasn't got it
-earlier_lacks : (f : File) (name : List ℕ) (i j : ℕ) → place_of name f ≡ Some i → j < i → has_name name (record_at f.blocks j) ≡ false
+earlier_lacks : (f : File) (name : List ℕ) (i j : ℕ) → index_of_name name f ≡ Some i → j < i → has_name name (record_at f.blocks j) ≡ false
 earlier_lacks f name i j first before =
     ap (has_name name) (sym (entry_at f j within)) ∙ fails_before_first (has_name name) (entries_of f) j [] (rw (first_place (has_name name) (entries_of f) i first) before)
   where
@@ -89,7 +89,7 @@ earlier_lacks f name i j first before =
 pub record IsFirst (name : List ℕ) (f : File) (j : ℕ) : Type 0 where
   pub within : j < entry_count f
   pub has : has_name name (record_at f.blocks j) ≡ true
-  pub place : place_of name f ≡ Some j
+  pub place : index_of_name name f ≡ Some j
   pub found : record_of name f ≡ record_at f.blocks j
 
 first_of_name : (f : File) (name : List ℕ) → is_entered name f ≡ true → IsFirst name f (position_or_len (has_name name) (entries_of f))
@@ -121,7 +121,7 @@ pub record IsEmptied (f f' : File) (i : ℕ) : Type 0 where
 
 -- there the first record with the name stands behind the one that went
 stands_behind :
-    (f f' : File) (name : List ℕ) (i j : ℕ) → place_of name f ≡ Some i → IsEmptied f f' i → IsFirst name f' j → i < j
+    (f f' : File) (name : List ℕ) (i j : ℕ) → index_of_name name f ≡ Some i → IsEmptied f f' i → IsFirst name f' j → i < j
 stands_behind f f' name i j first went now = by_order (eqb_tells j i) (nat_lt j i) refl
   where
     by_order : ((j == i) ≡ true) × (j ≡ i) ⊎ ((j == i) ≡ false) × (j ≢ i) → (b : Bool) → nat_lt j i ≡ b → i < j
@@ -136,26 +136,26 @@ stands_behind f f' name i j first went now = by_order (eqb_tells j i) (nat_lt j 
 -- what Find then answers
 found_elsewhere :
     (s : Store) (f : File) (other : ℕ) (reader : Uic) (d : FileId) (name : List ℕ) (i : ℕ) (before : List ℕ) (result : Result Reply Refusal) (s' : Store) (after : List ℕ) →
-    place_of name f ≡ Some i → IsEmptied f (named s d) i → Step s other reader (request.Find d name) before result s' after →
-    IsFoundElsewhere i name (named s d) result
+    index_of_name name f ≡ Some i → IsEmptied f (file_named s d) i → Step s other reader (request.Find d name) before result s' after →
+    IsFoundElsewhere i name (file_named s d) result
 found_elsewhere s f other reader d name i before (Ok a) s' after first went k =
-    let now : IsFirst name (named s d) (position_or_len (has_name name) (entries_of (named s d))) = first_of_name (named s d) name stands in
-    (_, stands_behind f (named s d) name i _ first went now, now.place, k.reply_is ∙ ap (λ r. reply.Found (record_id r)) now.found)
+    let now : IsFirst name (file_named s d) (position_or_len (has_name name) (entries_of (file_named s d))) = first_of_name (file_named s d) name stands in
+    (_, stands_behind f (file_named s d) name i _ first went now, now.place, k.reply_is ∙ ap (λ r. reply.Found (record_id r)) now.found)
   where
-    stands : is_entered name (named s d) ≡ true
-    stands = entered_where_found (is_bad d) (nat_lt d.number 4) (is_missing s d) (is_marked (named s d)) (lacks right.Read reader (named s d))
-        (not (is_directory (named s d))) (is_entered name (named s d)) k.no_cause
-found_elsewhere s f other reader d name i before (Err e) s' after first went k = λ missing. by_test (is_entered name (named s d)) refl missing
+    stands : is_entered name (file_named s d) ≡ true
+    stands = entered_where_found (is_bad d) (nat_lt d.number 4) (is_missing s d) (is_marked (file_named s d)) (lacks right.Read reader (file_named s d))
+        (not (is_directory (file_named s d))) (is_entered name (file_named s d)) k.no_cause
+found_elsewhere s f other reader d name i before (Err e) s' after first went k = λ missing. by_test (is_entered name (file_named s d)) refl missing
   where
-    by_test : (b : Bool) → is_entered name (named s d) ≡ b → e ≡ NoSuchEntry → place_of name (named s d) ≡ None
-    by_test false h missing = none_placed (has_name name) (entries_of (named s d)) h
+    by_test : (b : Bool) → is_entered name (file_named s d) ≡ b → e ≡ NoSuchEntry → index_of_name name (file_named s d) ≡ None
+    by_test false h missing = none_placed (has_name name) (entries_of (file_named s d)) h
     by_test true h missing =
         absurd (refused_otherwise (first_refusal s other reader (request.Find d name)) d name e
-        (λ x refused. found_causes (is_bad d) (nat_lt d.number 4) (is_missing s d) (is_marked (named s d)) (lacks right.Read reader (named s d))
-        (not (is_directory (named s d))) (is_entered name (named s d)) x h refused)
+        (λ x refused. found_causes (is_bad d) (nat_lt d.number 4) (is_missing s d) (is_marked (file_named s d)) (lacks right.Read reader (file_named s d))
+        (not (is_directory (file_named s d))) (is_entered name (file_named s d)) x h refused)
         k.may_refuse missing)
 
 pub removed_then_found : RemovedThenFound
-removed_then_found s task caller d name block a s' block' i other reader before result s'' after whole removed first found =
-    let left = removed_is_empty s task caller d name block a s' block' i whole removed first in
-    found_elsewhere s' (named s d) other reader d name i before result s'' after first (record { emptied = left.1; others = left.2 }) found
+removed_then_found s task caller d name block a s' block' i other reader before result s'' after whole after_remove first found =
+    let left = removed_is_empty s task caller d name block a s' block' i whole after_remove first in
+    found_elsewhere s' (file_named s d) other reader d name i before result s'' after first (record { emptied = left.1; others = left.2 }) found

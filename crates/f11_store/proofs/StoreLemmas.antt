@@ -6,7 +6,7 @@ use Rattle.std.proofs.lemmas.Bool.Decides.{nat_tests}
 use Rattle.f11_store.specs.declared.files.FileId.{FileId}
 use Rattle.f11_store.specs.declared.refusals.Refusal.{Refusal}
 use Rattle.f11_store.specs.File.{File, no_file}
-use Rattle.f11_store.specs.Store.{Store, Access, of_sequence, file_of, named}
+use Rattle.f11_store.specs.Store.{Store, Access, of_sequence, file_of, file_named}
 use Rattle.f11_store.specs.Causes.{is_no_writer}
 use Rattle.f11_store.specs.Changes.{with_change}
 use Rattle.f11_store.specs.Laws.{AgreeingAreOne}
@@ -56,20 +56,20 @@ file_of-with_change s id change keeps =
     rw (same_number id.number) (of_sequence-change id.sequence change keeps (s.file id.number))
 
 -- a file with a block is one
-pub file_of-named : (s : Store) (id : FileId) → 0 < length (named s id).blocks → file_of s id ≡ Some (named s id)
-file_of-named s id h = by_file (file_of s id) h
+pub file_of-file_named : (s : Store) (id : FileId) → 0 < length (file_named s id).blocks → file_of s id ≡ Some (file_named s id)
+file_of-file_named s id h = by_file (file_of s id) h
   where
     by_file : (o : Option File) → 0 < length (unwrap_or o no_file).blocks → o ≡ Some (unwrap_or o no_file)
     by_file None h = absurd (omega arith)
     by_file (Some f) h = refl
 
 -- the file that was changed, where it has a block
-pub named-with_change :
+pub file_named-with_change :
     (s : Store) (id : FileId) (change : File → File) → ((f : File) → (change f).sequence ≡ f.sequence) →
-    0 < length (named s id).blocks → named (with_change s id.number change) id ≡ change (named s id)
-named-with_change s id change keeps h =
+    0 < length (file_named s id).blocks → file_named (with_change s id.number change) id ≡ change (file_named s id)
+file_named-with_change s id change keeps h =
     ap (λ o. unwrap_or o no_file)
-    (file_of-with_change s id change keeps ∙ ap (option_map change) (file_of-named s id h))
+    (file_of-with_change s id change keeps ∙ ap (option_map change) (file_of-file_named s id h))
 
 -- every other file stays
 pub other_file : (s : Store) (n k : ℕ) (change : File → File) → n ≢ k → (with_change s k change).file n ≡ s.file n
@@ -79,7 +79,7 @@ other_file s n k change differs = rw (other_number n k differs)
 pub kept-with_change :
     {X : Type 0} (s : Store) (id : FileId) (change : File → File) → ((f : File) → (change f).sequence ≡ f.sequence) →
     (part : File → X) → ((f : File) → part (change f) ≡ part f) →
-    part (named (with_change s id.number change) id) ≡ part (named s id)
+    part (file_named (with_change s id.number change) id) ≡ part (file_named s id)
 kept-with_change s id change keeps part stays =
     ap (λ o. part (unwrap_or o no_file)) (file_of-with_change s id change keeps) ∙ by_file (file_of s id)
   where
@@ -88,19 +88,19 @@ kept-with_change s id change keeps part stays =
     by_file (Some f) = stays f
 
 -- the file that an identification names is no longer than that of its number
-pub length-named :
-    (s : Store) (id : FileId) (f : File) → s.file id.number ≡ Some f → length (named s id).blocks ≤ length f.blocks
-length-named s id f h = rw h (by_test (f.sequence == id.sequence))
+pub length-file_named :
+    (s : Store) (id : FileId) (f : File) → s.file id.number ≡ Some f → length (file_named s id).blocks ≤ length f.blocks
+length-file_named s id f h = rw h (by_test (f.sequence == id.sequence))
   where
     by_test : (b : Bool) → length (unwrap_or (if b then Some f else None) no_file).blocks ≤ length f.blocks
     by_test true = omega arith
     by_test false = omega arith
 
 -- the file that was changed, where there is one
-pub named-changed :
+pub file_named-changed :
     (s : Store) (id : FileId) (change : File → File) → ((f : File) → (change f).sequence ≡ f.sequence) → is_none (file_of s id) ≡ false →
-    named (with_change s id.number change) id ≡ change (named s id)
-named-changed s id change keeps h =
+    file_named (with_change s id.number change) id ≡ change (file_named s id)
+file_named-changed s id change keeps h =
     ap (λ o. unwrap_or o no_file) (file_of-with_change s id change keeps) ∙ by_file (file_of s id) h
   where
     by_file : (o : Option File) → is_none o ≡ false → unwrap_or (option_map change o) no_file ≡ change (unwrap_or o no_file)
@@ -108,8 +108,8 @@ named-changed s id change keeps h =
     by_file (Some f) e = refl
 
 -- the file that has the number of one that is there is that one
-pub named-there : (s : Store) (id : FileId) (f : File) → s.file id.number ≡ Some f → is_none (file_of s id) ≡ false → named s id ≡ f
-named-there s id f h there = rw h (by_test (f.sequence == id.sequence) (rw h at there))
+pub file_named-there : (s : Store) (id : FileId) (f : File) → s.file id.number ≡ Some f → is_none (file_of s id) ≡ false → file_named s id ≡ f
+file_named-there s id f h there = rw h (by_test (f.sequence == id.sequence) (rw h at there))
   where
     by_test : (b : Bool) → is_none (if b then Some f else None) ≡ false → unwrap_or (if b then Some f else None) no_file ≡ f
     by_test true e = refl

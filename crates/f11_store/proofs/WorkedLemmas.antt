@@ -7,7 +7,7 @@ use Rattle.f11_store.specs.File.{File, zero_blocks, stated_end}
 use Rattle.f11_store.specs.Store.{Store, free_slots, is_held}
 use Rattle.f11_store.specs.Directory.{is_directory, record_at, entries_of, has_name, record_bytes, with_record, with_end}
 use Rattle.f11_store.specs.Causes.{first_refusal}
-use Rattle.f11_store.specs.Changes.{Changes, MayGrow, Grows, extended}
+use Rattle.f11_store.specs.Changes.{Changes, MayGrow, Grows, with_grown_file}
 use Rattle.f11_store.specs.Step.{MayRefuse, Refuses, Serves, reply_of, block_after}
 use Rattle.f11_store.specs.Worked.{mfd_block, SequenceNumbers, FullVolume, TooLong, DeferredDelete, TruncatedUnderAReader, Conflicts, EnteredAndRemoved, EndMoves, HeadersRunOut, Bounds}
 
@@ -27,7 +27,7 @@ served h k = record { no_cause = h; reply_is = refl; changes = k; block_is = ref
 -- a file that grows, by so many headers, to so many pointers and so much room
 grows :
     {s : Store} {k n : ℕ} {blocks : List (List ℕ)} {f : File} (added pointers room : ℕ) →
-    s.file k ≡ Some f → MayGrow f n added pointers room → Grows s k n blocks (extended s k f n blocks added pointers room)
+    s.file k ≡ Some f → MayGrow f n added pointers room → Grows s k n blocks (with_grown_file s k f n blocks added pointers room)
 grows added pointers room h may = record {
   before = _;
   added = added;

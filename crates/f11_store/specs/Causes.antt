@@ -15,7 +15,7 @@ use Rattle.f11_store.specs.declared.requests.Request.{Request}
 use Rattle.f11_store.specs.declared.requests.Request.TheVariants as request
 use Rattle.f11_store.specs.Rights.{may, is_of}
 use Rattle.f11_store.specs.File.{File, length_of, is_marked, need}
-use Rattle.f11_store.specs.Store.{Store, Access, file_of, named, held, index_file, free_headers, is_held, is_accessed, bars, bars_writing}
+use Rattle.f11_store.specs.Store.{Store, Access, file_of, file_named, file_held, index_file, free_headers, is_held, is_accessed, bars, bars_writing}
 use Rattle.f11_store.specs.Directory.{is_directory, is_entered, needs_block}
 
 -- a refusal, and whether its cause holds
@@ -96,18 +96,18 @@ causes_of s task caller (request.Create _ _ _) =
 causes_of s task caller (request.Extend lun n) =
     (BadArgument ⇐ (n == 0))
     ∷ (NoSuchAccess ⇐ cannot_write s task lun)
-    ∷ (NoPrivilege ⇐ lacks right.Extend caller (held s task lun))
-    ∷ growth_causes s (held s task lun) n
+    ∷ (NoPrivilege ⇐ lacks right.Extend caller (file_held s task lun))
+    ∷ growth_causes s (file_held s task lun) n
 causes_of s task caller (request.Truncate lun to) =
     (NoSuchAccess ⇐ cannot_write s task lun)
-    ∷ (EndOfFile ⇐ nat_lt (length_of (held s task lun)) to)
+    ∷ (EndOfFile ⇐ nat_lt (length_of (file_held s task lun)) to)
     ∷ []
 causes_of s task caller (request.Delete id) =
     (BadArgument ⇐ is_bad id)
     ∷ (SystemFile ⇐ nat_lt id.number 6)
     ∷ (NoSuchFile ⇐ is_missing s id)
-    ∷ (Marked ⇐ (is_marked (named s id) && is_accessed s id))
-    ∷ (NoPrivilege ⇐ lacks right.Delete caller (named s id))
+    ∷ (Marked ⇐ (is_marked (file_named s id) && is_accessed s id))
+    ∷ (NoPrivilege ⇐ lacks right.Delete caller (file_named s id))
     ∷ []
 causes_of s task caller (request.GrowIndex n) =
     (BadArgument ⇐ (n == 0))
@@ -119,8 +119,8 @@ causes_of s task caller (request.Access id m lun) =
     ∷ (LunInUse ⇐ is_some (s.access task lun))
     ∷ (SystemFile ⇐ nat_lt id.number 4)
     ∷ (NoSuchFile ⇐ is_missing s id)
-    ∷ (Marked ⇐ is_marked (named s id))
-    ∷ (NoPrivilege ⇐ lacks_for m caller (named s id))
+    ∷ (Marked ⇐ is_marked (file_named s id))
+    ∷ (NoPrivilege ⇐ lacks_for m caller (file_named s id))
     ∷ (Conflict ⇐ is_held (bars m) s id)
     ∷ []
 causes_of s task caller (request.Deaccess lun) =
@@ -130,41 +130,41 @@ causes_of s task caller request.Release = []
 causes_of s task caller (request.ReadBlock lun vbn) =
     (BadArgument ⇐ (vbn == 0))
     ∷ (NoSuchAccess ⇐ holds_none s task lun)
-    ∷ (EndOfFile ⇐ nat_lt (length_of (held s task lun)) vbn)
+    ∷ (EndOfFile ⇐ nat_lt (length_of (file_held s task lun)) vbn)
     ∷ []
 causes_of s task caller (request.WriteBlock lun vbn) =
     (BadArgument ⇐ (vbn == 0))
     ∷ (NoSuchAccess ⇐ cannot_write s task lun)
-    ∷ (EndOfFile ⇐ nat_lt (length_of (held s task lun)) vbn)
+    ∷ (EndOfFile ⇐ nat_lt (length_of (file_held s task lun)) vbn)
     ∷ []
 causes_of s task caller (request.Find d name) =
     (BadArgument ⇐ is_bad d)
     ∷ (SystemFile ⇐ nat_lt d.number 4)
     ∷ (NoSuchFile ⇐ is_missing s d)
-    ∷ (Marked ⇐ is_marked (named s d))
-    ∷ (NoPrivilege ⇐ lacks right.Read caller (named s d))
-    ∷ (NotDirectory ⇐ not (is_directory (named s d)))
-    ∷ (NoSuchEntry ⇐ not (is_entered name (named s d)))
+    ∷ (Marked ⇐ is_marked (file_named s d))
+    ∷ (NoPrivilege ⇐ lacks right.Read caller (file_named s d))
+    ∷ (NotDirectory ⇐ not (is_directory (file_named s d)))
+    ∷ (NoSuchEntry ⇐ not (is_entered name (file_named s d)))
     ∷ []
 causes_of s task caller (request.Enter d name id) =
     (BadArgument ⇐ (is_bad d || is_bad id))
     ∷ (SystemFile ⇐ nat_lt d.number 4)
     ∷ (NoSuchFile ⇐ is_missing s d)
-    ∷ (Marked ⇐ is_marked (named s d))
-    ∷ (NoPrivilege ⇐ lacks right.Write caller (named s d))
+    ∷ (Marked ⇐ is_marked (file_named s d))
+    ∷ (NoPrivilege ⇐ lacks right.Write caller (file_named s d))
     ∷ (Conflict ⇐ is_held bars_writing s d)
-    ∷ (NotDirectory ⇐ not (is_directory (named s d)))
-    ∷ (DuplicateName ⇐ is_entered name (named s d))
-    ∷ growth_causes_if (needs_block (named s d)) s (named s d) 1
+    ∷ (NotDirectory ⇐ not (is_directory (file_named s d)))
+    ∷ (DuplicateName ⇐ is_entered name (file_named s d))
+    ∷ growth_causes_if (needs_block (file_named s d)) s (file_named s d) 1
 causes_of s task caller (request.Remove d name) =
     (BadArgument ⇐ is_bad d)
     ∷ (SystemFile ⇐ nat_lt d.number 4)
     ∷ (NoSuchFile ⇐ is_missing s d)
-    ∷ (Marked ⇐ is_marked (named s d))
-    ∷ (NoPrivilege ⇐ lacks right.Write caller (named s d))
+    ∷ (Marked ⇐ is_marked (file_named s d))
+    ∷ (NoPrivilege ⇐ lacks right.Write caller (file_named s d))
     ∷ (Conflict ⇐ is_held bars_writing s d)
-    ∷ (NotDirectory ⇐ not (is_directory (named s d)))
-    ∷ (NoSuchEntry ⇐ not (is_entered name (named s d)))
+    ∷ (NotDirectory ⇐ not (is_directory (file_named s d)))
+    ∷ (NoSuchEntry ⇐ not (is_entered name (file_named s d)))
     ∷ []
 causes_of s task caller (request.ReadAttr id) =
     (BadArgument ⇐ is_bad id)
@@ -174,8 +174,8 @@ causes_of s task caller (request.WriteAttr id c) =
     (BadArgument ⇐ is_bad id)
     ∷ (SystemFile ⇐ nat_lt id.number 4)
     ∷ (NoSuchFile ⇐ is_missing s id)
-    ∷ (Marked ⇐ is_marked (named s id))
-    ∷ (NoPrivilege ⇐ lacks_change c caller (named s id))
+    ∷ (Marked ⇐ is_marked (file_named s id))
+    ∷ (NoPrivilege ⇐ lacks_change c caller (file_named s id))
     ∷ []
 causes_of s task caller request.Space = []
 

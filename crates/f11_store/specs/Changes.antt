@@ -9,8 +9,8 @@ use Rattle.f11_store.specs.declared.files.Change.TheVariants as change
 use Rattle.f11_store.specs.declared.requests.Request.{Request}
 use Rattle.f11_store.specs.declared.requests.Request.TheVariants as request
 use Rattle.f11_store.specs.File.{File, no_file, length_of, is_marked, with_mark, without_contiguous, need, zero_blocks}
-use Rattle.f11_store.specs.Store.{Store, Access, named, id_held, free_slots, least_free, is_accessed}
-use Rattle.f11_store.specs.Directory.{place_of, empty_place, entry_count, needs_block, record_bytes, empty_record, with_record, with_end}
+use Rattle.f11_store.specs.Store.{Store, Access, file_named, id_held, free_slots, least_free, is_accessed}
+use Rattle.f11_store.specs.Directory.{index_of_name, index_of_empty, entry_count, needs_block, record_bytes, empty_record, with_record, with_end}
 
 -- the slot is in the list
 abbrev pub is_in : List ℕ → ℕ → Bool
@@ -54,14 +54,18 @@ new_file slot sequence owner protection ident attr = record {
   blocks = [];
 }
 
--- the store with a new file in a slot, with the slot's next sequence number
-abbrev pub created_in : Store → ℕ → Uic → ℕ → List ℕ → List ℕ → Store
-created_in s slot owner protection ident attr =
-    with_file (with_slots s (slot ∷ [])) slot (Some (new_file slot (next_sequence (s.last slot)) owner protection ident attr))
+-- the file that Create makes in a slot, with the slot's next sequence number
+abbrev pub file_created : Store → ℕ → Uic → ℕ → List ℕ → List ℕ → File
+file_created s slot owner protection ident attr = new_file slot (next_sequence (s.last slot)) owner protection ident attr
+
+-- the store with a new file in a slot
+abbrev pub with_new_file : Store → ℕ → File → Store
+with_new_file s slot f = with_file (with_slots s (slot ∷ [])) slot (Some f)
 
 -- Create: in the least free slot
-abbrev pub created : Store → Uic → ℕ → List ℕ → List ℕ → Store
-created s caller protection ident attr = created_in s (least_free s) caller protection ident attr
+abbrev pub after_create : Store → Uic → ℕ → List ℕ → List ℕ → Store
+after_create s caller protection ident attr =
+    with_new_file s (least_free s) (file_created s (least_free s) caller protection ident attr)
 
 -- the headers, pointers and room that a file may have after n more blocks; each header added has 102 places
 pub record MayGrow (before : File) (n added pointers room : ℕ) : Type 0 where
@@ -72,8 +76,8 @@ pub record MayGrow (before : File) (n added pointers room : ℕ) : Type 0 where
   pub filled : 0 < added → room ≤ 101
 
 -- the file with n more blocks, and so many headers, pointers and places
-abbrev pub lengthened : Store → File → List (List ℕ) → ℕ → ℕ → ℕ → File
-lengthened s f blocks added pointers room = record f {
+abbrev pub grown_file : Store → File → List (List ℕ) → ℕ → ℕ → ℕ → File
+grown_file s f blocks added pointers room = record f {
   characteristics = without_contiguous f.characteristics;
   held = f.held ++ take added (free_slots s);
   pointers = pointers;
@@ -82,9 +86,9 @@ lengthened s f blocks added pointers room = record f {
 }
 
 -- the store with that file, the least free slots taken for its headers, n blocks fewer free
-abbrev pub extended : Store → ℕ → File → ℕ → List (List ℕ) → ℕ → ℕ → ℕ → Store
-extended s k f n blocks added pointers room =
-    record (with_file (with_slots s (take added (free_slots s))) k (Some (lengthened s f blocks added pointers room))) {
+abbrev pub with_grown_file : Store → ℕ → File → ℕ → List (List ℕ) → ℕ → ℕ → ℕ → Store
+with_grown_file s k f n blocks added pointers room =
+    record (with_file (with_slots s (take added (free_slots s))) k (Some (grown_file s f blocks added pointers room))) {
       free = s.free - n;
     }
 
@@ -96,7 +100,7 @@ pub record Grows (s : Store) (k n : ℕ) (blocks : List (List ℕ)) (s' : Store)
   pub room : ℕ
   pub was : s.file k ≡ Some before
   pub may_grow : MayGrow before n added pointers room
-  pub store_is : s' ≡ extended s k before n blocks added pointers room
+  pub store_is : s' ≡ with_grown_file s k before n blocks added pointers room
 
 -- Extend: n blocks of zeros
 abbrev pub Extends : Store → ℕ → ℕ → Store → Type 0
@@ -116,8 +120,8 @@ pub record GrowsIndex (s : Store) (n : ℕ) (s' : Store) : Type 0 where
   pub store_is : s' ≡ with_more_slots grown n
 
 -- the store with a file cut: its first blocks and headers stay, the others are free
-abbrev pub shortened : Store → ℕ → File → ℕ → ℕ → ℕ → ℕ → Store
-shortened s k f to headers pointers room =
+abbrev pub with_cut_file : Store → ℕ → File → ℕ → ℕ → ℕ → ℕ → Store
+with_cut_file s k f to headers pointers room =
     record (with_file (without_slots s (drop headers f.held)) k (Some (record f {
       held = take headers f.held;
       pointers = pointers;
@@ -135,23 +139,23 @@ pub record Truncates (s : Store) (k to : ℕ) (s' : Store) : Type 0 where
   pub some_header : 1 ≤ headers
   pub no_more_headers : headers ≤ length before.held
   pub no_more_pointers : pointers ≤ before.pointers
-  pub store_is : s' ≡ shortened s k before to headers pointers room
+  pub store_is : s' ≡ with_cut_file s k before to headers pointers room
 
 -- the file that goes: its slots and its blocks are free
 abbrev pub without_file : Store → ℕ → File → Store
 without_file s k f = record (with_file (without_slots s f.held) k None) { free = s.free + length_of f }
 
 -- the file with this number goes
-abbrev pub deleted : Store → ℕ → Store
-deleted s k = without_file s k (unwrap_or (s.file k) no_file)
+abbrev pub without_file_at : Store → ℕ → Store
+without_file_at s k = without_file s k (unwrap_or (s.file k) no_file)
 
 -- the file is marked for delete
-abbrev pub marked : Store → ℕ → Store
-marked s k = with_change s k (λ f. record f { characteristics = with_mark f.characteristics })
+abbrev pub with_marked_file : Store → ℕ → Store
+with_marked_file s k = with_change s k (λ f. record f { characteristics = with_mark f.characteristics })
 
 -- Delete: gone, or marked where it is accessed
 abbrev pub after_delete : Store → FileId → Store
-after_delete s id = if is_accessed s id then marked s id.number else deleted s id.number
+after_delete s id = if is_accessed s id then with_marked_file s id.number else without_file_at s id.number
 
 -- what the task holds by the lun becomes this
 abbrev pub with_access : Store → ℕ → ℕ → Option Access → Store
@@ -160,24 +164,24 @@ with_access s task lun a =
 
 -- the file is marked for delete, and nobody accesses it
 abbrev pub is_due : Store → FileId → Bool
-is_due s id = is_marked (named s id) && not (is_accessed s id)
+is_due s id = is_marked (file_named s id) && not (is_accessed s id)
 
 -- the file goes if it is due
-abbrev pub settled : Store → FileId → Store
-settled s id = if is_due s id then deleted s id.number else s
+abbrev pub without_due_file : Store → FileId → Store
+without_due_file s id = if is_due s id then without_file_at s id.number else s
 
 -- what is held is given up, and with the last access a marked file goes
-abbrev pub given_up : Store → ℕ → ℕ → Option Access → Store
-given_up s task lun None = s
-given_up s task lun (Some a) = settled (with_access s task lun None) a.file
+abbrev pub after_giving_up : Store → ℕ → ℕ → Option Access → Store
+after_giving_up s task lun None = s
+after_giving_up s task lun (Some a) = without_due_file (with_access s task lun None) a.file
 
 -- Deaccess
-abbrev pub deaccessed : Store → ℕ → ℕ → Store
-deaccessed s task lun = given_up s task lun (s.access task lun)
+abbrev pub after_deaccess : Store → ℕ → ℕ → Store
+after_deaccess s task lun = after_giving_up s task lun (s.access task lun)
 
 -- Release: Deaccess of each lun, from 0
-abbrev pub released : Store → ℕ → Store
-released s task = fold (λ t lun. deaccessed t task lun) s (range_with_len 0 4)
+abbrev pub after_release : Store → ℕ → Store
+after_release s task = fold (λ t lun. after_deaccess t task lun) s (range_with_len 0 4)
 
 -- WriteBlock: the block at the VBN is this one
 abbrev pub with_block : ℕ → List ℕ → File → File
@@ -192,50 +196,50 @@ abbrev pub with_end_after : ℕ → File → File
 with_end_after i f = record f { attr = with_end f.attr (length_of f) (16 * (i + 1)) }
 
 -- the record stands at the directory's end, which moves past it
-abbrev pub appended : Store → ℕ → ℕ → List ℕ → Store
-appended s k i r = with_change s k (λ f. with_end_after i (with_entry i r f))
+abbrev pub with_entry_at_end : Store → ℕ → ℕ → List ℕ → Store
+with_entry_at_end s k i r = with_change s k (λ f. with_end_after i (with_entry i r f))
 
 -- Enter where no record is empty: at the end, with one more block where the allocation ends there
 abbrev pub EntersAtEnd : Bool → Store → ℕ → ℕ → List ℕ → Store → Type 0
-EntersAtEnd false s k i r s' = s' ≡ appended s k i r
-EntersAtEnd true s k i r s' = (grown : Store) × (Extends s k 1 grown) × (s' ≡ appended grown k i r)
+EntersAtEnd false s k i r s' = s' ≡ with_entry_at_end s k i r
+EntersAtEnd true s k i r s' = (grown : Store) × (Extends s k 1 grown) × (s' ≡ with_entry_at_end grown k i r)
 
 -- Enter: in place of the first empty record, or at the end
 abbrev pub EntersAt : Option ℕ → Store → FileId → List ℕ → Store → Type 0
 EntersAt (Some i) s d r s' = s' ≡ with_change s d.number (with_entry i r)
-EntersAt None s d r s' = EntersAtEnd (needs_block (named s d)) s d.number (entry_count (named s d)) r s'
+EntersAt None s d r s' = EntersAtEnd (needs_block (file_named s d)) s d.number (entry_count (file_named s d)) r s'
 
 -- Enter
 abbrev pub Enters : Store → FileId → List ℕ → Store → Type 0
-Enters s d r s' = EntersAt (empty_place (named s d)) s d r s'
+Enters s d r s' = EntersAt (index_of_empty (file_named s d)) s d r s'
 
 -- Remove: the first record with the name is empty
-abbrev pub removed : Store → FileId → List ℕ → Store
-removed s d name =
-    with_change s d.number (with_entry (unwrap_or (place_of name (named s d)) 0) empty_record)
+abbrev pub after_remove : Store → FileId → List ℕ → Store
+after_remove s d name =
+    with_change s d.number (with_entry (unwrap_or (index_of_name name (file_named s d)) 0) empty_record)
 
 -- WriteAttr: the part is replaced
-abbrev pub with_attributes : Change → File → File
-with_attributes (change.Attr attr) f = record f { attr = attr }
-with_attributes (change.Ident ident) f = record f { ident = ident }
-with_attributes (change.Protect word) f = record f { protection = word }
+abbrev pub with_replacement : Change → File → File
+with_replacement (change.Attr attr) f = record f { attr = attr }
+with_replacement (change.Ident ident) f = record f { ident = ident }
+with_replacement (change.Protect word) f = record f { protection = word }
 
 -- the store after a request that is served; ReadBlock, Find, ReadAttr and Space change nothing
 abbrev pub Changes : Store → ℕ → Uic → Request → List ℕ → Store → Type 0
-Changes s task caller (request.Create protection ident attr) block s' = s' ≡ created s caller protection ident attr
+Changes s task caller (request.Create protection ident attr) block s' = s' ≡ after_create s caller protection ident attr
 Changes s task caller (request.Extend lun n) block s' = Extends s (id_held s task lun).number n s'
 Changes s task caller (request.Truncate lun to) block s' = Truncates s (id_held s task lun).number to s'
 Changes s task caller (request.Delete id) block s' = s' ≡ after_delete s id
 Changes s task caller (request.GrowIndex n) block s' = GrowsIndex s n s'
 Changes s task caller (request.Access id m lun) block s' = s' ≡ with_access s task lun (Some (record { file = id; mode = m }))
-Changes s task caller (request.Deaccess lun) block s' = s' ≡ deaccessed s task lun
-Changes s task caller request.Release block s' = s' ≡ released s task
+Changes s task caller (request.Deaccess lun) block s' = s' ≡ after_deaccess s task lun
+Changes s task caller request.Release block s' = s' ≡ after_release s task
 Changes s task caller (request.ReadBlock lun vbn) block s' = s' ≡ s
 Changes s task caller (request.WriteBlock lun vbn) block s' =
     s' ≡ with_change s (id_held s task lun).number (with_block vbn block)
 Changes s task caller (request.Find d name) block s' = s' ≡ s
 Changes s task caller (request.Enter d name id) block s' = Enters s d (record_bytes id name) s'
-Changes s task caller (request.Remove d name) block s' = s' ≡ removed s d name
+Changes s task caller (request.Remove d name) block s' = s' ≡ after_remove s d name
 Changes s task caller (request.ReadAttr id) block s' = s' ≡ s
-Changes s task caller (request.WriteAttr id c) block s' = s' ≡ with_change s id.number (with_attributes c)
+Changes s task caller (request.WriteAttr id c) block s' = s' ≡ with_change s id.number (with_replacement c)
 Changes s task caller request.Space block s' = s' ≡ s

@@ -43,8 +43,8 @@ unfoldable pub has_name : List ℕ → List ℕ → Bool
 has_name name r = not (is_empty r) && pointwise nat_eq (record_name r) name
 
 -- the place of the first record with the name, where there is one
-abbrev pub place_of : List ℕ → File → Option ℕ
-place_of name f = position (has_name name) (entries_of f)
+abbrev pub index_of_name : List ℕ → File → Option ℕ
+index_of_name name f = position (has_name name) (entries_of f)
 
 -- the first record with the name
 abbrev pub record_of : List ℕ → File → List ℕ
@@ -55,12 +55,12 @@ abbrev pub is_entered : List ℕ → File → Bool
 is_entered name f = list_any (has_name name) (entries_of f)
 
 -- the place of the first empty record
-abbrev pub empty_place : File → Option ℕ
-empty_place f = position is_empty (entries_of f)
+abbrev pub index_of_empty : File → Option ℕ
+index_of_empty f = position is_empty (entries_of f)
 
 -- one more record needs one more block: no record is empty and the records fill the allocation (profile)
 abbrev pub needs_block : File → Bool
-needs_block f = is_none (empty_place f) && nat_le (512 * length_of f) (16 * entry_count f)
+needs_block f = is_none (index_of_empty f) && nat_le (512 * length_of f) (16 * entry_count f)
 
 -- the bytes of a word: low byte first
 abbrev pub word_bytes : ℕ → List ℕ

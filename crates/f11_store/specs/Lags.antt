@@ -7,10 +7,10 @@ use Rattle.f11_store.specs.declared.refusals.Refusal.{Refusal}
 use Rattle.f11_store.specs.declared.requests.Request.{Request}
 use Rattle.f11_store.specs.declared.requests.Request.TheVariants as request
 use Rattle.f11_store.specs.File.{File, without_contiguous, need, zero_blocks}
-use Rattle.f11_store.specs.Store.{Store, named, id_held, held, index_file, least_free, free_headers}
-use Rattle.f11_store.specs.Directory.{empty_place, entry_count, needs_block, record_bytes}
+use Rattle.f11_store.specs.Store.{Store, file_named, id_held, file_held, index_file, least_free, free_headers}
+use Rattle.f11_store.specs.Directory.{index_of_empty, entry_count, needs_block, record_bytes}
 use Rattle.f11_store.specs.Causes.{first_refusal}
-use Rattle.f11_store.specs.Changes.{is_in, next_sequence, with_change, created, after_delete, deaccessed, with_block, with_entry, with_end_after, removed, with_attributes}
+use Rattle.f11_store.specs.Changes.{is_in, next_sequence, with_change, after_create, after_delete, after_deaccess, with_block, with_entry, with_end_after, after_remove, with_replacement}
 
 -- a part of a request's work: a change of files that is made at once
 abbrev pub Part : Type 0
@@ -48,28 +48,28 @@ append_parts false k i r = end_parts k i r
 -- Enter: the record in an empty place at once, or at the end
 abbrev pub enter_parts : Option ℕ → Store → FileId → List ℕ → List Part
 enter_parts (Some i) s d r = part_on d.number (with_entry i r) ∷ []
-enter_parts None s d r = append_parts (needs_block (named s d)) d.number (entry_count (named s d)) r
+enter_parts None s d r = append_parts (needs_block (file_named s d)) d.number (entry_count (file_named s d)) r
 
 -- the parts of a request that is served, in order
 abbrev pub served_parts : Store → ℕ → Uic → Request → List ℕ → List Part
-served_parts s task caller (request.Create protection ident attr) block = (λ t. created t caller protection ident attr) ∷ []
+served_parts s task caller (request.Create protection ident attr) block = (λ t. after_create t caller protection ident attr) ∷ []
 served_parts s task caller (request.Extend lun n) block = extend_parts (id_held s task lun).number n
 served_parts s task caller (request.Truncate lun to) block =
     part_on (id_held s task lun).number (λ f. record f { blocks = take to f.blocks }) ∷ []
 served_parts s task caller (request.Delete id) block = (λ t. after_delete t id) ∷ []
 served_parts s task caller (request.GrowIndex n) block = grow_parts n
 served_parts s task caller (request.Access id m lun) block = []
-served_parts s task caller (request.Deaccess lun) block = (λ t. deaccessed t task lun) ∷ []
-served_parts s task caller request.Release block = map (λ lun t. deaccessed t task lun) (range_with_len 0 4)
+served_parts s task caller (request.Deaccess lun) block = (λ t. after_deaccess t task lun) ∷ []
+served_parts s task caller request.Release block = map (λ lun t. after_deaccess t task lun) (range_with_len 0 4)
 served_parts s task caller (request.ReadBlock lun vbn) block = []
 served_parts s task caller (request.WriteBlock lun vbn) block =
     part_on (id_held s task lun).number (with_block vbn block) ∷ []
 served_parts s task caller (request.Find d name) block = []
 served_parts s task caller (request.Enter d name id) block =
-    enter_parts (empty_place (named s d)) s d (record_bytes id name)
-served_parts s task caller (request.Remove d name) block = (λ t. removed t d name) ∷ []
+    enter_parts (index_of_empty (file_named s d)) s d (record_bytes id name)
+served_parts s task caller (request.Remove d name) block = (λ t. after_remove t d name) ∷ []
 served_parts s task caller (request.ReadAttr id) block = []
-served_parts s task caller (request.WriteAttr id c) block = part_on id.number (with_attributes c) ∷ []
+served_parts s task caller (request.WriteAttr id c) block = part_on id.number (with_replacement c) ∷ []
 served_parts s task caller request.Space block = []
 
 -- a request that is refused has no parts
@@ -114,9 +114,9 @@ blocks_asked _ = 0
 -- the headers that the request may take
 abbrev pub headers_asked : Store → ℕ → Request → ℕ
 headers_asked s task (request.Create _ _ _) = 1
-headers_asked s task (request.Extend lun n) = need (held s task lun).room n
+headers_asked s task (request.Extend lun n) = need (file_held s task lun).room n
 headers_asked s task (request.GrowIndex n) = need (index_file s).room n
-headers_asked s task (request.Enter d _ _) = need (named s d).room 1
+headers_asked s task (request.Enter d _ _) = need (file_named s d).room 1
 headers_asked s task _ = 0
 
 -- two files are alike but for their headers, pointers and room

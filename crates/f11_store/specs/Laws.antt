@@ -9,8 +9,8 @@ use Rattle.f11_store.specs.declared.requests.Request.TheVariants as request
 use Rattle.f11_store.specs.declared.requests.Reply.{Reply}
 use Rattle.f11_store.specs.declared.requests.Reply.TheVariants as reply
 use Rattle.f11_store.specs.File.{File, zero_block}
-use Rattle.f11_store.specs.Store.{Store, named, id_held, held, is_accessed}
-use Rattle.f11_store.specs.Directory.{record_at, entry_count, record_id, place_of, empty_record}
+use Rattle.f11_store.specs.Store.{Store, file_named, id_held, file_held, is_accessed}
+use Rattle.f11_store.specs.Directory.{record_at, entry_count, record_id, index_of_name, empty_record}
 use Rattle.f11_store.specs.Causes.{is_bad, first_refusal}
 use Rattle.f11_store.specs.Changes.{next_sequence}
 use Rattle.f11_store.specs.Lags.{Lags}
@@ -52,7 +52,7 @@ abbrev pub OtherBlocksStay : Type 0
 OtherBlocksStay =
     (s : Store) (task : ℕ) (caller : Uic) (lun vbn : ℕ) (block : List ℕ) (a : Reply) (s' : Store) (block' : List ℕ) (other : ℕ) →
     Step s task caller (request.WriteBlock lun vbn) block (Ok a) s' block' →
-    0 < other → other ≢ vbn → block_at (held s' task lun) other ≡ block_at (held s task lun) other
+    0 < other → other ≢ vbn → block_at (file_held s' task lun) other ≡ block_at (file_held s task lun) other
 
 -- a block that is written leaves every other file
 abbrev pub OtherFilesStay : Type 0
@@ -96,7 +96,7 @@ abbrev pub AccessedKeepsBlocks : Type 0
 AccessedKeepsBlocks =
     (s : Store) (task : ℕ) (caller : Uic) (id : FileId) (block : List ℕ) (a : Reply) (s' : Store) (block' : List ℕ) →
     Step s task caller (request.Delete id) block (Ok a) s' block' → is_accessed s id ≡ true →
-    ((named s' id).blocks ≡ (named s id).blocks) × (s'.access ≡ s.access)
+    ((file_named s' id).blocks ≡ (file_named s id).blocks) × (s'.access ≡ s.access)
 
 -- what was cut off by Truncate comes back as zeros by Extend
 abbrev pub CutComesBackZero : Type 0
@@ -135,7 +135,7 @@ abbrev pub EnteredIsFound : Type 0
 EnteredIsFound =
     (s : Store) (task : ℕ) (caller : Uic) (d : FileId) (name : List ℕ) (id : FileId) (block : List ℕ) (a : Reply) (s' : Store) (block' : List ℕ)
     (other : ℕ) (reader : Uic) (before : List ℕ) (result : Result Reply Refusal) (s'' : Store) (after : List ℕ) →
-    IsWhole (named s d) → IsFiveWords name →
+    IsWhole (file_named s d) → IsFiveWords name →
     Step s task caller (request.Enter d name id) block (Ok a) s' block' →
     Step s' other reader (request.Find d name) before result s'' after → IsFound id result
 
@@ -150,20 +150,20 @@ StandingIsDuplicate =
 abbrev pub RemovedIsEmpty : Type 0
 RemovedIsEmpty =
     (s : Store) (task : ℕ) (caller : Uic) (d : FileId) (name block : List ℕ) (a : Reply) (s' : Store) (block' : List ℕ) (i : ℕ) →
-    IsWhole (named s d) → Step s task caller (request.Remove d name) block (Ok a) s' block' → place_of name (named s d) ≡ Some i →
-    (entry_count (named s' d) ≡ entry_count (named s d)) × (record_at (named s' d).blocks i ≡ empty_record)
-    × ((j : ℕ) → j ≢ i → record_at (named s' d).blocks j ≡ record_at (named s d).blocks j)
+    IsWhole (file_named s d) → Step s task caller (request.Remove d name) block (Ok a) s' block' → index_of_name name (file_named s d) ≡ Some i →
+    (entry_count (file_named s' d) ≡ entry_count (file_named s d)) × (record_at (file_named s' d).blocks i ≡ empty_record)
+    × ((j : ℕ) → j ≢ i → record_at (file_named s' d).blocks j ≡ record_at (file_named s d).blocks j)
 
 -- Find's answer where the record at place i is gone: the first record with the name, which stands behind
 -- that place; or a refusal, and no record has the name if that is what it says
 abbrev pub IsFoundElsewhere : ℕ → List ℕ → File → Result Reply Refusal → Type 0
-IsFoundElsewhere i name f (Ok a) = (j : ℕ) × (i < j) × (place_of name f ≡ Some j) × (a ≡ reply.Found (record_id (record_at f.blocks j)))
-IsFoundElsewhere i name f (Err e) = e ≡ NoSuchEntry → place_of name f ≡ None
+IsFoundElsewhere i name f (Ok a) = (j : ℕ) × (i < j) × (index_of_name name f ≡ Some j) × (a ≡ reply.Found (record_id (record_at f.blocks j)))
+IsFoundElsewhere i name f (Err e) = e ≡ NoSuchEntry → index_of_name name f ≡ None
 
 -- a name that was removed is found in another record, whoever looks for it, or not at all
 abbrev pub RemovedThenFound : Type 0
 RemovedThenFound =
     (s : Store) (task : ℕ) (caller : Uic) (d : FileId) (name block : List ℕ) (a : Reply) (s' : Store) (block' : List ℕ) (i : ℕ)
     (other : ℕ) (reader : Uic) (before : List ℕ) (result : Result Reply Refusal) (s'' : Store) (after : List ℕ) →
-    IsWhole (named s d) → Step s task caller (request.Remove d name) block (Ok a) s' block' → place_of name (named s d) ≡ Some i →
-    Step s' other reader (request.Find d name) before result s'' after → IsFoundElsewhere i name (named s' d) result
+    IsWhole (file_named s d) → Step s task caller (request.Remove d name) block (Ok a) s' block' → index_of_name name (file_named s d) ≡ Some i →
+    Step s' other reader (request.Find d name) before result s'' after → IsFoundElsewhere i name (file_named s' d) result

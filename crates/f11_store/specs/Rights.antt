@@ -14,18 +14,18 @@ abbrev pub classes : List Class
 classes = class.System ∷ class.Owner ∷ class.Group ∷ class.World ∷ []
 
 -- the first of a class's four bits in the protection word (file header, H.FPRO)
-abbrev pub class_place : Class → ℕ
-class_place class.System = 0
-class_place class.Owner = 4
-class_place class.Group = 8
-class_place class.World = 12
+abbrev pub class_bit : Class → ℕ
+class_bit class.System = 0
+class_bit class.Owner = 4
+class_bit class.Group = 8
+class_bit class.World = 12
 
 -- the bit of a right among four (file header, H.FPRO)
-abbrev pub right_place : Right → ℕ
-right_place right.Read = 0
-right_place right.Write = 1
-right_place right.Extend = 2
-right_place right.Delete = 3
+abbrev pub right_bit : Right → ℕ
+right_bit right.Read = 0
+right_bit right.Write = 1
+right_bit right.Extend = 2
+right_bit right.Delete = 3
 
 -- the caller is of the class: system by a group of at most octal 10, owner by the owner's code,
 -- group by the owner's group, world always
@@ -37,7 +37,7 @@ is_of caller owner class.World = true
 
 -- a set bit of the protection word denies the right to the class
 abbrev pub denies : ℕ → Class → Right → Bool
-denies word c r = bit_at word (class_place c + right_place r) == 1
+denies word c r = bit_at word (class_bit c + right_bit r) == 1
 
 -- the caller has the right where one of his classes isn't denied it (profile)
 abbrev pub may : Uic → Uic → ℕ → Right → Bool
@@ -49,4 +49,4 @@ bits_of rights = rights.0
 
 -- the right is in the set
 abbrev pub has_right : Rights → Right → Bool
-has_right rights r = bit_at (bits_of rights) (right_place r) == 1
+has_right rights r = bit_at (bits_of rights) (right_bit r) == 1

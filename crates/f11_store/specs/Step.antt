@@ -10,7 +10,7 @@ use Rattle.f11_store.specs.declared.requests.Request.TheVariants as request
 use Rattle.f11_store.specs.declared.requests.Reply.{Reply}
 use Rattle.f11_store.specs.declared.requests.Reply.TheVariants as reply
 use Rattle.f11_store.specs.File.{File, length_of}
-use Rattle.f11_store.specs.Store.{Store, named, held, free_headers, least_free}
+use Rattle.f11_store.specs.Store.{Store, file_named, file_held, free_headers, least_free}
 use Rattle.f11_store.specs.Directory.{record_of, record_id}
 use Rattle.f11_store.specs.Causes.{first_refusal}
 use Rattle.f11_store.specs.Changes.{Changes, next_sequence}
@@ -32,7 +32,7 @@ next_id s = record { number = least_free s; sequence = next_sequence (s.last (le
 -- the reply to a request that is served
 abbrev pub reply_of : Store → ℕ → Request → Reply
 reply_of s task (request.Create _ _ _) = reply.Created (next_id s)
-reply_of s task (request.Extend lun n) = reply.Length (length_of (held s task lun) + n)
+reply_of s task (request.Extend lun n) = reply.Length (length_of (file_held s task lun) + n)
 reply_of s task (request.Truncate lun to) = reply.Length to
 reply_of s task (request.Delete id) = reply.Done
 reply_of s task (request.GrowIndex n) = reply.Slots (s.slots + n)
@@ -41,10 +41,10 @@ reply_of s task (request.Deaccess lun) = reply.Done
 reply_of s task request.Release = reply.Done
 reply_of s task (request.ReadBlock lun vbn) = reply.Done
 reply_of s task (request.WriteBlock lun vbn) = reply.Done
-reply_of s task (request.Find d name) = reply.Found (record_id (record_of name (named s d)))
+reply_of s task (request.Find d name) = reply.Found (record_id (record_of name (file_named s d)))
 reply_of s task (request.Enter d name id) = reply.Done
 reply_of s task (request.Remove d name) = reply.Done
-reply_of s task (request.ReadAttr id) = reply.Attr (attributes_of (named s id))
+reply_of s task (request.ReadAttr id) = reply.Attr (attributes_of (file_named s id))
 reply_of s task (request.WriteAttr id c) = reply.Done
 reply_of s task request.Space = reply.Space s.free (free_headers s) s.slots
 
@@ -54,7 +54,7 @@ block_at f vbn = slice_index_or f.blocks (vbn - 1) []
 
 -- the caller's block after a request that is served: ReadBlock fills it
 abbrev pub block_after : Store → ℕ → Request → List ℕ → List ℕ
-block_after s task (request.ReadBlock lun vbn) block = block_at (held s task lun) vbn
+block_after s task (request.ReadBlock lun vbn) block = block_at (file_held s task lun) vbn
 block_after s task _ block = block
 
 -- the refusal may be the answer: the first one whose cause holds, or NoMemory to GrowIndex where none does

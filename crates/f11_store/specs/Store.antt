@@ -42,8 +42,8 @@ abbrev pub file_of : Store → FileId → Option File
 file_of s id = option_and_then (of_sequence id.sequence) (s.file id.number)
 
 -- the file with that number and sequence number, or an empty one
-abbrev pub named : Store → FileId → File
-named s id = unwrap_or (file_of s id) no_file
+abbrev pub file_named : Store → FileId → File
+file_named s id = unwrap_or (file_of s id) no_file
 
 -- no access, as an identification
 abbrev pub no_id : FileId
@@ -59,8 +59,8 @@ abbrev pub id_held : Store → ℕ → ℕ → FileId
 id_held s task lun = id_in (s.access task lun)
 
 -- the file that the task accesses by the lun, or an empty one
-abbrev pub held : Store → ℕ → ℕ → File
-held s task lun = named s (id_held s task lun)
+abbrev pub file_held : Store → ℕ → ℕ → File
+file_held s task lun = file_named s (id_held s task lun)
 
 -- the index file, or an empty one
 abbrev pub index_file : Store → File

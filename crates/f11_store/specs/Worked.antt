@@ -91,8 +91,8 @@ own_files n =
     else None
 
 -- a fresh volume of 400 blocks and 16 slots, of at most 4000
-abbrev pub small : Store
-small = record {
+abbrev pub small_volume : Store
+small_volume = record {
   file = own_files;
   free = 378;
   slots = 16;
@@ -126,7 +126,7 @@ create = request.Create 0 (ident_of a_txt) no_attr
 -- a slot's next file has the next sequence number, and the old identification names no file
 abbrev pub SequenceNumbers : Type 0
 SequenceNumbers =
-    Answers small
+    Answers small_volume
     (asks 0 create ∷ asks 0 (request.Delete (id 6 1)) ∷ asks 0 create ∷ asks 0 (request.Access (id 6 1) mode.Read 0)
     ∷ asks 0 (request.ReadAttr (id 6 2)) ∷ [])
     (gets (reply.Created (id 6 1)) ∷ gets reply.Done ∷ gets (reply.Created (id 6 2)) ∷ no refusal.NoSuchFile
@@ -135,7 +135,7 @@ SequenceNumbers =
 -- all blocks in one file: one more is too many
 abbrev pub FullVolume : Type 0
 FullVolume =
-    Answers small
+    Answers small_volume
     (asks 0 create ∷ asks 0 (request.Access (id 6 1) mode.Write 0) ∷ asks 0 (request.Extend 0 378)
     ∷ asks 0 (request.Extend 0 1) ∷ asks 0 request.Space ∷ [])
     (gets (reply.Created (id 6 1)) ∷ gets reply.Done ∷ gets (reply.Length 378)
@@ -144,7 +144,7 @@ FullVolume =
 -- 26112 blocks may need 255 headers more, 26113 one too many
 abbrev pub TooLong : Type 0
 TooLong =
-    Answers small
+    Answers small_volume
     (asks 0 create ∷ asks 0 (request.Access (id 6 1) mode.Write 0) ∷ asks 0 (request.Extend 0 26112)
     ∷ asks 0 (request.Extend 0 26113) ∷ asks 0 (request.Extend 0 0) ∷ [])
     (gets (reply.Created (id 6 1)) ∷ gets reply.Done ∷ no refusal.DeviceFull
@@ -160,7 +160,7 @@ gets_zeros = record { result = Ok reply.Done; block = zero_block }
 -- a file that is deleted while it is accessed goes with its last access
 abbrev pub DeferredDelete : Type 0
 DeferredDelete =
-    Answers small
+    Answers small_volume
     (asks 0 create ∷ asks 0 (request.Access (id 6 1) mode.Write 0) ∷ asks 0 (request.Extend 0 2) ∷ asks 0 (request.Deaccess 0)
     ∷ asks 1 (request.Access (id 6 1) mode.Read 0) ∷ asks 2 (request.Delete (id 6 1)) ∷ reads 1 0 1
     ∷ asks 2 (request.Access (id 6 1) mode.Read 0) ∷ asks 2 (request.Delete (id 6 1)) ∷ asks 2 request.Space
@@ -173,7 +173,7 @@ DeferredDelete =
 -- a reader doesn't see blocks that were cut off, whoever has them now
 abbrev pub TruncatedUnderAReader : Type 0
 TruncatedUnderAReader =
-    Answers small
+    Answers small_volume
     (asks 2 create ∷ asks 2 (request.Access (id 6 1) mode.Write 0) ∷ asks 2 (request.Extend 0 8)
     ∷ asks 1 (request.Access (id 6 1) mode.Read 0) ∷ reads 1 0 5 ∷ asks 2 (request.Truncate 0 2)
     ∷ asks 2 create ∷ asks 2 (request.Access (id 7 1) mode.Write 1) ∷ asks 2 (request.Extend 1 6)
@@ -186,7 +186,7 @@ TruncatedUnderAReader =
 -- which accesses stand against each other
 abbrev pub Conflicts : Type 0
 Conflicts =
-    Answers small
+    Answers small_volume
     (asks 0 create ∷ asks 1 (request.Access (id 6 1) mode.Locked 0) ∷ asks 2 (request.Access (id 6 1) mode.Write 0)
     ∷ asks 1 request.Release ∷ asks 2 (request.Access (id 6 1) mode.Write 0)
     ∷ asks 1 (request.Access (id 6 1) mode.Locked 0) ∷ asks 2 (request.Access (id 6 1) mode.Read 0)
@@ -199,7 +199,7 @@ Conflicts =
 -- a name that is entered is found, and one that is removed isn't
 abbrev pub EnteredAndRemoved : Type 0
 EnteredAndRemoved =
-    Answers small
+    Answers small_volume
     (asks 0 (request.Find (id 4 4) a_txt) ∷ asks 0 (request.Enter (id 4 4) a_txt (id 6 1)) ∷ asks 0 (request.Find (id 4 4) a_txt)
     ∷ asks 0 (request.Enter (id 4 4) a_txt (id 7 1)) ∷ asks 0 (request.Remove (id 4 4) indexf)
     ∷ asks 0 (request.Find (id 4 4) indexf) ∷ asks 0 (request.Remove (id 4 4) a_txt) ∷ asks 0 (request.Find (id 4 4) a_txt)
@@ -230,8 +230,8 @@ crowded_file n pointers room = record {
 
 -- the small volume with eleven files, two of them with 102 blocks in as many pointers, whose contents
 -- are left out; the first four are accessed to write
-abbrev pub crowded : Store
-crowded = record small {
+abbrev pub crowded_volume : Store
+crowded_volume = record small_volume {
   file = λ n. if nat_lt n 6 then own_files n else if nat_lt n 8 then Some (crowded_file n 102 0) else if nat_lt n 17 then Some (crowded_file n 0 102) else None;
   free = 174;
   in_use = λ n. nat_lt 0 n && nat_lt n 17;
@@ -246,7 +246,7 @@ other_asks r = record { task = 0; caller = other_user; request = r; block = [] }
 -- no header is free: files with room grow, others don't, until the index file has a slot more
 abbrev pub HeadersRunOut : Type 0
 HeadersRunOut =
-    Answers crowded
+    Answers crowded_volume
     (asks 0 create ∷ asks 0 (request.Extend 0 1) ∷ asks 0 (request.Extend 2 3) ∷ asks 0 (request.Extend 3 103)
     ∷ asks 0 (request.GrowIndex 1) ∷ asks 0 (request.GrowIndex 4000) ∷ asks 0 (request.GrowIndex 3983)
     ∷ other_asks (request.GrowIndex 3983) ∷ [])
@@ -257,13 +257,13 @@ HeadersRunOut =
 -- bounds on the transfers of requests: one bitmap block, one index bitmap block, files of one header, a
 -- directory of one block
 pub record Bounds : Type 0 where
-  pub create : cost small 0 create ≡ 4
-  pub find : cost small 0 (request.Find (id 4 4) a_txt) ≡ 4
-  pub enter : cost small 0 (request.Enter (id 4 4) a_txt (id 6 1)) ≡ 34
-  pub remove : cost small 0 (request.Remove (id 4 4) a_txt) ≡ 6
-  pub delete : cost small 0 (request.Delete (id 4 4)) ≡ 10
-  pub grow : cost small 0 (request.GrowIndex 1) ≡ 25
-  pub extend : cost crowded 0 (request.Extend 2 103) ≡ 544
-  pub read : cost crowded 0 (request.ReadBlock 0 1) ≡ 2
-  pub close : cost crowded 0 (request.Deaccess 0) ≡ 0
-  pub release : cost crowded 0 request.Release ≡ 0
+  pub create : cost small_volume 0 create ≡ 4
+  pub find : cost small_volume 0 (request.Find (id 4 4) a_txt) ≡ 4
+  pub enter : cost small_volume 0 (request.Enter (id 4 4) a_txt (id 6 1)) ≡ 34
+  pub remove : cost small_volume 0 (request.Remove (id 4 4) a_txt) ≡ 6
+  pub delete : cost small_volume 0 (request.Delete (id 4 4)) ≡ 10
+  pub grow : cost small_volume 0 (request.GrowIndex 1) ≡ 25
+  pub extend : cost crowded_volume 0 (request.Extend 2 103) ≡ 544
+  pub read : cost crowded_volume 0 (request.ReadBlock 0 1) ≡ 2
+  pub close : cost crowded_volume 0 (request.Deaccess 0) ≡ 0
+  pub release : cost crowded_volume 0 request.Release ≡ 0
