@@ -278,7 +278,7 @@ count-with_entry_at_end g i r long within =
     rw (stated_end-with_end g.attr (length (with_record g.blocks i r)) (16 * (i + 1)) long, length-with_record g.blocks i r) (omega (arith, within))
 
 -- a block of zeros is as long as any
-length-zero_block : length zero_block ≡ 512
+pub length-zero_block : length zero_block ≡ 512
 unfolding zero_block
 length-zero_block = length-replicate {A = ℕ} 512 0
 

@@ -6,8 +6,8 @@ use Rattle.f11_store.specs.declared.files.FileId.{FileId}
 use Rattle.f11_store.specs.File.{File, no_file, zero_blocks, zero_block}
 use Rattle.f11_store.specs.Store.{Store, file_named, free_slots, free_headers}
 use Rattle.f11_store.specs.Directory.{with_record, with_end}
-use Rattle.f11_store.specs.Changes.{is_in, next_sequence, grown_file, with_grown_file, with_entry, with_end_after, with_entry_at_end}
-use Rattle.f11_store.specs.Lags.{part_on, with_no_mark, with_zero_block, extend_parts, with_parts, AreLike}
+use Rattle.f11_store.specs.Changes.{with_change, is_in, next_sequence, grown_file, with_grown_file, with_entry, with_end_after, with_entry_at_end}
+use Rattle.f11_store.specs.Lags.{file_changes, slot_appears, with_no_mark, with_zero_block, extend_parts, with_parts, AreLike}
 use Rattle.f11_store.proofs.StoreLemmas.{same_number}
 use Rattle.f11_store.proofs.SlotLemmas.{filter_but, filter_more}
 
@@ -51,45 +51,45 @@ stays_unused true c h k = absurd (cc)
 -- n blocks of zeros one by one
 pub blocks_one_by_one :
     (n : ℕ) (t : Store) (k : ℕ) (f : File) → t.file k ≡ Some f →
-    (with_parts t (replicate n (part_on k with_zero_block))).file k ≡ Some (record f { blocks = f.blocks ++ zero_blocks n })
+    (with_parts t (replicate n (file_changes k with_zero_block))).file k ≡ Some (record f { blocks = f.blocks ++ zero_blocks n })
 unfolding zero_blocks
 blocks_one_by_one zero t k f h = h ∙ ap (λ b. Some (record f { blocks = b })) (sym (append-nil f.blocks))
 blocks_one_by_one (suc n) t k f h =
-    blocks_one_by_one n (part_on k with_zero_block t) k (with_zero_block f) (rw (same_number k, h) refl)
+    blocks_one_by_one n (with_change t k with_zero_block) k (with_zero_block f) (rw (same_number k, h) refl)
     ∙ ap (λ b. Some (record f { blocks = b })) (append_assoc f.blocks (zero_block ∷ []) (zero_blocks n))
 
 -- they leave every other file
 pub blocks_elsewhere :
     (n : ℕ) (t : Store) (k m : ℕ) → (m == k) ≡ false →
-    (with_parts t (replicate n (part_on k with_zero_block))).file m ≡ t.file m
+    (with_parts t (replicate n (file_changes k with_zero_block))).file m ≡ t.file m
 blocks_elsewhere zero t k m h = refl
-blocks_elsewhere (suc n) t k m h = blocks_elsewhere n (part_on k with_zero_block t) k m h ∙ rw h refl
+blocks_elsewhere (suc n) t k m h = blocks_elsewhere n (with_change t k with_zero_block) k m h ∙ rw h refl
 
 -- they leave the number of slots
-pub blocks_and_slots : (n : ℕ) (t : Store) (k : ℕ) → (with_parts t (replicate n (part_on k with_zero_block))).slots ≡ t.slots
+pub blocks_and_slots : (n : ℕ) (t : Store) (k : ℕ) → (with_parts t (replicate n (file_changes k with_zero_block))).slots ≡ t.slots
 blocks_and_slots zero t k = refl
-blocks_and_slots (suc n) t k = blocks_and_slots n (part_on k with_zero_block t) k
+blocks_and_slots (suc n) t k = blocks_and_slots n (with_change t k with_zero_block) k
 
 -- the files of two stores are alike
 abbrev pub StoresAlike : Store → Store → Type 0
 StoresAlike t u = (m : ℕ) → AreLike (t.file m) (u.file m)
 
 -- a file that grew is like one that grew part by part
-pub extended_alike :
+pub grown_alike :
     (s : Store) (k n : ℕ) (f : File) (added pointers room : ℕ) → s.file k ≡ Some f →
     StoresAlike (with_grown_file s k f n (zero_blocks n) added pointers room) (with_parts s (extend_parts k n))
 unfolding extend_parts
-extended_alike s k n f added pointers room was m = by_number (eqb_tells m k)
+grown_alike s k n f added pointers room was m = by_number (eqb_tells m k)
   where
     here : (with_parts s (extend_parts k n)).file k ≡ Some (record (with_no_mark f) { blocks = f.blocks ++ zero_blocks n })
-    here = blocks_one_by_one n (part_on k with_no_mark s) k (with_no_mark f) (rw (same_number k, was) refl)
+    here = blocks_one_by_one n (with_change s k with_no_mark) k (with_no_mark f) (rw (same_number k, was) refl)
 
     at_k : AreLike ((with_grown_file s k f n (zero_blocks n) added pointers room).file k) ((with_parts s (extend_parts k n)).file k)
     at_k = rw (same_number k) (subst (λ (o : Option File). AreLike (Some (grown_file s f (zero_blocks n) added pointers room)) o) (sym here)
         (record { sequence = refl; owner = refl; protection = refl; characteristics = refl; ident = refl; attr = refl; blocks = refl }))
 
     elsewhere : (m == k) ≡ false → (with_parts s (extend_parts k n)).file m ≡ s.file m
-    elsewhere h = blocks_elsewhere n (part_on k with_no_mark s) k m h ∙ rw h refl
+    elsewhere h = blocks_elsewhere n (with_change s k with_no_mark) k m h ∙ rw h refl
 
     by_number : ((m == k) ≡ true) × (m ≡ k) ⊎ ((m == k) ≡ false) × (m ≢ k) →
         AreLike ((with_grown_file s k f n (zero_blocks n) added pointers room).file m) ((with_parts s (extend_parts k n)).file m)
@@ -102,11 +102,11 @@ extended_alike s k n f added pointers room was m = by_number (eqb_tells m k)
 -- the parts of Extend leave the number of slots
 pub extend_and_slots : (s : Store) (k n : ℕ) → (with_parts s (extend_parts k n)).slots ≡ s.slots
 unfolding extend_parts
-extend_and_slots s k n = blocks_and_slots n (part_on k with_no_mark s) k
+extend_and_slots s k n = blocks_and_slots n (with_change s k with_no_mark) k
 
 -- slots one by one
 pub slots_one_by_one :
-    (n : ℕ) (t : Store) → with_parts t (replicate n (λ t. record t { slots = t.slots + 1 })) ≡ record t { slots = t.slots + n }
+    (n : ℕ) (t : Store) → with_parts t (replicate n slot_appears) ≡ record t { slots = t.slots + n }
 slots_one_by_one zero t = ap (λ m. record t { slots = m }) (let e : t.slots ≡ t.slots + 0 = omega arith in e)
 slots_one_by_one (suc n) t =
     slots_one_by_one n (record t { slots = t.slots + 1 })
@@ -121,10 +121,10 @@ room-file_named s id f h = rw h (by_test (f.sequence == id.sequence))
     by_test false = omega arith
 
 -- two files are alike after a record was put and the end moved, where they were before
-pub appended_alike :
+pub entry_at_end_alike :
     (t u : Store) (k i : ℕ) (r : List ℕ) → StoresAlike t u →
-    StoresAlike (with_entry_at_end t k i r) (part_on k (with_end_after i) (part_on k (with_entry i r) u))
-appended_alike t u k i r h m =
+    StoresAlike (with_entry_at_end t k i r) (with_change (with_change u k (with_entry i r)) k (with_end_after i))
+entry_at_end_alike t u k i r h m =
     rw (same_number k) (by_test (m == k) (t.file k) (u.file k) (h k) (t.file m) (u.file m) (h m))
   where
     by_test : (b : Bool) (o p : Option File) → AreLike o p → (v w : Option File) → AreLike v w →

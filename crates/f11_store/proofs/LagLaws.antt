@@ -1,42 +1,47 @@
 -- Laws of what a request leaves behind.
-use Rattle.std.proofs.Common.{◌≡◌, ℕ, ◌+◌, ◌-◌, ◌<◌, ◌≤◌, ◌==◌, ◌&&◌, Bool, true, false, not, List, [], ◌∷◌, ◌++◌, Option, Some, None, Ok, Err, length, take, unwrap_or, if◌then◌else◌, refl, sym, ◌∙◌, ap, subst, arith, inl, ◌⊎◌, nat_lt, nat_le}
+use Rattle.std.proofs.Common.{◌≡◌, ℕ, ◌+◌, ◌-◌, ◌<◌, ◌≤◌, ◌==◌, ◌&&◌, ◌||◌, Bool, true, false, not, List, [], ◌∷◌, ◌++◌, Option, Some, None, Ok, Err, length, take, fold, unwrap_or, if◌then◌else◌, refl, sym, ◌∙◌, ap, subst, arith, inl, ◌⊎◌, nat_lt, nat_le}
 use Rattle.std.proofs.lemmas.List.{length-take, append-nil}
 use Rattle.std.proofs.lemmas.List.Sums.{fold-append}
 use Rattle.std.proofs.Math.Seq.{take-length}
-use Rattle.std.proofs.lemmas.Bool.{le-ltb}
+use Rattle.std.proofs.lemmas.Bool.{le-ltb, le-leb}
 use Rattle.std.proofs.lemmas.Bool.Decides.{nat_tests}
 use Rattle.f11_store.specs.declared.callers.Uic.{Uic}
 use Rattle.f11_store.specs.declared.files.FileId.{FileId}
 use Rattle.f11_store.specs.declared.requests.Request.{Request}
 use Rattle.f11_store.specs.declared.requests.Request.TheVariants as request
 use Rattle.f11_store.specs.File.{File, need, zero_blocks, without_contiguous}
-use Rattle.f11_store.specs.Store.{Store, file_named, id_held, file_held, index_file, least_free, free_slots, free_headers}
+use Rattle.f11_store.specs.Store.{Store, Access, file_named, id_held, index_file, least_free, free_slots, free_headers, is_accessed}
 use Rattle.f11_store.specs.Directory.{index_of_name, index_of_empty, empty_record, entry_count, needs_block, record_bytes}
 use Rattle.f11_store.specs.Causes.{first_refusal}
-use Rattle.f11_store.specs.Changes.{is_in, next_sequence, after_create, with_cut_file, with_grown_file, MayGrow, GrowsIndex, with_more_slots, with_end_after, with_entry_at_end, Extends, EntersAtEnd, EntersAt, Enters, with_change, with_block, with_entry, with_replacement, after_delete, after_deaccess, after_release, after_remove}
-use Rattle.f11_store.specs.Lags.{Part, part_on, parts_if, served_parts, parts_of, with_parts, with_no_mark, grow_parts, extend_parts, end_parts, append_parts, enter_parts, is_meant, AreLike, Lags}
+use Rattle.std.specs.List.{range_with_len}
+use Rattle.f11_store.specs.Changes.{Changes, with_marked_file, is_in, next_sequence, file_created, after_create, with_first_blocks, with_cut_file, with_grown_file, MayGrow, GrowsIndex, with_more_slots, with_delete_mark, with_end_after, with_entry_at_end, Extends, EntersAtEnd, EntersAt, with_change, with_block, with_entry, with_replacement, with_access, is_due, without_file_at, after_giving_up, after_deaccess, after_release}
+use Rattle.f11_store.specs.Lags.{file_changes, with_parts, with_part, SameLimits, Work, no_work, one_part, create_work, extend_work, grow_work, go_work, mark_work, end_work, append_work, enter_work, give_up_work, deaccess_work, release_work, served_work, work_if, work_of, with_no_mark, grow_parts, extend_parts, AreLike, last_of, LagsBy}
 use Rattle.f11_store.specs.Laws.{LagsItself, StepLags}
-use Rattle.f11_store.proofs.Frees.{Frees, frees_change, frees_access, frees_after_delete, frees_deaccessed, frees_released}
-use Rattle.f11_store.proofs.Growth.{alike, headers_taken, last_or_next, stays_unused, extended_alike, extend_and_slots, slots_one_by_one, room-file_named, StoresAlike, appended_alike}
+use Rattle.f11_store.proofs.Frees.{Frees, same_limits, frees_change, frees_access, frees_without_file, frees_deaccess, frees_release}
+use Rattle.f11_store.proofs.Growth.{alike, headers_taken, last_or_next, stays_unused, grown_alike, extend_and_slots, slots_one_by_one, room-file_named, StoresAlike, entry_at_end_alike}
+use Rattle.f11_store.proofs.RecordLemmas.{neither}
 use Rattle.f11_store.proofs.SlotLemmas.{filter_no_less}
 
+-- a slot that is there was last given what it was last given
+pub last_there : (s : Store) (n : ℕ) → n ≤ s.slots → last_of s n ≡ s.last n
+last_there s n h = rw (le-leb n s.slots h) refl
+
 pub lags_itself : LagsItself
-lags_itself s task caller r block = record {
+lags_itself work s = record {
   done = 0;
   files = λ n. alike (s.file n);
   slots = refl;
   others = λ n h. refl;
   free_blocks = omega arith;
   headers = omega arith;
-  last = λ n h k. inl refl;
-  new_slots = λ n h k. absurd (omega arith);
+  last = λ n h k. inl (sym (last_there s n h));
+  no_header = λ e n h. sym (last_there s n h);
+  limits = same_limits refl refl refl;
 }
 
 -- nothing changed
-unchanged_lags :
-    (s s' : Store) (task : ℕ) (caller : Uic) (r : Request) (block : List ℕ) → s' ≡ s → Lags s' s task caller r block
-unchanged_lags s s' task caller r block e =
-    subst (λ (x : Store). Lags x s task caller r block) (sym e) (lags_itself s task caller r block)
+unchanged_lags : (work : Work) (s t : Store) → t ≡ s → LagsBy work t s
+unchanged_lags work s t e = subst (λ (x : Store). LagsBy work x s) (sym e) (lags_itself work s)
 
 -- more free headers where no other slot is in use
 free_headers_grow :
@@ -53,40 +58,36 @@ free_headers_grow s t h e = rw e (filter_no_less (λ n. not (s.in_use n)) (λ n.
     in_use_not false k = refl
     in_use_not true k = absurd (cc)
 
--- a request that takes nothing and whose parts are done lags
-frees_lags :
-    (s s' : Store) (task : ℕ) (caller : Uic) (r : Request) (block : List ℕ) (done : ℕ) →
-    ((n : ℕ) → AreLike (s'.file n) ((with_parts s (take done (parts_of s task caller r block))).file n)) →
-    s'.slots ≡ (with_parts s (take done (parts_of s task caller r block))).slots →
-    Frees s (is_meant s task r) s' → Lags s' s task caller r block
-frees_lags s s' task caller r block done files slots frees = record {
-  done = done;
-  files = files;
-  slots = slots;
+-- what takes nothing lags, where the files are those with the parts done
+pub frees_lags :
+    (work : Work) (s t : Store) → StoresAlike t (with_parts s work.parts) → t.slots ≡ (with_parts s work.parts).slots →
+    Frees s work.is_meant t → LagsBy work t s
+frees_lags work s t files slots frees = record {
+  done = length work.parts;
+  files = λ n. rw (take-length work.parts) (files n);
+  slots = rw (take-length work.parts) slots;
   others = frees.others;
   free_blocks = omega (arith, frees.free);
-  headers = omega (arith, free_headers_grow s s' frees.unused frees.slots);
-  last = λ n h k. inl (frees.last n);
-  new_slots = λ n h k. absurd (omega (arith, frees.slots));
+  headers = omega (arith, free_headers_grow s t frees.unused frees.slots);
+  last = λ n h k. inl (same n h);
+  no_header = λ e n h. same n h;
+  limits = frees.limits;
 }
-
--- the parts of a request that is served
-parts_served :
-    (s : Store) (task : ℕ) (caller : Uic) (r : Request) (block : List ℕ) → first_refusal s task caller r ≡ None →
-    parts_of s task caller r block ≡ served_parts s task caller r block
-parts_served s task caller r block h = ap (λ o. parts_if o (served_parts s task caller r block)) h
-
--- a request of one part that takes nothing lags
-one_part_lags :
-    (s s' : Store) (task : ℕ) (caller : Uic) (r : Request) (block : List ℕ) (part : Part) →
-    first_refusal s task caller r ≡ None → served_parts s task caller r block ≡ part ∷ [] → s' ≡ part s →
-    Frees s (is_meant s task r) (part s) → Lags s' s task caller r block
-one_part_lags s s' task caller r block part none one e frees =
-    subst (λ (x : Store). Lags x s task caller r block) (sym e)
-    (frees_lags s (part s) task caller r block 1 (λ n. rw done (alike ((part s).file n))) (rw done refl) frees)
   where
-    done : take 1 (parts_of s task caller r block) ≡ part ∷ []
-    done = ap (take 1) (parts_served s task caller r block none ∙ one)
+    same : (n : ℕ) → n ≤ t.slots → t.last n ≡ last_of s n
+    same n h = frees.last n ∙ sym (last_there s n (omega (arith, h, frees.slots)))
+
+-- one part that takes nothing
+change_lags : (s : Store) (k : ℕ) (change : File → File) → LagsBy (one_part k (file_changes k change)) (with_change s k change) s
+change_lags s k change =
+    frees_lags (one_part k (file_changes k change)) s (with_change s k change)
+    (λ n. alike ((with_change s k change).file n)) refl (frees_change s k change)
+
+-- the work of a request that is served
+work_served :
+    (s : Store) (task : ℕ) (caller : Uic) (r : Request) (block : List ℕ) → first_refusal s task caller r ≡ None →
+    work_of s task caller r block ≡ served_work s task caller r block
+work_served s task caller r block h = ap (λ o. work_if o (served_work s task caller r block)) h
 
 -- less room needs no fewer headers
 need_no_less : (less room n : ℕ) → less ≤ room → need room n ≤ need less n
@@ -96,53 +97,73 @@ need_no_less less room n h = omega arith
 taken_at_most : (n : ℕ) (slots : List ℕ) → length (take n slots) ≤ n
 taken_at_most n slots = rw length-take (omega arith)
 
+-- what work that takes blocks and headers leaves
+pub record Takes (s : Store) (meant : ℕ → Bool) (blocks headers : ℕ) (t : Store) : Type 0 where
+  pub others : (n : ℕ) → meant n ≡ false → t.file n ≡ s.file n
+  pub free : s.free ≤ t.free + blocks
+  pub slots_free : free_headers s ≤ free_headers t + headers
+  pub last : (n : ℕ) → (t.last n ≡ s.last n) ⊎ (t.last n ≡ next_sequence (s.last n))
+  pub no_header : headers ≡ 0 → (n : ℕ) → t.last n ≡ s.last n
+  pub slots : t.slots ≡ s.slots
+  pub same : SameLimits s t
+
+-- a store whose files are those with the parts done, and which takes what the work may take, lags
+takes_lags :
+    (work : Work) (s t : Store) → StoresAlike t (with_parts s work.parts) → t.slots ≡ (with_parts s work.parts).slots →
+    Takes s work.is_meant work.blocks work.headers t → LagsBy work t s
+takes_lags work s t files slots takes = record {
+  done = length work.parts;
+  files = λ n. rw (take-length work.parts) (files n);
+  slots = rw (take-length work.parts) slots;
+  others = takes.others;
+  free_blocks = takes.free;
+  headers = takes.slots_free;
+  last = λ n h k. subst (λ (q : ℕ). (t.last n ≡ q) ⊎ (t.last n ≡ next_sequence q)) (sym (there n h)) (takes.last n);
+  no_header = λ e n h. takes.no_header e n ∙ sym (there n h);
+  limits = takes.same;
+}
+  where
+    there : (n : ℕ) → n ≤ t.slots → last_of s n ≡ s.last n
+    there n h = last_there s n (omega (arith, h, takes.slots))
+
 -- a new file
 created_lags :
-    (s : Store) (task : ℕ) (caller : Uic) (word : ℕ) (ident attr block : List ℕ) →
-    first_refusal s task caller (request.Create word ident attr) ≡ None →
-    Lags (after_create s caller word ident attr) s task caller (request.Create word ident attr) block
-created_lags s task caller word ident attr block none = record {
-  done = 1;
-  files = λ n. rw done (alike ((after_create s caller word ident attr).file n));
-  slots = rw done refl;
-  others = λ n out. rw out refl;
-  free_blocks = omega arith;
-  headers = headers_taken s (after_create s caller word ident attr) (least_free s ∷ [])
-      (λ n out unused. stays_unused (is_in (least_free s ∷ []) n) (s.in_use n) out unused) (omega arith);
-  last = λ n h k. last_or_next (is_in (least_free s ∷ []) n) (s.last n);
-  new_slots = λ n h k. absurd (omega arith);
-}
+    (s : Store) (caller : Uic) (word : ℕ) (ident attr : List ℕ) →
+    LagsBy (create_work (least_free s) (file_created s (least_free s) caller word ident attr)) (after_create s caller word ident attr) s
+created_lags s caller word ident attr =
+    takes_lags (create_work (least_free s) (file_created s (least_free s) caller word ident attr)) s after
+    (λ n. alike (after.file n)) refl (record {
+      others = λ n out. rw out refl;
+      free = omega arith;
+      slots_free = headers_taken s after (least_free s ∷ [])
+          (λ n out unused. stays_unused (is_in (least_free s ∷ []) n) (s.in_use n) out unused) (omega arith);
+      last = λ n. last_or_next (is_in (least_free s ∷ []) n) (s.last n);
+      no_header = λ e. absurd (cc);
+      slots = refl;
+      same = same_limits refl refl refl;
+    })
   where
-    done : take 1 (parts_of s task caller (request.Create word ident attr) block) ≡ (λ (t : Store). after_create t caller word ident attr) ∷ []
-    done = ap (take 1) (parts_served s task caller (request.Create word ident attr) block none)
+    after : Store
+    after = after_create s caller word ident attr
 
 -- a file that is cut
-shortened_lags :
-    (s : Store) (task : ℕ) (caller : Uic) (lun to : ℕ) (block : List ℕ) (f : File) (headers pointers room : ℕ) →
-    first_refusal s task caller (request.Truncate lun to) ≡ None → s.file (id_held s task lun).number ≡ Some f →
-    Lags (with_cut_file s (id_held s task lun).number f to headers pointers room) s task caller (request.Truncate lun to) block
-shortened_lags s task caller lun to block f headers pointers room none was = record {
-  done = 1;
-  files = λ n. rw (done, was) (by_test (n == (id_held s task lun).number) (s.file n));
-  slots = rw done refl;
-  others = λ n out. rw out refl;
-  free_blocks = omega arith;
-  headers = omega (
-    arith,
-    free_headers_grow s (with_cut_file s (id_held s task lun).number f to headers pointers room)
-        (λ n unused. out_of_use _ (s.in_use n) unused) refl,
-  );
-  last = λ n h k. inl refl;
-  new_slots = λ n h k. absurd (omega arith);
-}
+cut_lags :
+    (s : Store) (k to : ℕ) (f : File) (headers pointers room : ℕ) → s.file k ≡ Some f →
+    LagsBy (one_part k (file_changes k (with_first_blocks to))) (with_cut_file s k f to headers pointers room) s
+cut_lags s k to f headers pointers room was =
+    frees_lags (one_part k (file_changes k (with_first_blocks to))) s (with_cut_file s k f to headers pointers room)
+    (λ n. rw was (by_test (n == k) (s.file n))) refl (record {
+      others = λ n out. rw out refl;
+      free = omega arith;
+      unused = λ n unused. out_of_use _ (s.in_use n) unused;
+      last = λ n. refl;
+      slots = refl;
+      limits = same_limits refl refl refl;
+    })
   where
-    done : take 1 (parts_of s task caller (request.Truncate lun to) block)
-        ≡ part_on (id_held s task lun).number (λ f. record f { blocks = take to f.blocks }) ∷ []
-    done = ap (take 1) (parts_served s task caller (request.Truncate lun to) block none)
-
     by_test : (b : Bool) (o : Option File) →
-        AreLike (if b then Some (record f { held = take headers f.held; pointers = pointers; room = room; blocks = take to f.blocks }) else o)
-        (if b then Some (record f { blocks = take to f.blocks }) else o)
+        AreLike (if b then Some (record (with_first_blocks to f) { held = take headers f.held; pointers = pointers; room = room }) else o)
+        (if b then Some (with_first_blocks to f) else o)
     by_test true o = record { sequence = refl; owner = refl; protection = refl; characteristics = refl; ident = refl; attr = refl; blocks = refl }
     by_test false o = alike o
 
@@ -150,26 +171,20 @@ shortened_lags s task caller lun to block f headers pointers room none was = rec
     out_of_use true c h = h
     out_of_use false c h = refl
 
--- all parts of a request that is served
-all_parts :
-    (s : Store) (task : ℕ) (caller : Uic) (r : Request) (block : List ℕ) → first_refusal s task caller r ≡ None →
-    take (length (parts_of s task caller r block)) (parts_of s task caller r block) ≡ served_parts s task caller r block
-all_parts s task caller r block none =
-    take-length (parts_of s task caller r block) ∙ parts_served s task caller r block none
+-- a file that goes
+gone_lags : (s : Store) (k : ℕ) → LagsBy (go_work k) (without_file_at s k) s
+gone_lags s k =
+    frees_lags (go_work k) s (without_file_at s k) (λ n. alike ((without_file_at s k).file n)) refl (frees_without_file s k)
 
--- what a file that grew takes
-pub record Takes (s : Store) (k blocks headers : ℕ) (t : Store) : Type 0 where
-  pub others : (n : ℕ) → (n == k) ≡ false → t.file n ≡ s.file n
-  pub free : s.free ≤ t.free + blocks
-  pub slots_free : free_headers s ≤ free_headers t + headers
-  pub last : (n : ℕ) → (t.last n ≡ s.last n) ⊎ (t.last n ≡ next_sequence (s.last n))
-  pub slots : t.slots ≡ s.slots
+-- no header is added where none is needed
+none_added : (less room n added : ℕ) → less ≤ room → added ≤ need room n → need less n ≡ 0 → added ≡ 0
+none_added less room n added h k e = omega (arith, need_no_less less room n h, h, k, e)
 
-extended_takes :
+grown_takes :
     (s : Store) (k n : ℕ) (f : File) (blocks : List (List ℕ)) (added pointers room less : ℕ) →
     MayGrow f n added pointers room → less ≤ f.room →
-    Takes s k n (need less n) (with_grown_file s k f n blocks added pointers room)
-extended_takes s k n f blocks added pointers room less may h = record {
+    Takes s (λ m. m == k) n (need less n) (with_grown_file s k f n blocks added pointers room)
+grown_takes s k n f blocks added pointers room less may h = record {
   others = λ m out. rw out refl;
   free = omega arith;
   slots_free = omega (
@@ -181,128 +196,76 @@ extended_takes s k n f blocks added pointers room less may h = record {
         (λ m out unused. stays_unused (is_in (take added (free_slots s)) m) (s.in_use m) out unused) (omega arith),
   );
   last = λ m. last_or_next (is_in (take added (free_slots s)) m) (s.last m);
+  no_header = λ e m. rw (none_added less f.room n added h may.headers e) refl;
   slots = refl;
+  same = same_limits refl refl refl;
 }
 
 -- a file that grew
 extended_lags :
-    (s s' : Store) (task : ℕ) (caller : Uic) (lun n : ℕ) (block : List ℕ) →
-    first_refusal s task caller (request.Extend lun n) ≡ None → Extends s (id_held s task lun).number n s' →
-    Lags s' s task caller (request.Extend lun n) block
-extended_lags s s' task caller lun n block none grows =
-    subst (λ (x : Store). Lags x s task caller (request.Extend lun n) block) (sym grows.store_is) (record {
-      done = length (parts_of s task caller (request.Extend lun n) block);
-      files = λ m. subst (λ (ps : List Part). AreLike (after.file m) ((with_parts s ps).file m)) (sym parts)
-          (extended_alike s k n grows.before grows.added grows.pointers grows.room grows.was m);
-      slots = sym (ap (λ ps. (with_parts s ps).slots) parts ∙ extend_and_slots s k n);
-      others = takes.others;
-      free_blocks = takes.free;
-      headers = takes.slots_free;
-      last = λ m h l. takes.last m;
-      new_slots = λ m h l. absurd (omega arith);
-    })
+    (s t : Store) (id : FileId) (n : ℕ) → Extends s id.number n t → LagsBy (extend_work id.number (file_named s id).room n) t s
+extended_lags s t id n grows =
+    subst (λ (x : Store). LagsBy (extend_work id.number (file_named s id).room n) x s) (sym grows.store_is)
+    (takes_lags (extend_work id.number (file_named s id).room n) s after
+    (grown_alike s id.number n grows.before grows.added grows.pointers grows.room grows.was)
+    (sym (extend_and_slots s id.number n))
+    (grown_takes s id.number n grows.before (zero_blocks n) grows.added grows.pointers grows.room (file_named s id).room
+    grows.may_grow (room-file_named s id grows.before grows.was)))
   where
-    k : ℕ
-    k = (id_held s task lun).number
-
     after : Store
-    after = with_grown_file s k grows.before n (zero_blocks n) grows.added grows.pointers grows.room
-
-    parts : take (length (parts_of s task caller (request.Extend lun n) block)) (parts_of s task caller (request.Extend lun n) block) ≡ extend_parts k n
-    parts = all_parts s task caller (request.Extend lun n) block none
-
-    takes : Takes s k n (need (file_held s task lun).room n) after
-    takes = extended_takes s k n grows.before (zero_blocks n) grows.added grows.pointers grows.room (file_held s task lun).room
-        grows.may_grow (room-file_named s (id_held s task lun) grows.before grows.was)
-
--- a record that is entered: what is taken, and which parts are done
-pub record Entered (s : Store) (d : FileId) (t u : Store) : Type 0 where
-  pub files : StoresAlike t u
-  pub same_slots : t.slots ≡ u.slots
-  pub takes : Takes s d.number 1 (need (file_named s d).room 1) t
-
--- a change of one file takes nothing
-change_takes : (s : Store) (k blocks headers : ℕ) (change : File → File) → Takes s k blocks headers (with_change s k change)
-change_takes s k blocks headers change = record {
-  others = λ n out. rw out refl;
-  free = omega arith;
-  slots_free = omega (arith, free_headers_grow s (with_change s k change) (λ n h. h) refl);
-  last = λ n. inl refl;
-  slots = refl;
-}
+    after = with_grown_file s id.number grows.before n (zero_blocks n) grows.added grows.pointers grows.room
 
 -- after what was taken, a change of the file
 takes_then_change :
-    (s t : Store) (k blocks headers : ℕ) (change : File → File) → Takes s k blocks headers t →
-    Takes s k blocks headers (with_change t k change)
+    (s t : Store) (k blocks headers : ℕ) (change : File → File) → Takes s (λ n. n == k) blocks headers t →
+    Takes s (λ n. (n == k) || (n == k)) (blocks + 0) (headers + 0) (with_change t k change)
 takes_then_change s t k blocks headers change h = record {
-  others = λ n out. rw out (h.others n out);
-  free = h.free;
+  others = λ n out. rw (neither (n == k) (n == k) out).0 (h.others n (neither (n == k) (n == k) out).0);
+  free = omega (arith, h.free);
   slots_free = omega (arith, h.slots_free, free_headers_grow t (with_change t k change) (λ n e. e) refl);
   last = h.last;
+  no_header = λ e. h.no_header (omega (arith, e));
   slots = h.slots;
+  same = same_limits h.same.bitmap_blocks h.same.index_bitmap_blocks h.same.limit;
 }
 
 entered_at_end :
-    (b : Bool) (s : Store) (d : FileId) (i : ℕ) (r : List ℕ) (s' : Store) → EntersAtEnd b s d.number i r s' →
-    Entered s d s' (with_parts s (append_parts b d.number i r))
-entered_at_end false s d i r s' h =
-    subst (λ (x : Store). Entered s d x (with_parts s (append_parts false d.number i r))) (sym h) (record {
-      files = appended_alike s s d.number i r (λ m. alike (s.file m));
-      same_slots = refl;
-      takes = change_takes s d.number 1 (need (file_named s d).room 1) (λ f. with_end_after i (with_entry i r f));
-    })
-entered_at_end true s d i r s' (grown, grows, e) =
-    subst (λ (x : Store). Entered s d x (with_parts s (append_parts true d.number i r))) (sym (e ∙ ap (λ t. with_entry_at_end t d.number i r) grows.store_is)) (record {
-      files = λ m. subst (λ (x : Store). AreLike ((with_entry_at_end after d.number i r).file m) (x.file m)) (sym joined)
-          (appended_alike after (with_parts s (extend_parts d.number 1)) d.number i r
-          (extended_alike s d.number 1 grows.before grows.added grows.pointers grows.room grows.was) m);
-      same_slots = sym (ap (λ x. x.slots) joined ∙ extend_and_slots s d.number 1);
-      takes = takes_then_change s after d.number 1 (need (file_named s d).room 1) (λ f. with_end_after i (with_entry i r f))
-          (extended_takes s d.number 1 grows.before (zero_blocks 1) grows.added grows.pointers grows.room (file_named s d).room
-          grows.may_grow (room-file_named s d grows.before grows.was));
-    })
+    (b : Bool) (s t : Store) (d : FileId) (i : ℕ) (r : List ℕ) → EntersAtEnd b s d.number i r t →
+    LagsBy (append_work b d.number (file_named s d).room i r) t s
+entered_at_end false s t d i r h =
+    subst (λ (x : Store). LagsBy (end_work d.number i r) x s) (sym h)
+    (frees_lags (end_work d.number i r) s (with_entry_at_end s d.number i r)
+    (entry_at_end_alike s s d.number i r (λ m. alike (s.file m))) refl (frees_change s d.number (λ f. with_end_after i (with_entry i r f))))
+entered_at_end true s t d i r (grown, grows, e) =
+    subst (λ (x : Store). LagsBy work x s) (sym (e ∙ ap (λ u. with_entry_at_end u d.number i r) grows.store_is))
+    (takes_lags work s (with_entry_at_end after d.number i r)
+    (λ m. subst (λ (x : Store). AreLike ((with_entry_at_end after d.number i r).file m) (x.file m)) (sym joined)
+    (entry_at_end_alike after (with_parts s (extend_parts d.number 1)) d.number i r
+    (grown_alike s d.number 1 grows.before grows.added grows.pointers grows.room grows.was) m))
+    (sym (ap (λ x. x.slots) joined ∙ extend_and_slots s d.number 1))
+    (takes_then_change s after d.number 1 (need (file_named s d).room 1) (λ f. with_end_after i (with_entry i r f))
+    (grown_takes s d.number 1 grows.before (zero_blocks 1) grows.added grows.pointers grows.room (file_named s d).room
+    grows.may_grow (room-file_named s d grows.before grows.was))))
   where
+    work : Work
+    work = append_work true d.number (file_named s d).room i r
+
     after : Store
     after = with_grown_file s d.number grows.before 1 (zero_blocks 1) grows.added grows.pointers grows.room
 
-    joined : with_parts s (append_parts true d.number i r)
-        ≡ part_on d.number (with_end_after i) (part_on d.number (with_entry i r) (with_parts s (extend_parts d.number 1)))
-    joined = fold-append (λ t part. part t) s (extend_parts d.number 1) (end_parts d.number i r)
-
-entered_at :
-    (o : Option ℕ) (s : Store) (d : FileId) (r : List ℕ) (s' : Store) → EntersAt o s d r s' →
-    Entered s d s' (with_parts s (enter_parts o s d r))
-entered_at (Some i) s d r s' h =
-    subst (λ (x : Store). Entered s d x (with_parts s (enter_parts (Some i) s d r))) (sym h) (record {
-      files = λ m. alike ((with_change s d.number (with_entry i r)).file m);
-      same_slots = refl;
-      takes = change_takes s d.number 1 (need (file_named s d).room 1) (with_entry i r);
-    })
-entered_at None s d r s' h = entered_at_end (needs_block (file_named s d)) s d (entry_count (file_named s d)) r s' h
+    joined : with_parts s work.parts
+        ≡ with_change (with_change (with_parts s (extend_parts d.number 1)) d.number (with_entry i r)) d.number (with_end_after i)
+    joined = fold-append with_part s (extend_parts d.number 1) (end_work d.number i r).parts
 
 -- a record that is entered
 entered_lags :
-    (s s' : Store) (task : ℕ) (caller : Uic) (d : FileId) (name : List ℕ) (id : FileId) (block : List ℕ) →
-    first_refusal s task caller (request.Enter d name id) ≡ None → Enters s d (record_bytes id name) s' →
-    Lags s' s task caller (request.Enter d name id) block
-entered_lags s s' task caller d name id block none enters = record {
-  done = length (parts_of s task caller (request.Enter d name id) block);
-  files = λ m. subst (λ (ps : List Part). AreLike (s'.file m) ((with_parts s ps).file m)) (sym parts) (entered.files m);
-  slots = entered.same_slots ∙ sym (ap (λ ps. (with_parts s ps).slots) parts);
-  others = entered.takes.others;
-  free_blocks = entered.takes.free;
-  headers = entered.takes.slots_free;
-  last = λ m h l. entered.takes.last m;
-  new_slots = λ m h l. absurd (omega (arith, entered.takes.slots));
-}
-  where
-    entered : Entered s d s' (with_parts s (enter_parts (index_of_empty (file_named s d)) s d (record_bytes id name)))
-    entered = entered_at (index_of_empty (file_named s d)) s d (record_bytes id name) s' enters
-
-    parts : take (length (parts_of s task caller (request.Enter d name id) block)) (parts_of s task caller (request.Enter d name id) block)
-        ≡ enter_parts (index_of_empty (file_named s d)) s d (record_bytes id name)
-    parts = all_parts s task caller (request.Enter d name id) block none
+    (o : Option ℕ) (s t : Store) (d : FileId) (r : List ℕ) → EntersAt o s d r t →
+    LagsBy (enter_work o (file_named s d) d.number r) t s
+entered_lags (Some i) s t d r h =
+    subst (λ (x : Store). LagsBy (one_part d.number (file_changes d.number (with_entry i r))) x s) (sym h)
+    (change_lags s d.number (with_entry i r))
+entered_lags None s t d r h =
+    entered_at_end (needs_block (file_named s d)) s t d (entry_count (file_named s d)) r h
 
 -- slots that are added have no sequence number yet, and the others keep theirs
 old_slot : (slots n m x : ℕ) → m ≤ slots → (if nat_lt slots m && nat_le m (slots + n) then 0 else x) ≡ x
@@ -311,19 +274,30 @@ old_slot slots n m x h = rw (le-ltb slots m h) refl
 added_slot : (slots n m x : ℕ) → slots < m → m ≤ slots + n → (if nat_lt slots m && nat_le m (slots + n) then 0 else x) ≡ 0
 added_slot slots n m x above below = grind (arith, nat_tests)
 
+-- so what holds of a slot that was there, and of 0, holds of a slot after slots were added
+last_after_growth :
+    (P : ℕ → ℕ → Type 0) (slots n m x y : ℕ) → m ≤ slots + n → P x y → P 0 0 →
+    P (if nat_lt slots m && nat_le m (slots + n) then 0 else x) (if nat_le m slots then y else 0)
+last_after_growth P slots n m x y within there added = by_test (nat_le m slots) refl
+  where
+    by_test : (b : Bool) → nat_le m slots ≡ b → P (if nat_lt slots m && nat_le m (slots + n) then 0 else x) (if b then y else 0)
+    by_test true e =
+        let low : m ≤ slots = grind (arith, nat_tests) in
+        subst (λ (z : ℕ). P z y) (sym (old_slot slots n m x low)) there
+    by_test false e =
+        let high : slots < m = grind (arith, nat_tests) in
+        subst (λ (z : ℕ). P z 0) (sym (added_slot slots n m x high within)) added
+
 -- the parts of GrowIndex
-parts_of_growth : (s : Store) (n : ℕ) → with_parts s (grow_parts n) ≡ record (part_on 1 with_no_mark s) { slots = s.slots + n }
+parts_of_growth : (s : Store) (n : ℕ) → with_parts s (grow_parts n) ≡ record (with_change s 1 with_no_mark) { slots = s.slots + n }
 unfolding grow_parts
-parts_of_growth s n = slots_one_by_one n (part_on 1 with_no_mark s)
+parts_of_growth s n = slots_one_by_one n (with_change s 1 with_no_mark)
 
 -- the index file that grew
-grown_lags :
-    (s s' : Store) (task : ℕ) (caller : Uic) (n : ℕ) (block : List ℕ) →
-    first_refusal s task caller (request.GrowIndex n) ≡ None → GrowsIndex s n s' →
-    Lags s' s task caller (request.GrowIndex n) block
-grown_lags s s' task caller n block none grew =
-    subst (λ (x : Store). Lags x s task caller (request.GrowIndex n) block) (sym (grew.store_is ∙ ap (λ t. with_more_slots t n) grew.grows.store_is)) (record {
-      done = length (parts_of s task caller (request.GrowIndex n) block);
+grown_lags : (s t : Store) (n : ℕ) → GrowsIndex s n t → LagsBy (grow_work (index_file s).room n) t s
+grown_lags s t n grew =
+    subst (λ (x : Store). LagsBy work x s) (sym (grew.store_is ∙ ap (λ u. with_more_slots u n) grew.grows.store_is)) (record {
+      done = length work.parts;
       files = λ m. subst (λ (x : Store). AreLike ((with_more_slots after n).file m) (x.file m)) (sym parts)
           (rw grew.grows.was (by_test (m == 1) (s.file m)));
       slots = sym (ap (λ x. x.slots) parts);
@@ -338,23 +312,26 @@ grown_lags s s' task caller n block none grew =
         headers_taken s (with_more_slots after n) (take grew.grows.added (free_slots s))
             (λ m out unused. stays_unused (is_in (take grew.grows.added (free_slots s)) m) (s.in_use m) out unused) (omega arith),
       );
-      last = λ m h l. rw (old_slot s.slots n m (after.last m) h) (takes.last m);
-      new_slots = λ m h l. added_slot s.slots n m (after.last m) h l;
+      last = λ m h l. last_after_growth (λ x y. (x ≡ y) ⊎ (x ≡ next_sequence y)) s.slots n m (after.last m) (s.last m) h (takes.last m) (inl refl);
+      no_header = λ e m h. last_after_growth (λ x y. x ≡ y) s.slots n m (after.last m) (s.last m) h (takes.no_header e m) refl;
+      limits = same_limits refl refl refl;
     })
   where
+    work : Work
+    work = grow_work (index_file s).room n
+
     after : Store
     after = with_grown_file s 1 grew.grows.before n [] grew.grows.added grew.grows.pointers grew.grows.room
 
     less_room : (index_file s).room ≤ grew.grows.before.room
     less_room = rw grew.grows.was (omega arith)
 
-    takes : Takes s 1 n (need (index_file s).room n) after
-    takes = extended_takes s 1 n grew.grows.before [] grew.grows.added grew.grows.pointers grew.grows.room (index_file s).room
+    takes : Takes s (λ m. m == 1) n (need (index_file s).room n) after
+    takes = grown_takes s 1 n grew.grows.before [] grew.grows.added grew.grows.pointers grew.grows.room (index_file s).room
         grew.grows.may_grow less_room
 
-    parts : with_parts s (take (length (parts_of s task caller (request.GrowIndex n) block)) (parts_of s task caller (request.GrowIndex n) block))
-        ≡ record (part_on 1 with_no_mark s) { slots = s.slots + n }
-    parts = ap (with_parts s) (all_parts s task caller (request.GrowIndex n) block none) ∙ parts_of_growth s n
+    parts : with_parts s (take (length work.parts) work.parts) ≡ record (with_change s 1 with_no_mark) { slots = s.slots + n }
+    parts = ap (with_parts s) (take-length work.parts) ∙ parts_of_growth s n
 
     by_test : (b : Bool) (o : Option File) →
         AreLike (if b then Some (record grew.grows.before {
@@ -368,47 +345,97 @@ grown_lags s s' task caller n block none grew =
     by_test true o = record { sequence = refl; owner = refl; protection = refl; characteristics = refl; ident = refl; attr = refl; blocks = append-nil grew.grows.before.blocks }
     by_test false o = alike o
 
-pub step_lags : StepLags
-step_lags s task caller r block (Err e) s' block' h = unchanged_lags s s' task caller r block h.store_stays
-step_lags s task caller (request.Create word ident attr) block (Ok a) s' block' h =
-    subst (λ (x : Store). Lags x s task caller (request.Create word ident attr) block) (sym h.changes)
-    (created_lags s task caller word ident attr block h.no_cause)
-step_lags s task caller (request.Extend lun n) block (Ok a) s' block' h =
-    extended_lags s s' task caller lun n block h.no_cause h.changes
-step_lags s task caller (request.Truncate lun to) block (Ok a) s' block' h =
-    subst (λ (x : Store). Lags x s task caller (request.Truncate lun to) block) (sym h.changes.store_is)
-    (shortened_lags s task caller lun to block h.changes.before h.changes.headers h.changes.pointers h.changes.room
-    h.no_cause h.changes.was)
-step_lags s task caller (request.Delete id) block (Ok a) s' block' h =
-    one_part_lags s s' task caller (request.Delete id) block (λ t. after_delete t id) h.no_cause refl h.changes (frees_after_delete s id)
-step_lags s task caller (request.GrowIndex n) block (Ok a) s' block' h =
-    grown_lags s s' task caller n block h.no_cause h.changes
-step_lags s task caller (request.Access id m lun) block (Ok a) s' block' h =
-    subst (λ (x : Store). Lags x s task caller (request.Access id m lun) block) (sym h.changes)
-    (frees_lags s _ task caller (request.Access id m lun) block 0 (λ n. alike (s.file n)) refl
+-- two stores have the same files and as many slots
+pub record SameFiles (t s : Store) : Type 0 where
+  pub files : (n : ℕ) → t.file n ≡ s.file n
+  pub slots : t.slots ≡ s.slots
+
+-- the parts of giving up make the files of the store after it
+given_up_files :
+    (s t : Store) (task lun : ℕ) (o : Option Access) → SameFiles t s →
+    SameFiles (with_parts t (give_up_work s task lun o).parts) (after_giving_up s task lun o)
+given_up_files s t task lun None h = h
+given_up_files s t task lun (Some a) h = by_test (is_due (with_access s task lun None) a.file)
+  where
+    by_test : (b : Bool) →
+        SameFiles (with_parts t (if b then go_work a.file.number else no_work).parts)
+        (if b then without_file_at (with_access s task lun None) a.file.number else with_access s task lun None)
+    by_test true = record {
+      files = λ n. ap (λ (o : Option File). if n == a.file.number then None else o) (h.files n);
+      slots = h.slots;
+    }
+    by_test false = record { files = h.files; slots = h.slots }
+
+-- and so do those of Release
+released_files :
+    (luns : List ℕ) (s t : Store) (task : ℕ) → SameFiles t s →
+    SameFiles (with_parts t (release_work s task luns).parts) (fold (λ u lun. after_deaccess u task lun) s luns)
+released_files [] s t task h = h
+released_files (lun ∷ luns) s t task h =
+    subst (λ (x : Store). SameFiles x (fold (λ u l. after_deaccess u task l) (after_deaccess s task lun) luns))
+    (sym (fold-append with_part t (deaccess_work s task lun).parts (release_work (after_deaccess s task lun) task luns).parts))
+    (released_files luns (after_deaccess s task lun) (with_parts t (deaccess_work s task lun).parts) task
+    (given_up_files s t task lun (s.access task lun) h))
+
+-- what takes nothing and makes the files that the parts make lags
+same_files_lag :
+    (work : Work) (s t : Store) → SameFiles (with_parts s work.parts) t → Frees s work.is_meant t → LagsBy work t s
+same_files_lag work s t same frees =
+    frees_lags work s t (λ n. rw same.files (alike (t.file n))) (sym same.slots) frees
+
+-- the same store
+same_files : (s : Store) → SameFiles s s
+same_files s = record { files = λ n. refl; slots = refl }
+
+-- the store after a request that is served
+served_lags :
+    (s : Store) (task : ℕ) (caller : Uic) (r : Request) (block : List ℕ) (t : Store) → Changes s task caller r block t →
+    LagsBy (served_work s task caller r block) t s
+served_lags s task caller (request.Create word ident attr) block t h =
+    subst (λ (x : Store). LagsBy (served_work s task caller (request.Create word ident attr) block) x s) (sym h)
+    (created_lags s caller word ident attr)
+served_lags s task caller (request.Extend lun n) block t h = extended_lags s t (id_held s task lun) n h
+served_lags s task caller (request.Truncate lun to) block t h =
+    subst (λ (x : Store). LagsBy (served_work s task caller (request.Truncate lun to) block) x s) (sym h.store_is)
+    (cut_lags s (id_held s task lun).number to h.before h.headers h.pointers h.room h.was)
+served_lags s task caller (request.Delete id) block t h =
+    subst (λ (x : Store). LagsBy (served_work s task caller (request.Delete id) block) x s) (sym h) (by_test (is_accessed s id))
+  where
+    by_test : (b : Bool) →
+        LagsBy (if b then mark_work id.number else go_work id.number) (if b then with_marked_file s id.number else without_file_at s id.number) s
+    by_test true = change_lags s id.number with_delete_mark
+    by_test false = gone_lags s id.number
+served_lags s task caller (request.GrowIndex n) block t h = grown_lags s t n h
+served_lags s task caller (request.Access id m lun) block t h =
+    subst (λ (x : Store). LagsBy no_work x s) (sym h)
+    (frees_lags no_work s _ (λ n. alike (s.file n)) refl
     (frees_access s (λ _. false) task lun (Some (record { file = id; mode = m }))))
-step_lags s task caller (request.Deaccess lun) block (Ok a) s' block' h =
-    one_part_lags s s' task caller (request.Deaccess lun) block (λ t. after_deaccess t task lun) h.no_cause refl h.changes
-    (frees_deaccessed s task lun)
-step_lags s task caller request.Release block (Ok a) s' block' h =
-    subst (λ (x : Store). Lags x s task caller request.Release block) (sym h.changes)
-    (frees_lags s (after_release s task) task caller request.Release block 4 (λ n. alike ((after_release s task).file n)) refl
-    (frees_released s task))
-step_lags s task caller (request.ReadBlock lun vbn) block (Ok a) s' block' h =
-    unchanged_lags s s' task caller (request.ReadBlock lun vbn) block h.changes
-step_lags s task caller (request.WriteBlock lun vbn) block (Ok a) s' block' h =
-    one_part_lags s s' task caller (request.WriteBlock lun vbn) block (part_on (id_held s task lun).number (with_block vbn block))
-    h.no_cause refl h.changes (frees_change s (id_held s task lun).number (with_block vbn block))
-step_lags s task caller (request.Find d name) block (Ok a) s' block' h =
-    unchanged_lags s s' task caller (request.Find d name) block h.changes
-step_lags s task caller (request.Enter d name id) block (Ok a) s' block' h =
-    entered_lags s s' task caller d name id block h.no_cause h.changes
-step_lags s task caller (request.Remove d name) block (Ok a) s' block' h =
-    one_part_lags s s' task caller (request.Remove d name) block (λ t. after_remove t d name) h.no_cause refl h.changes
-    (frees_change s d.number (with_entry (unwrap_or (index_of_name name (file_named s d)) 0) empty_record))
-step_lags s task caller (request.ReadAttr id) block (Ok a) s' block' h =
-    unchanged_lags s s' task caller (request.ReadAttr id) block h.changes
-step_lags s task caller (request.WriteAttr id c) block (Ok a) s' block' h =
-    one_part_lags s s' task caller (request.WriteAttr id c) block (part_on id.number (with_replacement c))
-    h.no_cause refl h.changes (frees_change s id.number (with_replacement c))
-step_lags s task caller request.Space block (Ok a) s' block' h = unchanged_lags s s' task caller request.Space block h.changes
+served_lags s task caller (request.Deaccess lun) block t h =
+    subst (λ (x : Store). LagsBy (deaccess_work s task lun) x s) (sym h)
+    (same_files_lag (deaccess_work s task lun) s (after_deaccess s task lun)
+    (given_up_files s s task lun (s.access task lun) (same_files s)) (frees_deaccess s task lun))
+served_lags s task caller request.Release block t h =
+    subst (λ (x : Store). LagsBy (release_work s task (range_with_len 0 4)) x s) (sym h)
+    (same_files_lag (release_work s task (range_with_len 0 4)) s (after_release s task)
+    (released_files (range_with_len 0 4) s s task (same_files s)) (frees_release (range_with_len 0 4) s task))
+served_lags s task caller (request.ReadBlock lun vbn) block t h = unchanged_lags no_work s t h
+served_lags s task caller (request.WriteBlock lun vbn) block t h =
+    subst (λ (x : Store). LagsBy (served_work s task caller (request.WriteBlock lun vbn) block) x s) (sym h)
+    (change_lags s (id_held s task lun).number (with_block vbn block))
+served_lags s task caller (request.Find d name) block t h = unchanged_lags no_work s t h
+served_lags s task caller (request.Enter d name id) block t h =
+    entered_lags (index_of_empty (file_named s d)) s t d (record_bytes id name) h
+served_lags s task caller (request.Remove d name) block t h =
+    subst (λ (x : Store). LagsBy (served_work s task caller (request.Remove d name) block) x s) (sym h)
+    (change_lags s d.number (with_entry (unwrap_or (index_of_name name (file_named s d)) 0) empty_record))
+served_lags s task caller (request.ReadAttr id) block t h = unchanged_lags no_work s t h
+served_lags s task caller (request.WriteAttr id c) block t h =
+    subst (λ (x : Store). LagsBy (served_work s task caller (request.WriteAttr id c) block) x s) (sym h)
+    (change_lags s id.number (with_replacement c))
+served_lags s task caller request.Space block t h = unchanged_lags no_work s t h
+
+pub step_lags : StepLags
+step_lags s task caller r block (Err e) t block' h = unchanged_lags (work_of s task caller r block) s t h.store_stays
+step_lags s task caller r block (Ok a) t block' h =
+    subst (λ (w : Work). LagsBy w t s) (sym (work_served s task caller r block h.no_cause))
+    (served_lags s task caller r block t h.changes)

@@ -4,6 +4,7 @@ pub mod FileLaws
 pub mod Frees
 pub mod Growth
 pub mod LagLaws
+pub mod NoLags
 pub mod RecordLemmas
 pub mod RemovalLaws
 pub mod SlotLemmas

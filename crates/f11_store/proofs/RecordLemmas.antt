@@ -85,7 +85,7 @@ record_at-other blocks i j r differs there whole sixteen = by_block (eqb_tells (
     by_block (inr w) = ap (λ b. record_in b (j % 32)) (get_or-set_other blocks (i / 32) (j / 32) _ [] w.1)
 
 -- neither of two tests passes
-neither : (b c : Bool) → (b || c) ≡ false → (b ≡ false) × (c ≡ false)
+pub neither : (b c : Bool) → (b || c) ≡ false → (b ≡ false) × (c ≡ false)
 neither false c h = (refl, h)
 neither true c h = absurd (cc)
 

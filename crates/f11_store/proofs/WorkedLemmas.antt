@@ -3,13 +3,13 @@ use Rattle.std.proofs.Common.{◌≡◌, ℕ, List, Some, None, refl, arith}
 use Rattle.f11_store.specs.declared.callers.Uic.{Uic}
 use Rattle.f11_store.specs.declared.refusals.Refusal.{Refusal}
 use Rattle.f11_store.specs.declared.requests.Request.{Request}
-use Rattle.f11_store.specs.File.{File, zero_blocks, stated_end}
+use Rattle.f11_store.specs.File.{File, zero_block, zero_blocks, stated_end}
 use Rattle.f11_store.specs.Store.{Store, free_slots, is_held}
 use Rattle.f11_store.specs.Directory.{is_directory, record_at, entries_of, has_name, record_bytes, with_record, with_end}
 use Rattle.f11_store.specs.Causes.{first_refusal}
 use Rattle.f11_store.specs.Changes.{Changes, MayGrow, Grows, with_grown_file}
 use Rattle.f11_store.specs.Step.{MayRefuse, Refuses, Serves, reply_of, block_after}
-use Rattle.f11_store.specs.Worked.{mfd_block, SequenceNumbers, FullVolume, TooLong, DeferredDelete, TruncatedUnderAReader, Conflicts, EnteredAndRemoved, EndMoves, HeadersRunOut, Bounds}
+use Rattle.f11_store.specs.Worked.{own_records, mfd_block, crowded_block, SequenceNumbers, FullVolume, TooLong, DeferredDelete, TruncatedUnderAReader, Conflicts, EnteredAndRemoved, EnteredInNewBlock, EndMoves, HeadersRunOut, Bounds}
 
 -- a step that is refused
 refused :
@@ -74,9 +74,14 @@ headers_run_out =
     (_, (_, refused refl, (_, refused refl, (_, served refl (grows 0 1 101 refl (record { headers = omega arith; no_fewer = omega arith; no_more = omega arith; places = refl; filled = λ h. omega arith })), (_, refused refl, (_, served refl (record { grown = _; grows = grows 0 2 100 refl (record { headers = omega arith; no_fewer = omega arith; no_more = omega arith; places = refl; filled = λ h. omega arith }); store_is = refl }), (_, refused refl, (_, refused refl, (_, refused refl, refl)))))))))
 
 pub entered_and_removed : EnteredAndRemoved
-unfolding free_slots is_held zero_blocks stated_end is_directory record_at entries_of has_name record_bytes with_record with_end mfd_block
+unfolding free_slots is_held zero_blocks stated_end is_directory record_at entries_of has_name record_bytes with_record with_end own_records mfd_block
 entered_and_removed =
     (_, (_, refused refl, (_, served refl refl, (_, served refl refl, (_, refused refl, (_, served refl refl, (_, refused refl, (_, served refl refl, (_, refused refl, (_, refused refl, refl))))))))))
+
+pub entered_in_new_block : EnteredInNewBlock
+unfolding free_slots is_held zero_blocks zero_block stated_end is_directory record_at entries_of has_name record_bytes with_record with_end own_records crowded_block
+entered_in_new_block =
+    (_, (_, refused refl, (_, served refl (_, grows 0 2 100 refl (record { headers = omega arith; no_fewer = omega arith; no_more = omega arith; places = refl; filled = λ h. omega arith }), refl), (_, served refl refl, (_, served refl refl, (_, served refl refl, refl))))))
 
 pub end_moves : EndMoves
 unfolding with_end

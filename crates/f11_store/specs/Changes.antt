@@ -119,14 +119,17 @@ pub record GrowsIndex (s : Store) (n : ℕ) (s' : Store) : Type 0 where
   pub grows : Grows s 1 n [] grown
   pub store_is : s' ≡ with_more_slots grown n
 
+-- the file with its first blocks alone
+abbrev pub with_first_blocks : ℕ → File → File
+with_first_blocks to f = record f { blocks = take to f.blocks }
+
 -- the store with a file cut: its first blocks and headers stay, the others are free
 abbrev pub with_cut_file : Store → ℕ → File → ℕ → ℕ → ℕ → ℕ → Store
 with_cut_file s k f to headers pointers room =
-    record (with_file (without_slots s (drop headers f.held)) k (Some (record f {
+    record (with_file (without_slots s (drop headers f.held)) k (Some (record (with_first_blocks to f) {
       held = take headers f.held;
       pointers = pointers;
       room = room;
-      blocks = take to f.blocks;
     }))) { free = s.free + (length_of f - to) }
 
 -- Truncate: the first blocks stay, and of the headers at least the first
@@ -149,9 +152,13 @@ without_file s k f = record (with_file (without_slots s f.held) k None) { free =
 abbrev pub without_file_at : Store → ℕ → Store
 without_file_at s k = without_file s k (unwrap_or (s.file k) no_file)
 
--- the file is marked for delete
+-- a file marked for delete
+abbrev pub with_delete_mark : File → File
+with_delete_mark f = record f { characteristics = with_mark f.characteristics }
+
+-- the file with this number is marked for delete
 abbrev pub with_marked_file : Store → ℕ → Store
-with_marked_file s k = with_change s k (λ f. record f { characteristics = with_mark f.characteristics })
+with_marked_file s k = with_change s k with_delete_mark
 
 -- Delete: gone, or marked where it is accessed
 abbrev pub after_delete : Store → FileId → Store

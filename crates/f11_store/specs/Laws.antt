@@ -1,5 +1,5 @@
 -- Laws of the plain store, which show that its definitions say what is meant (profile).
-use Rattle.std.specs.Prelude.{◌≡◌, ◌≢◌, ℕ, ◌+◌, ◌<◌, ◌≤◌, List, length, All, true, false, Some, None, Result, Ok, Err, IsSomeAnd}
+use Rattle.std.specs.Prelude.{◌≡◌, ◌≢◌, ℕ, ◌+◌, ◌<◌, ◌≤◌, List, [], length, All, true, false, Some, None, Result, Ok, Err, IsSomeAnd}
 use Rattle.f11_store.specs.declared.callers.Uic.{Uic}
 use Rattle.f11_store.specs.declared.files.FileId.{FileId}
 use Rattle.f11_store.specs.declared.refusals.Refusal.{Refusal}
@@ -9,11 +9,11 @@ use Rattle.f11_store.specs.declared.requests.Request.TheVariants as request
 use Rattle.f11_store.specs.declared.requests.Reply.{Reply}
 use Rattle.f11_store.specs.declared.requests.Reply.TheVariants as reply
 use Rattle.f11_store.specs.File.{File, zero_block}
-use Rattle.f11_store.specs.Store.{Store, file_named, id_held, file_held, is_accessed}
-use Rattle.f11_store.specs.Directory.{record_at, entry_count, record_id, index_of_name, empty_record}
+use Rattle.f11_store.specs.Store.{Store, file_named, id_held, file_held, is_accessed, free_headers}
+use Rattle.f11_store.specs.Directory.{record_at, entry_count, record_id, record_bytes, index_of_name, index_of_empty, empty_record}
 use Rattle.f11_store.specs.Causes.{is_bad, first_refusal}
 use Rattle.f11_store.specs.Changes.{next_sequence}
-use Rattle.f11_store.specs.Lags.{Lags}
+use Rattle.f11_store.specs.Lags.{Work, AreLike, LagsBy, Lags}
 use Rattle.f11_store.specs.Step.{Step, block_at}
 
 -- a request that is refused leaves store and block as they were
@@ -106,15 +106,38 @@ CutComesBackZero =
     Step s' task caller (request.Extend lun n) block' (Ok b) s'' block'' →
     to < vbn → vbn ≤ to + n → IsSomeAnd (s''.file (id_held s task lun).number) (λ f. block_at f vbn ≡ zero_block)
 
--- a store lags itself, whatever the request: nothing is done yet
+-- a store lags itself, whatever the work: nothing is done yet
 abbrev pub LagsItself : Type 0
-LagsItself = (s : Store) (task : ℕ) (caller : Uic) (r : Request) (block : List ℕ) → Lags s s task caller r block
+LagsItself = (work : Work) (s : Store) → LagsBy work s s
 
 -- the store after a step lags the one before it: all is done, or nothing
 abbrev pub StepLags : Type 0
 StepLags =
     (s : Store) (task : ℕ) (caller : Uic) (r : Request) (block : List ℕ) (result : Result Reply Refusal) (s' : Store) (block' : List ℕ) →
     Step s task caller r block result s' block' → Lags s' s task caller r block
+
+-- a file that the work doesn't mean is as it was
+abbrev pub OthersAreEqual : Type 0
+OthersAreEqual = (work : Work) (t s : Store) (n : ℕ) → LagsBy work t s → work.is_meant n ≡ false → t.file n ≡ s.file n
+
+-- where the work has no parts, all files are alike, and the slots as many
+abbrev pub NoPartsNoChange : Type 0
+NoPartsNoChange =
+    (work : Work) (t s : Store) → LagsBy work t s → work.parts ≡ [] → ((n : ℕ) → AreLike (t.file n) (s.file n)) × (t.slots ≡ s.slots)
+
+-- every file is as it was, as many slots with the same sequence numbers, and no fewer blocks and headers are free
+pub record IsStill (s t : Store) : Type 0 where
+  pub files : (n : ℕ) → t.file n ≡ s.file n
+  pub slots : t.slots ≡ s.slots
+  pub last : (n : ℕ) → n ≤ s.slots → t.last n ≡ s.last n
+  pub free_blocks : s.free ≤ t.free
+  pub headers : free_headers s ≤ free_headers t
+
+-- a request that is refused leaves nothing behind
+abbrev pub RefusedIsStill : Type 0
+RefusedIsStill =
+    (t s : Store) (task : ℕ) (caller : Uic) (r : Request) (block : List ℕ) (e : Refusal) →
+    first_refusal s task caller r ≡ Some e → Lags t s task caller r block → IsStill s t
 
 -- a file as any on a volume: blocks of 512 bytes, attributes of 32
 pub record IsWhole (f : File) : Type 0 where
@@ -124,6 +147,15 @@ pub record IsWhole (f : File) : Type 0 where
 -- a name as a file's: five words
 abbrev pub IsFiveWords : List ℕ → Type 0
 IsFiveWords name = length name ≡ 5
+
+-- where a lag of Enter shows a directory's end moved, the record stands there: the end is never the first to move
+abbrev pub EndComesLast : Type 0
+EndComesLast =
+    (t s : Store) (task : ℕ) (caller : Uic) (d : FileId) (name : List ℕ) (id : FileId) (block : List ℕ) (f : File) →
+    IsWhole (file_named s d) → IsFiveWords name → s.file d.number ≡ Some (file_named s d) →
+    index_of_empty (file_named s d) ≡ None → t.file d.number ≡ Some f → f.attr ≢ (file_named s d).attr →
+    Lags t s task caller (request.Enter d name id) block →
+    record_at f.blocks (entry_count (file_named s d)) ≡ record_bytes id name
 
 -- Find's answer is this identification, or a refusal, but not for want of the name
 abbrev pub IsFound : FileId → Result Reply Refusal → Type 0

@@ -1,6 +1,6 @@
 -- Worked examples: requests on a small volume, with what each is answered.
 use Rattle.std.specs.Prelude.{◌≡◌, ℕ, ◌+◌, ◌-◌, ◌*◌, ◌==◌, ◌&&◌, nat_lt, List, [], ◌∷◌, ◌++◌, Option, Some, None, Ok, Err, if◌then◌else◌, replicate}
-use Rattle.std.specs.List.{flat_map}
+use Rattle.std.specs.List.{flat_map, range_with_len}
 use Rattle.f11_store.specs.declared.callers.Uic.{Uic}
 use Rattle.f11_store.specs.declared.files.FileId.{FileId}
 use Rattle.f11_store.specs.declared.files.Mode.TheVariants as mode
@@ -13,6 +13,7 @@ use Rattle.f11_store.specs.declared.requests.Reply.TheVariants as reply
 use Rattle.f11_store.specs.File.{File, zero_block}
 use Rattle.f11_store.specs.Store.{Store}
 use Rattle.f11_store.specs.Directory.{word_bytes, record_bytes, with_end}
+use Rattle.f11_store.specs.Changes.{new_file}
 use Rattle.f11_store.specs.Cost.{cost}
 use Rattle.f11_store.specs.Run.{Call, Answer, Run}
 
@@ -50,20 +51,30 @@ a_txt = 1600 ∷ 0 ∷ 0 ∷ 32980 ∷ 1 ∷ []
 abbrev pub ident_of : List ℕ → List ℕ
 ident_of name = flat_map word_bytes name ++ replicate 36 0
 
--- attributes of zeros, and those of a directory of five records: type 1, size 16, one block, end at 80
+-- attributes of zeros; those of a file of blocks without a block: type 1, size 512; with so many blocks, all of
+-- them below the end; and those of a directory of one block with so many records: type 1, size 16
 abbrev pub no_attr : List ℕ
 no_attr = replicate 32 0
 
-abbrev pub directory_attr : List ℕ
-directory_attr = with_end (1 ∷ 0 ∷ 16 ∷ replicate 29 0) 1 80
+abbrev pub empty_attr : List ℕ
+empty_attr = 1 ∷ 0 ∷ 0 ∷ 2 ∷ replicate 28 0
+
+abbrev pub full_attr : ℕ → List ℕ
+full_attr blocks = with_end empty_attr blocks (512 * blocks)
+
+abbrev pub directory_attr : ℕ → List ℕ
+directory_attr records = with_end (1 ∷ 0 ∷ 16 ∷ replicate 29 0) 1 (16 * records)
+
+-- the records of the five files of the fresh volume
+unfoldable pub own_records : List ℕ
+own_records =
+    record_bytes (id 1 1) indexf
+    ++ (record_bytes (id 2 2) bitmap
+    ++ (record_bytes (id 3 3) badblk ++ (record_bytes (id 4 4) mfd ++ record_bytes (id 5 5) corimg)))
 
 -- the block of the master file directory
 unfoldable pub mfd_block : List ℕ
-mfd_block =
-    record_bytes (id 1 1) indexf
-    ++ (record_bytes (id 2 2) bitmap
-    ++ (record_bytes (id 3 3) badblk
-    ++ (record_bytes (id 4 4) mfd ++ (record_bytes (id 5 5) corimg ++ replicate 432 0))))
+mfd_block = own_records ++ replicate 432 0
 
 -- a file of the fresh volume, in so many pointers
 abbrev pub own_file : ℕ → List ℕ → List ℕ → ℕ → List (List ℕ) → File
@@ -80,14 +91,14 @@ own_file n name attr pointers blocks = record {
   blocks = blocks;
 }
 
--- the five files of the fresh volume; of the first three the attributes are left out
+-- the five files of the fresh volume: the index file has 19 blocks, the storage bitmap 2
 abbrev pub own_files : ℕ → Option File
 own_files n =
-    if n == 1 then Some (own_file 1 indexf [] 1 [])
-    else if n == 2 then Some (own_file 2 bitmap [] 1 [])
-    else if n == 3 then Some (own_file 3 badblk [] 0 [])
-    else if n == 4 then Some (own_file 4 mfd directory_attr 1 (mfd_block ∷ []))
-    else if n == 5 then Some (own_file 5 corimg no_attr 0 [])
+    if n == 1 then Some (own_file 1 indexf (full_attr 19) 1 [])
+    else if n == 2 then Some (own_file 2 bitmap (full_attr 2) 1 [])
+    else if n == 3 then Some (own_file 3 badblk empty_attr 0 [])
+    else if n == 4 then Some (own_file 4 mfd (directory_attr 5) 1 (mfd_block ∷ []))
+    else if n == 5 then Some (own_file 5 corimg empty_attr 0 [])
     else None
 
 -- a fresh volume of 400 blocks and 16 slots, of at most 4000
@@ -212,6 +223,40 @@ EnteredAndRemoved =
 -- the attributes of a directory of 33 records: its end is in block 2, at byte 16
 abbrev pub EndMoves : Type 0
 EndMoves = with_end (replicate 32 0) 2 (16 * 33) ≡ replicate 6 0 ++ (2 ∷ 0 ∷ 0 ∷ 0 ∷ 2 ∷ 0 ∷ 16 ∷ replicate 19 0)
+
+-- the name N.TXT with a version
+abbrev pub n_txt : ℕ → List ℕ
+n_txt version = 22400 ∷ 0 ∷ 0 ∷ 32980 ∷ version ∷ []
+
+-- the small volume with a file N.TXT;1, which stands in the master file directory as N.TXT;1 to N.TXT;27 too:
+-- its block has 32 records
+unfoldable pub crowded_block : List ℕ
+crowded_block = own_records ++ flat_map (λ version. record_bytes (id 6 1) (n_txt version)) (range_with_len 1 27)
+
+abbrev pub crowded_directory : Store
+crowded_directory = record small_volume {
+  file = λ n.
+      if n == 4 then Some (own_file 4 mfd (directory_attr 32) 1 (crowded_block ∷ []))
+      else if n == 6 then Some (new_file 6 1 first_user 0 (ident_of (n_txt 1)) no_attr)
+      else own_files n;
+  in_use = λ n. nat_lt 0 n && nat_lt n 7;
+  last = λ n. if nat_lt n 6 then n else if n == 6 then 1 else 0;
+}
+
+-- a record that finds no empty place and no room in the last block takes one more block, and moves the end
+abbrev pub EnteredInNewBlock : Type 0
+EnteredInNewBlock =
+    Answers crowded_directory
+    (asks 0 (request.Find (id 4 4) (n_txt 34)) ∷ asks 0 (request.Enter (id 4 4) (n_txt 34) (id 6 1))
+    ∷ asks 0 (request.Find (id 4 4) (n_txt 34)) ∷ asks 0 (request.ReadAttr (id 4 4)) ∷ asks 0 request.Space ∷ [])
+    (no refusal.NoSuchEntry ∷ gets reply.Done ∷ gets (reply.Found (id 6 1))
+    ∷ gets (reply.Attr (record {
+      owner = first_user;
+      protection = 57344;
+      characteristics = 0;
+      ident = ident_of mfd;
+      attr = with_end (directory_attr 32) 2 528;
+    })) ∷ gets (reply.Space 377 10 16) ∷ [])
 
 -- a file without attributes, in so many pointers and places
 abbrev pub crowded_file : ℕ → ℕ → ℕ → File

@@ -42,6 +42,15 @@ pub fn lags()
     ensures step { laws.StepLags }
 {}
 
+/// What is no lag: another file changed, a change where there is no work, the end of a directory moved before
+/// its record is there.
+pub fn no_lags()
+    ensures others { laws.OthersAreEqual }
+    ensures no_parts { laws.NoPartsNoChange }
+    ensures refused { laws.RefusedIsStill }
+    ensures end_last { laws.EndComesLast }
+{}
+
 /// A name that is entered is found, and it can't be entered twice; one that is removed leaves all other
 /// records, and is found afterwards in another one or not at all.
 pub fn directories()

@@ -12,6 +12,7 @@ pub fn examples()
     ensures conflicts { worked.Conflicts }
     ensures headers_run_out { worked.HeadersRunOut }
     ensures entered_and_removed { worked.EnteredAndRemoved }
+    ensures entered_in_new_block { worked.EnteredInNewBlock }
     ensures end_moves { worked.EndMoves }
     ensures bounds { worked.Bounds }
 {}

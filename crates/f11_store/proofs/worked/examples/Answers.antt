@@ -1,4 +1,4 @@
-use Rattle.f11_store.proofs.WorkedLemmas.{sequence_numbers, full_volume, too_long, deferred_delete, truncated_under_a_reader, conflicts, headers_run_out, entered_and_removed, end_moves, bounds}
+use Rattle.f11_store.proofs.WorkedLemmas.{sequence_numbers, full_volume, too_long, deferred_delete, truncated_under_a_reader, conflicts, headers_run_out, entered_and_removed, entered_in_new_block, end_moves, bounds}
 use Rattle.f11_store.proofs.worked.examples.Goals as goal
 
 pub returns : goal.returns
@@ -11,6 +11,7 @@ returns c = record {
   conflicts = conflicts;
   headers_run_out = headers_run_out;
   entered_and_removed = entered_and_removed;
+  entered_in_new_block = entered_in_new_block;
   end_moves = end_moves;
   bounds = bounds;
 }
