@@ -7,7 +7,7 @@ use Rattle.std.proofs.lemmas.Bool.{cases_lt, cases_eq, and_left}
 use Rattle.std.proofs.lemmas.Option.{get_or_from_slice_get}
 use Rattle.f11_dev.specs.Block.{bit}
 use Rattle.f11_dev.specs.Image.{Image}
-use Rattle.f11_bits.specs.Bitmap.{Bitmap, IsBitmap, bitmap_bit, is_free, count_below, free_blocks, KeepsOthers, Marks}
+use Rattle.f11_bits.specs.Bitmap.{Bitmap, IsBitmap, LiesWithin, bitmap_bit, is_free, count_below, free_blocks, KeepsOthers, Marks}
 use Rattle.f11_bits.specs.Bits.{bit_below}
 use Rattle.f11_bits.specs.Changes.{Changing}
 use Rattle.f11_bits.specs.Parts.{HasBitOf, IsPart}
@@ -65,7 +65,7 @@ bitmap_bit-here old bitmap index k block here stands =
     ∙ ap (λ (b : List ℕ). bit b (k % 4096)) (get_or_from_slice_get old (get_or bitmap.places index 0) block [] stands)
 
 -- the bit of a block with another bitmap block
-bitmap_bit-apart : (old : Image) (bitmap : Bitmap) (index k : ℕ) (block : List ℕ) → IsBitmap bitmap (length old) → index < length bitmap.places → k < 4096 * length bitmap.places
+bitmap_bit-apart : (old : Image) (bitmap : Bitmap) (index k : ℕ) (block : List ℕ) → IsBitmap bitmap → index < length bitmap.places → k < 4096 * length bitmap.places
     → k / 4096 ≢ index → bitmap_bit (set old (get_or bitmap.places index 0) block) bitmap k ≡ bitmap_bit old bitmap k
 unfolding bitmap_bit
 bitmap_bit-apart old bitmap index k block valid within below apart =
@@ -73,7 +73,7 @@ bitmap_bit-apart old bitmap index k block valid within below apart =
     ap (λ (b : List ℕ). bit b (k % 4096)) (get_or-set_other old (get_or bitmap.places index 0) (get_or bitmap.places (k / 4096) 0) block [] other)
 
 -- another element stays
-slice_get-set_other : (xs : Image) (i j : ℕ) (y : List ℕ) → i ≢ j → slice_get (set xs i y) j ≡ slice_get xs j
+pub slice_get-set_other : (xs : Image) (i j : ℕ) (y : List ℕ) → i ≢ j → slice_get (set xs i y) j ≡ slice_get xs j
 slice_get-set_other [] i j y apart = refl
 slice_get-set_other (x ∷ xs) zero zero y apart = absurd (apart refl)
 slice_get-set_other (x ∷ xs) zero (suc j) y apart = refl
@@ -107,13 +107,13 @@ Marks-more free bitmap lbn m n a b c first then = record {
 }
 
 -- the block that has their bits was written
-pub Marks-write : (free : Bool) (bitmap : Bitmap) (lbn count : ℕ) (old : Image) (block new : List ℕ) → IsBitmap bitmap (length old) → IsPart bitmap.size 0 4096 lbn count
+pub Marks-write : (free : Bool) (bitmap : Bitmap) (lbn count : ℕ) (old : Image) (block new : List ℕ) → IsBitmap bitmap → LiesWithin bitmap (length old) → IsPart bitmap.size 0 4096 lbn count
     → HasBitOf old bitmap lbn block
     → ((k : ℕ) → lbn % 4096 ≤ k → k < lbn % 4096 + count → bit new k ≡ free)
     → ((k : ℕ) → k < lbn % 4096 → bit new k ≡ bit block k)
     → ((k : ℕ) → lbn % 4096 + count ≤ k → k < 4096 → bit new k ≡ bit block k)
     → Marks free bitmap lbn count old (set old (get_or bitmap.places (lbn / 4096) 0) new)
-Marks-write free bitmap lbn count old block new valid part stands inside before after = record {
+Marks-write free bitmap lbn count old block new valid lies part stands inside before after = record {
   keeps = KeepsOthers-write bitmap old index new within;
   inside = λ k low high.
       is_free-bit image bitmap k (omega (arith, part.within)) ∙ bitmap_bit-written old bitmap index k new (omega (arith, part.one)) placed ∙ inside (k % 4096) (omega (arith, part.one)) (omega (arith, part.one));
@@ -132,7 +132,7 @@ Marks-write free bitmap lbn count old block new valid part stands inside before 
     within = omega (arith, valid.covered, part.some, part.within)
 
     placed : get_or bitmap.places (lbn / 4096) 0 < length old
-    placed = valid.within (lbn / 4096) within
+    placed = lies (lbn / 4096) within
 
     bit_before : (k : ℕ) → k < lbn → bitmap_bit image bitmap k ≡ bitmap_bit old bitmap k
     bit_before k low = elim (cases_eq (k / 4096) (lbn / 4096)) [
@@ -216,7 +216,7 @@ free_below-more image bitmap index so_far more block stands before here =
     ]
 
 -- another bitmap block is as it was
-pub HasBitOf-apart : (old new : Image) (bitmap : Bitmap) (index lbn : ℕ) (written block : List ℕ) → IsBitmap bitmap (length old) → index < length bitmap.places → lbn < bitmap.size → lbn / 4096 ≢ index
+pub HasBitOf-apart : (old new : Image) (bitmap : Bitmap) (index lbn : ℕ) (written block : List ℕ) → IsBitmap bitmap → index < length bitmap.places → lbn < bitmap.size → lbn / 4096 ≢ index
     → new ≡ set old (get_or bitmap.places index 0) written → HasBitOf old bitmap lbn block → HasBitOf new bitmap lbn block
 HasBitOf-apart old new bitmap index lbn written block valid within below apart is stands =
     let other : get_or bitmap.places index 0 ≢ get_or bitmap.places (lbn / 4096) 0 = λ same. apart (sym (valid.apart index (lbn / 4096) within (omega (arith, valid.covered)) same)) in

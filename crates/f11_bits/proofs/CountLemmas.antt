@@ -1,5 +1,5 @@
 -- Facts about how many numbers pass a test.
-use Rattle.std.proofs.Common.{◌≡◌, ℕ, zero, suc, ◌+◌, ◌-◌, min, ◌<◌, ◌≤◌, Bool, true, false, cond, refl, ap, inl, inr, arith}
+use Rattle.std.proofs.Common.{◌≡◌, ℕ, zero, suc, ◌+◌, ◌-◌, min, ◌<◌, ◌≤◌, Bool, true, false, cond, refl, sym, ◌∙◌, ap, inl, inr, arith}
 use Rattle.std.proofs.lemmas.Bool.{cases_lt, cases_Bool}
 use Rattle.f11_bits.specs.Bitmap.{count_below}
 
@@ -57,3 +57,8 @@ count_below-more p q lbn count n within passes fails before after = omega (arith
             | inr past ↦ omega (arith, p_is, q_is, so_far, ap one_if (after m past))
           ]
         ]
+
+-- as many pass two tests that agree
+pub count_below-same : (p q : ℕ → Bool) (n : ℕ) → ((k : ℕ) → p k ≡ q k) → count_below p n ≡ count_below q n
+count_below-same p q zero agree = count_below-zero p ∙ sym (count_below-zero q)
+count_below-same p q (suc n) agree = omega (arith, count_below-suc p n, count_below-suc q n, ap one_if (agree n), count_below-same p q n agree)

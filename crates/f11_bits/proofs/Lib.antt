@@ -3,3 +3,4 @@ pub mod CountLemmas
 pub mod BitmapLemmas
 pub mod SearchLemmas
 pub mod StepLemmas
+pub mod LawLemmas

@@ -1,5 +1,5 @@
 -- What the calls of a device do to a bitmap.
-use Rattle.std.proofs.Common.{◌≡◌, ◌⊎◌, inl, inr, ℕ, ◌+◌, ◌/◌, ◌%◌, ◌<◌, ◌≤◌, Bool, IsTrue, List, length, get_or, Result, Ok, Err, OnOk, OnErr, Some, sym, ap, ◌∙◌, subst, arith}
+use Rattle.std.proofs.Common.{◌≡◌, ◌⊎◌, inl, inr, ℕ, ◌+◌, ◌/◌, ◌%◌, ◌<◌, ◌≤◌, Bool, false, IsTrue, List, length, get_or, Result, Ok, Err, OnOk, OnErr, Some, sym, ap, ◌∙◌, subst, arith}
 use Rattle.std.proofs.Math.ListN.{set}
 use Rattle.std.specs.List.{slice_get}
 use Rattle.std.proofs.lemmas.Result.{on_ok_weaker, on_err_weaker}
@@ -8,41 +8,42 @@ use Rattle.f11_dev.specs.Image.{Image}
 use Rattle.f11_dev.specs.Disk.{Disk, Writes}
 use Rattle.f11_dev.specs.Looked.{Looked}
 use Rattle.f11_dev.specs.Went.{Went}
-use Rattle.f11_dev.proofs.WentLemmas.{went_write, went_failed_write, went_more, went_weaker, went_last}
-use Rattle.f11_bits.specs.Bitmap.{Bitmap, IsBitmap, KeepsOthers, Marks}
-use Rattle.f11_bits.specs.Changes.{Changing}
-use Rattle.f11_bits.specs.Parts.{HasBitOf, IsPart}
+use Rattle.f11_dev.proofs.WentLemmas.{went_looked, went_write, went_failed_write, went_more, went_weaker, went_within, went_last}
+use Rattle.f11_bits.specs.Bitmap.{Bitmap, IsBitmap, LiesWithin, KeepsOthers, Marks}
+use Rattle.f11_bits.specs.Calls.{MarksOnDisk, FailsToMark, FailsToTake}
+use Rattle.f11_bits.specs.Changes.{Changing, Taking}
+use Rattle.f11_bits.specs.Parts.{HasBitOf, IsPart, FindsRun}
 use Rattle.f11_bits.proofs.BitmapLemmas.{Changing-all, Changing-more, KeepsOthers-refl, KeepsOthers-write, Marks-more, Marks-write}
 
 -- a bitmap block that was written, with the bits of count blocks set in it
-pub Marks-block : (honest free : Bool) (bitmap : Bitmap) (lbn count place : ℕ) (old : Image) (block new : List ℕ) → IsBitmap bitmap (length old) → IsPart bitmap.size 0 4096 lbn count
+pub Marks-block : (honest free : Bool) (bitmap : Bitmap) (lbn count place : ℕ) (old : Image) (block new : List ℕ) → IsBitmap bitmap → LiesWithin bitmap (length old) → IsPart bitmap.size 0 4096 lbn count
     → place ≡ get_or bitmap.places (lbn / 4096) 0
     → (IsTrue honest → HasBitOf old bitmap lbn block)
     → ((k : ℕ) → lbn % 4096 ≤ k → k < lbn % 4096 + count → bit new k ≡ free)
     → ((k : ℕ) → k < lbn % 4096 → bit new k ≡ bit block k)
     → ((k : ℕ) → lbn % 4096 + count ≤ k → k < 4096 → bit new k ≡ bit block k)
     → IsTrue honest → Marks free bitmap lbn count old (set old place new)
-Marks-block honest free bitmap lbn count place old block new valid part is stands inside before after holds =
-    subst (λ (p : ℕ). Marks free bitmap lbn count old (set old p new)) (sym is) (Marks-write free bitmap lbn count old block new valid part (stands holds) inside before after)
+Marks-block honest free bitmap lbn count place old block new valid lies part is stands inside before after holds =
+    subst (λ (p : ℕ). Marks free bitmap lbn count old (set old p new)) (sym is) (Marks-write free bitmap lbn count old block new valid lies part (stands holds) inside before after)
 
-pub Changing-block : (honest free : Bool) (bitmap : Bitmap) (lbn count place : ℕ) (old : Image) (new : List ℕ) → IsBitmap bitmap (length old) → IsPart bitmap.size 0 4096 lbn count
+pub Changing-block : (honest free : Bool) (bitmap : Bitmap) (lbn count place : ℕ) (old : Image) (new : List ℕ) → IsBitmap bitmap → IsPart bitmap.size 0 4096 lbn count
     → place ≡ get_or bitmap.places (lbn / 4096) 0
     → (IsTrue honest → Marks free bitmap lbn count old (set old place new)) → Changing honest free bitmap lbn count old (set old place new)
 Changing-block honest free bitmap lbn count place old new valid part is marks =
     let within : lbn / 4096 < length bitmap.places = omega (arith, valid.covered, part.some, part.within) in
     Changing-all honest free bitmap lbn count old (set old place new) part.some (rw is (KeepsOthers-write bitmap old (lbn / 4096) new within)) marks
 
--- what holds of the image with that block holds at the end of a write that succeeded
-pub image-write : {E : Type 0} (P : Image → Type 0) (H : Type 0) (result : Result Unit E) (place : ℕ) (block : List ℕ) (old new : Disk) → Writes result place block old new
-    → (H → P (set old.image place block)) → OnOk result (H → P new.image)
-image-write P H result place block old new writes holds =
-    on_ok_weaker result (λ is honest. subst (λ (d : Disk). P d.image) (sym is) (holds honest)) writes.ok
+-- a bitmap block was written
+pub MarksOnDisk-write : {E : Type 0} (free : Bool) (bitmap : Bitmap) (lbn count : ℕ) (result : Result Unit E) (place : ℕ) (block : List ℕ) (old new : Disk) → Writes result place block old new
+    → (IsTrue old.honest → Marks free bitmap lbn count old.image (set old.image place block)) → Changing old.honest free bitmap lbn count old.image (set old.image place block)
+    → OnOk result (MarksOnDisk free bitmap lbn count 1 old new)
+MarksOnDisk-write free bitmap lbn count result place block old new writes marks changing =
+    on_ok_weaker result (λ is. record {
+      marks = λ honest. subst (λ (d : Disk). Marks free bitmap lbn count old.image d.image) (sym is) (marks honest);
+      went = went_write (Changing old.honest free bitmap lbn count old.image) old new place block is changing;
+    }) writes.ok
 
--- and of the images meanwhile
-pub went-write : {E : Type 0} (P : Image → Type 0) (result : Result Unit E) (place : ℕ) (block : List ℕ) (old new : Disk) → Writes result place block old new
-    → P (set old.image place block) → OnOk result (Went P old new 1 0)
-went-write P result place block old new writes holds = on_ok_weaker result (λ is. went_write P old new place block is holds) writes.ok
-
+-- a write failed
 pub went-failed : {E : Type 0} (P : Image → Type 0) (result : Result Unit E) (place : ℕ) (block : List ℕ) (old new : Disk) → Writes result place block old new
     → P (set old.image place block) → OnErr result (Went P old new 1 1)
 went-failed P result place block old new writes holds = on_err_weaker result (λ is. went_failed_write P old new place block is holds) writes.err
@@ -63,9 +64,13 @@ pub KeepsOthers-went : {honest free : Bool} {bitmap : Bitmap} {lbn count : ℕ} 
 KeepsOthers-went {honest} {free} {bitmap} {lbn} {count} {old} {new} went =
     went_last (KeepsOthers bitmap old.image) (went_weaker (Changing honest free bitmap lbn count old.image) (KeepsOthers bitmap old.image) (λ image changing. changing.keeps) went) (KeepsOthers-refl bitmap old.image)
 
--- so it is still a bitmap
-pub IsBitmap-kept : (bitmap : Bitmap) (old new : Image) → IsBitmap bitmap (length old) → KeepsOthers bitmap old new → IsBitmap bitmap (length new)
-IsBitmap-kept bitmap old new valid keeps = subst (IsBitmap bitmap) (sym keeps.size) valid
+-- so its blocks are still there
+pub LiesWithin-kept : (bitmap : Bitmap) (old new : Image) → LiesWithin bitmap (length old) → KeepsOthers bitmap old new → LiesWithin bitmap (length new)
+LiesWithin-kept bitmap old new lies keeps = subst (LiesWithin bitmap) (sym keeps.size) lies
+
+-- and so they are after reads alone
+pub LiesWithin-looked : (bitmap : Bitmap) {old new : Disk} {most faults : ℕ} → LiesWithin bitmap (length old.image) → Looked old new most faults → LiesWithin bitmap (length new.image)
+LiesWithin-looked bitmap lies looked = subst (λ (image : Image). LiesWithin bitmap (length image)) (sym looked.image) lies
 
 -- n blocks are being marked after the m before them
 pub Went-more : (free : Bool) (bitmap : Bitmap) (lbn m start n count : ℕ) (old now new : Disk) {first then faults : ℕ}
@@ -118,3 +123,18 @@ Went-first free bitmap lbn n count old now within whole went =
             marks = marking.marks;
           };
     }) went
+
+-- the first run was found, and a transfer failed while it was being marked
+pub FailsToTake-marking : {bitmap : Bitmap} {from most lbn here beyond : ℕ} {block next : List ℕ} {old now new : Disk}
+    → FindsRun bitmap from most lbn here beyond block next old now → FailsToMark false bitmap lbn (here + beyond) 2 now new → FailsToTake bitmap from most old new
+FailsToTake-marking {bitmap} {from} {most} {lbn} {here} {beyond} {old = old} {now} found failed =
+    let count = here + beyond in
+    let P : Image → Type 0 = Taking old.honest bitmap from most old.image in
+    went_within P (went_more P (went_looked P found.looked) (went_weaker (Changing now.honest false bitmap lbn count now.image) P
+    (λ image changing. record {
+      lbn = lbn;
+      count = count;
+      run = found.first;
+      changing = subst (λ (b : Bool). Changing b false bitmap lbn count old.image image) found.looked.honest
+          (subst (λ (before : Image). Changing now.honest false bitmap lbn count before image) found.looked.image changing);
+    }) failed)) (omega arith)

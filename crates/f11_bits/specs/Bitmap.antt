@@ -9,14 +9,17 @@ pub record Bitmap : Type 0 where
   pub places : List ℕ
   pub size : ℕ
 
--- 1 to 126 different blocks of a device of so many blocks, with a bit for each block of the volume
-pub record IsBitmap (bitmap : Bitmap) (blocks : ℕ) : Type 0 where
+-- 1 to 126 different blocks, with a bit for each block of the volume
+pub record IsBitmap (bitmap : Bitmap) : Type 0 where
   pub some : 0 < length bitmap.places
   pub few : length bitmap.places ≤ 126
-  pub within : (i : ℕ) → i < length bitmap.places → slice_index bitmap.places i < blocks
   pub apart : (i j : ℕ) → i < length bitmap.places → j < length bitmap.places → slice_index bitmap.places i ≡ slice_index bitmap.places j → i ≡ j
   pub sized : 0 < bitmap.size
   pub covered : bitmap.size ≤ 4096 * length bitmap.places
+
+-- they are below the end of a device of so many blocks
+abbrev pub LiesWithin : Bitmap → ℕ → Type 0
+LiesWithin bitmap blocks = (i : ℕ) → i < length bitmap.places → slice_index bitmap.places i < blocks
 
 -- the bit of block lbn: a bitmap block has 4096 bits
 unfoldable pub bitmap_bit : Image → Bitmap → ℕ → Bool
@@ -39,6 +42,10 @@ free_blocks image bitmap = count_below (is_free image bitmap) bitmap.size
 pub record KeepsOthers (bitmap : Bitmap) (old new : Image) : Type 0 where
   pub size : length new ≡ length old
   pub others : (lbn : ℕ) → ((i : ℕ) → i < length bitmap.places → slice_index bitmap.places i ≢ lbn) → slice_get new lbn ≡ slice_get old lbn
+
+-- each block of the bitmap stays
+abbrev pub KeepsBitmap : Bitmap → Image → Image → Type 0
+KeepsBitmap bitmap old new = (i : ℕ) → i < length bitmap.places → slice_get new (slice_index bitmap.places i) ≡ slice_get old (slice_index bitmap.places i)
 
 -- count blocks of the volume from lbn on were marked free (or used), and no other: bits past the size stay too
 pub record Marks (free : Bool) (bitmap : Bitmap) (lbn count : ℕ) (old new : Image) : Type 0 where

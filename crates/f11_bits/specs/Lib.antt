@@ -5,6 +5,8 @@ pub mod Storage
 pub mod Transfers
 pub mod Changes
 pub mod Parts
+pub mod Calls
+pub mod Laws
 pub use Rattle.f11_dev.specs.Block
 pub use Rattle.f11_dev.specs.Image
 pub use Rattle.f11_dev.specs.Disk

@@ -29,7 +29,12 @@ pub fn first_run(block: &Block, from: u32, most: u32) -> Option<(u32, u32)>
     ensures run { MatchOption result (NoneFrom (bit_below block.now 4096) from)
         (λ run. IsFirstRun (bit_below block.now 4096) from most run.0 run.1) }
 {
-    first_run_below(block, from, most, BITS)
+    for k in from..BITS {
+        if is_set(block, k) {
+            return Some((k, run_length(block, k, most.min(LONGEST), BITS)));
+        }
+    }
+    None
 }
 
 /// The sum of the first 255 words, modulo 65536.
@@ -39,8 +44,20 @@ pub fn word_sum(block: &Block) -> u16
     sum_words(block, 255)
 }
 
+/// The number of 1 bits below bit `end`: those of a whole block by [`count_free`].
+pub fn count_free_to(block: &Block, end: u32) -> u32
+    requires { end ≤ 4096 }
+    ensures { result ≡ count_below (bit block.now) end }
+{
+    if end == BITS {
+        count_free(block)
+    } else {
+        count_free_below(block, end)
+    }
+}
+
 /// The number of 1 bits below bit `end`.
-pub fn count_free_below(block: &Block, end: u32) -> u32
+fn count_free_below(block: &Block, end: u32) -> u32
     requires { end ≤ 4096 }
     ensures { result ≡ count_below (bit block.now) end }
 {
@@ -53,19 +70,17 @@ pub fn count_free_below(block: &Block, end: u32) -> u32
     count
 }
 
-/// [`first_run`] among the bits below bit `end`.
-pub fn first_run_below(block: &Block, from: u32, most: u32, end: u32) -> Option<(u32, u32)>
+/// [`first_run`] among the bits below bit `end`: the run of the whole block, cut there.
+pub fn first_run_to(block: &Block, from: u32, most: u32, end: u32) -> Option<(u32, u32)>
     requires some { 0 < most }
     requires within { end ≤ 4096 }
     ensures run { MatchOption result (NoneFrom (bit_below block.now end) from)
         (λ run. IsFirstRun (bit_below block.now end) from most run.0 run.1) }
 {
-    for k in from..end {
-        if is_set(block, k) {
-            return Some((k, run_length(block, k, most.min(LONGEST), end)));
-        }
+    match first_run(block, from, most) {
+        Some((at, count)) if at < end => Some((at, count.min(end - at))),
+        _ => None,
     }
-    None
 }
 
 /// How many bits from bit `start` on are 1, at most `most` of them and below bit `end`.

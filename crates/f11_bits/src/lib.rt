@@ -6,6 +6,7 @@
 #![tactic(auto)]
 
 mod bits;
+pub mod laws;
 mod storage;
 
 pub use bits::{count_free, first_run, word_sum};

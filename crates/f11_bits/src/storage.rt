@@ -1,16 +1,9 @@
 //! The bitmap of a volume's free blocks.
-ghost use Rattle.std.specs.Prelude.{◌≡◌, ◌+◌, ◌*◌, ◌-◌, ◌/◌, ◌^◌, ◌<◌, ◌≤◌, ℕ, true, false, length, take, min, slice_index, slice_set, IsTrue, IfOk, OnOk, OnErr, IfSome, IfNone};
-ghost use Rattle.f11_dev.specs.Image.{Image};
-ghost use Rattle.f11_dev.specs.Looked.{Looked};
-ghost use Rattle.f11_dev.specs.Went.{Went};
-ghost use Rattle.f11_bits.specs.Bitmap.{IsBitmap, is_free, free_blocks, Marks};
-ghost use Rattle.f11_bits.specs.Changes.{Changing, Taking};
-ghost use Rattle.f11_bits.specs.Parts.{HasBitOf, IsPart, IsFirstPart, IsRest, IsFreeRest};
-ghost use Rattle.f11_bits.specs.Run.{IsFirstRun, IsRunWithin, NoneFrom};
-ghost use Rattle.f11_bits.specs.Storage.{bitmap_of, Keeps};
-ghost use Rattle.f11_bits.specs.Transfers.{blocks_from, blocks_to, blocks_touched};
+ghost use Rattle.std.specs.Prelude.{◌≡◌, ◌+◌, ◌*◌, ◌-◌, ◌/◌, ◌^◌, ◌<◌, ◌≤◌, ℕ, false, length, take, min, slice_index, slice_set, IsTrue, IfOk, OnOk, OnErr, IfSome, IfNone};
+ghost use Rattle.f11_bits.specs.Bitmap.{IsBitmap, LiesWithin, is_free};
+ghost use Rattle.f11_bits.specs.Calls.{Counts, FailsToCount};
 
-use crate::bits::{BITS, LONGEST, count_free_below, first_run_below, run_length, set_bits};
+use crate::bits::{BITS, LONGEST, count_free_to, first_run_to, run_length, set_bits};
 use f11_dev::{BLOCK_SIZE, Block, Device, DeviceFault};
 
 /// The most blocks that a bitmap has (Files-11 On-Disk Structure Level 1, "Storage Bitmap File").
@@ -29,6 +22,8 @@ pub struct Storage {
     size: u32,
     /// The number of free ones.
     free: u32,
+    /// The blocks at its places are different, and have a bit for each block of the volume.
+    pub ghost valid: { IsBitmap (record { places = take used places; size = size }) },
 }
 
 /// A run of free blocks, in two parts: the second has its bits in the next bitmap block.
@@ -40,6 +35,14 @@ struct Run {
 }
 
 impl Storage {
+    ghost use Rattle.std.specs.Prelude.{true};
+    ghost use Rattle.f11_dev.specs.Image.{Image};
+    ghost use Rattle.f11_bits.specs.Bitmap.{free_blocks};
+    ghost use Rattle.f11_bits.specs.Calls.{MarksOnDisk, FailsToMark, Gives, FailsToGive, Takes, FindsNone, FailsToTake};
+    ghost use Rattle.f11_bits.specs.Parts.{IsPart, HasBitOf, HasBits, FindsPart, FindsRest, FindsRun, FailsToFind, FailsToFindRest};
+    ghost use Rattle.f11_bits.specs.Storage.{bitmap_of, Keeps, IsFor, Loads};
+    ghost use Rattle.f11_bits.specs.Transfers.{blocks_touched};
+
     /// Counts the free blocks of a volume of `size` blocks whose bitmap blocks are at `places`, in order. It reads each of
     /// them once at most, and takes no memory.
     ///
@@ -51,11 +54,14 @@ impl Storage {
         places: &[u32],
         size: u32,
     ) -> Result<Storage, DeviceFault>
-        requires bitmap { IsBitmap (record { places = places.now; size = size }) (length (D.disk device.old).image) }
-        ensures bitmap { IfOk result (λ storage. bitmap_of storage ≡ record { places = places.now; size = size }) }
-        ensures keeps { IfOk result (λ storage. IsTrue (D.disk device.old).honest → Keeps storage (D.disk device.new).image) }
-        ensures transfers { OnOk result (Looked (D.disk device.old) (D.disk device.new) (length places.now) 0) }
-        ensures failures { OnErr result (Looked (D.disk device.old) (D.disk device.new) (length places.now) 1) }
+        requires bitmap { IsBitmap (record { places = places.now; size = size }) }
+        requires within { LiesWithin (record { places = places.now; size = size })
+            (length (D.disk device.old).image) }
+        ensures loads { IfOk result (λ storage.
+            Loads (record { places = places.now; size = size }) storage
+            (D.disk device.old) (D.disk device.new)) }
+        ensures failed { OnErr result (FailsToCount (record { places = places.now; size = size })
+            (D.disk device.old) (D.disk device.new)) }
     {
         let free = count_blocks(device, places, size)?;
         Ok(Storage {
@@ -64,6 +70,13 @@ impl Storage {
             size,
             free,
         })
+    }
+
+    /// The number of blocks of the volume.
+    pub fn size(&self) -> u32
+        ensures { result ≡ (bitmap_of self.now).size }
+    {
+        self.size
     }
 
     /// The number of free blocks.
@@ -85,20 +98,17 @@ impl Storage {
         lbn: u32,
         count: u32,
     ) -> Result<(), DeviceFault>
-        requires bitmap { IsBitmap (bitmap_of self.old) (length (D.disk device.old).image) }
-        requires keeps { IsTrue (D.disk device.old).honest → Keeps self.old (D.disk device.old).image }
+        requires storage { IsFor self.old (D.disk device.old) }
         requires some { 0 < count }
         requires within { lbn + count ≤ (bitmap_of self.old).size }
         requires used { IsTrue (D.disk device.old).honest → (k : ℕ) → lbn ≤ k → k < lbn + count
             → is_free (D.disk device.old).image (bitmap_of self.old) k ≡ false }
         ensures same { bitmap_of self.new ≡ bitmap_of self.old }
-        ensures keeps { OnOk result (IsTrue (D.disk device.old).honest → Keeps self.new (D.disk device.new).image) }
-        ensures gives { OnOk result (IsTrue (D.disk device.old).honest
-            → Marks true (bitmap_of self.old) lbn count (D.disk device.old).image (D.disk device.new).image) }
-        ensures transfers { OnOk result (Went (Changing (D.disk device.old).honest true (bitmap_of self.old) lbn count (D.disk device.old).image)
-            (D.disk device.old) (D.disk device.new) (2 * blocks_touched lbn count) 0) }
-        ensures failures { OnErr result (Went (Changing (D.disk device.old).honest true (bitmap_of self.old) lbn count (D.disk device.old).image)
-            (D.disk device.old) (D.disk device.new) (2 * blocks_touched lbn count) 1) }
+        ensures storage { OnOk result (IsFor self.new (D.disk device.new)) }
+        ensures gives { OnOk result
+            (Gives (bitmap_of self.old) lbn count (D.disk device.old) (D.disk device.new)) }
+        ensures failed { OnErr result
+            (FailsToGive (bitmap_of self.old) lbn count (D.disk device.old) (D.disk device.new)) }
     {
         let end = lbn + count;
         for index in lbn / BITS..end.div_ceil(BITS) {
@@ -125,25 +135,16 @@ impl Storage {
         from: u32,
         most: u32,
     ) -> Result<Option<(u32, u32)>, DeviceFault>
-        requires bitmap { IsBitmap (bitmap_of self.old) (length (D.disk device.old).image) }
-        requires keeps { IsTrue (D.disk device.old).honest → Keeps self.old (D.disk device.old).image }
+        requires storage { IsFor self.old (D.disk device.old) }
         requires some { 0 < most }
         ensures same { bitmap_of self.new ≡ bitmap_of self.old }
-        ensures keeps { OnOk result (IsTrue (D.disk device.old).honest → Keeps self.new (D.disk device.new).image) }
-        ensures none { IfOk result (λ answer. IfNone answer (IsTrue (D.disk device.old).honest
-            → NoneFrom (is_free (D.disk device.old).image (bitmap_of self.old)) from)) }
-        ensures run { IfOk result (λ answer. IfSome answer (λ run. IsTrue (D.disk device.old).honest
-            → IsFirstRun (is_free (D.disk device.old).image (bitmap_of self.old)) from most run.0 run.1)) }
-        ensures within { IfOk result (λ answer. IfSome answer (λ run. IsRunWithin (bitmap_of self.old).size from most run.0 run.1)) }
-        ensures takes { IfOk result (λ answer. IfSome answer (λ run. IsTrue (D.disk device.old).honest
-            → Marks false (bitmap_of self.old) run.0 run.1 (D.disk device.old).image (D.disk device.new).image)) }
-        ensures transfers_none { IfOk result (λ answer. IfNone answer
-            (Looked (D.disk device.old) (D.disk device.new) (blocks_from (bitmap_of self.old) from) 0)) }
-        ensures transfers { IfOk result (λ answer. IfSome answer (λ run.
-            Went (Changing (D.disk device.old).honest false (bitmap_of self.old) run.0 run.1 (D.disk device.old).image)
-            (D.disk device.old) (D.disk device.new) (blocks_to (bitmap_of self.old) from (run.0 + run.1) + blocks_touched run.0 run.1) 0)) }
-        ensures failures { OnErr result (Went (Taking (D.disk device.old).honest (bitmap_of self.old) from most (D.disk device.old).image)
-            (D.disk device.old) (D.disk device.new) (blocks_from (bitmap_of self.old) from + 2) 1) }
+        ensures storage { OnOk result (IsFor self.new (D.disk device.new)) }
+        ensures takes { IfOk result (λ answer. IfSome answer (λ run.
+            Takes (bitmap_of self.old) from most run.0 run.1 (D.disk device.old) (D.disk device.new))) }
+        ensures none { IfOk result (λ answer. IfNone answer
+            (FindsNone (bitmap_of self.old) from (D.disk device.old) (D.disk device.new))) }
+        ensures failed { OnErr result
+            (FailsToTake (bitmap_of self.old) from most (D.disk device.old) (D.disk device.new)) }
     {
         let mut block = [0; BLOCK_SIZE];
         let mut next = [0; BLOCK_SIZE];
@@ -165,24 +166,15 @@ impl Storage {
         block: &mut Block,
         next: &mut Block,
     ) -> Result<Option<Run>, DeviceFault>
-        requires bitmap { IsBitmap (bitmap_of self.now) (length (D.disk device.old).image) }
+        requires within { LiesWithin (bitmap_of self.now) (length (D.disk device.old).image) }
         requires some { 0 < most }
-        ensures none { IfOk result (λ answer. IfNone answer (IsTrue (D.disk device.old).honest
-            → NoneFrom (is_free (D.disk device.old).image (bitmap_of self.now)) from)) }
-        ensures here { IfOk result (λ answer. IfSome answer (λ run. IsPart (bitmap_of self.now).size from 256 run.lbn run.here)) }
-        ensures beyond { IfOk result (λ answer. IfSome answer (λ run. IsRest (bitmap_of self.now).size (256 - run.here) (run.lbn + run.here) run.beyond)) }
-        ensures run { IfOk result (λ answer. IfSome answer (λ run. IsTrue (D.disk device.old).honest
-            → IsFirstRun (is_free (D.disk device.old).image (bitmap_of self.now)) from most run.lbn (run.here + run.beyond))) }
-        ensures within { IfOk result (λ answer. IfSome answer (λ run. IsRunWithin (bitmap_of self.now).size from most run.lbn (run.here + run.beyond))) }
-        ensures block { IfOk result (λ answer. IfSome answer (λ run. IsTrue (D.disk device.old).honest
-            → HasBitOf (D.disk device.new).image (bitmap_of self.now) run.lbn block.new)) }
-        ensures next { IfOk result (λ answer. IfSome answer (λ run. IsTrue (D.disk device.old).honest → 0 < run.beyond
-            → HasBitOf (D.disk device.new).image (bitmap_of self.now) (run.lbn + run.here) next.new)) }
-        ensures transfers_none { IfOk result (λ answer. IfNone answer
-            (Looked (D.disk device.old) (D.disk device.new) (blocks_from (bitmap_of self.now) from) 0)) }
-        ensures transfers { IfOk result (λ answer. IfSome answer (λ run.
-            Looked (D.disk device.old) (D.disk device.new) (blocks_to (bitmap_of self.now) from (run.lbn + run.here + run.beyond)) 0)) }
-        ensures failures { OnErr result (Looked (D.disk device.old) (D.disk device.new) (blocks_from (bitmap_of self.now) from) 1) }
+        ensures finds { IfOk result (λ answer. IfSome answer (λ run.
+            FindsRun (bitmap_of self.now) from most run.lbn run.here run.beyond block.new next.new
+            (D.disk device.old) (D.disk device.new))) }
+        ensures none { IfOk result (λ answer. IfNone answer
+            (FindsNone (bitmap_of self.now) from (D.disk device.old) (D.disk device.new))) }
+        ensures failed { OnErr result
+            (FailsToFind (bitmap_of self.now) from (D.disk device.old) (D.disk device.new)) }
     {
         let most = most.min(LONGEST);
         let Some((lbn, here)) = self.find_part(device, from, most, block)? else {
@@ -200,27 +192,22 @@ impl Storage {
         most: u32,
         block: &mut Block,
     ) -> Result<Option<(u32, u32)>, DeviceFault>
-        requires bitmap { IsBitmap (bitmap_of self.now) (length (D.disk device.old).image) }
+        requires within { LiesWithin (bitmap_of self.now) (length (D.disk device.old).image) }
         requires some { 0 < most }
         requires few { most ≤ 256 }
-        ensures none { IfOk result (λ answer. IfNone answer (IsTrue (D.disk device.old).honest
-            → NoneFrom (is_free (D.disk device.old).image (bitmap_of self.now)) from)) }
-        ensures part { IfOk result (λ answer. IfSome answer (λ part. IsPart (bitmap_of self.now).size from most part.0 part.1)) }
-        ensures first { IfOk result (λ answer. IfSome answer (λ part. IsTrue (D.disk device.old).honest
-            → IsFirstPart (is_free (D.disk device.old).image (bitmap_of self.now)) from most part.0 part.1)) }
-        ensures block { IfOk result (λ answer. IfSome answer (λ part. IsTrue (D.disk device.old).honest
-            → HasBitOf (D.disk device.old).image (bitmap_of self.now) part.0 block.new)) }
-        ensures transfers_none { IfOk result (λ answer. IfNone answer
-            (Looked (D.disk device.old) (D.disk device.new) (blocks_from (bitmap_of self.now) from) 0)) }
-        ensures transfers { IfOk result (λ answer. IfSome answer (λ part.
-            Looked (D.disk device.old) (D.disk device.new) (part.0 / 4096 - from / 4096 + 1) 0)) }
-        ensures failures { OnErr result (Looked (D.disk device.old) (D.disk device.new) (blocks_from (bitmap_of self.now) from) 1) }
+        ensures finds { IfOk result (λ answer. IfSome answer (λ part.
+            FindsPart (bitmap_of self.now) from most part.0 part.1 block.new
+            (D.disk device.old) (D.disk device.new))) }
+        ensures none { IfOk result (λ answer. IfNone answer
+            (FindsNone (bitmap_of self.now) from (D.disk device.old) (D.disk device.new))) }
+        ensures failed { OnErr result
+            (FailsToFind (bitmap_of self.now) from (D.disk device.old) (D.disk device.new)) }
     {
         for index in from / BITS..self.size.div_ceil(BITS) {
             device.read(self.place(index), block)?;
             let start = from.saturating_sub(index * BITS);
             let end = bits_in(self.size, index);
-            if let Some((at, count)) = first_run_below(block, start, most, end) {
+            if let Some((at, count)) = first_run_to(block, start, most, end) {
                 return Ok(Some((index * BITS + at, count)));
             }
         }
@@ -236,17 +223,14 @@ impl Storage {
         most: u32,
         next: &mut Block,
     ) -> Result<u32, DeviceFault>
-        requires bitmap { IsBitmap (bitmap_of self.now) (length (D.disk device.old).image) }
+        requires places { LiesWithin (bitmap_of self.now) (length (D.disk device.old).image) }
         requires some { 0 < end }
         requires within { end ≤ (bitmap_of self.now).size }
         requires few { most ≤ 256 }
-        ensures rest { IfOk result (λ count. IsRest (bitmap_of self.now).size most end count) }
-        ensures free { IfOk result (λ count. IsTrue (D.disk device.old).honest
-            → IsFreeRest (is_free (D.disk device.old).image (bitmap_of self.now)) most end count) }
-        ensures next { IfOk result (λ count. IsTrue (D.disk device.old).honest → 0 < count
-            → HasBitOf (D.disk device.old).image (bitmap_of self.now) end next.new) }
-        ensures transfers { OnOk result (Looked (D.disk device.old) (D.disk device.new) (blocks_to (bitmap_of self.now) (end + 4095) end) 0) }
-        ensures failures { OnErr result (Looked (D.disk device.old) (D.disk device.new) (blocks_to (bitmap_of self.now) (end + 4095) end) 1) }
+        ensures finds { IfOk result (λ count. FindsRest (bitmap_of self.now) most end count next.new
+            (D.disk device.old) (D.disk device.new)) }
+        ensures failed { OnErr result (FailsToFindRest (bitmap_of self.now) end
+            (D.disk device.old) (D.disk device.new)) }
     {
         if end % BITS != 0 || most == 0 || end >= self.size {
             return Ok(0);
@@ -264,18 +248,13 @@ impl Storage {
         block: &mut Block,
         next: &mut Block,
     ) -> Result<(), DeviceFault>
-        requires bitmap { IsBitmap (bitmap_of self.now) (length (D.disk device.old).image) }
-        requires here { IsPart (bitmap_of self.now).size 0 256 run.lbn run.here }
-        requires beyond { IsRest (bitmap_of self.now).size (256 - run.here) (run.lbn + run.here) run.beyond }
-        requires block { IsTrue (D.disk device.old).honest → HasBitOf (D.disk device.old).image (bitmap_of self.now) run.lbn block.old }
-        requires next { IsTrue (D.disk device.old).honest → 0 < run.beyond
-            → HasBitOf (D.disk device.old).image (bitmap_of self.now) (run.lbn + run.here) next.old }
-        ensures marks { OnOk result (IsTrue (D.disk device.old).honest
-            → Marks false (bitmap_of self.now) run.lbn (run.here + run.beyond) (D.disk device.old).image (D.disk device.new).image) }
-        ensures transfers { OnOk result (Went (Changing (D.disk device.old).honest false (bitmap_of self.now) run.lbn (run.here + run.beyond) (D.disk device.old).image)
-            (D.disk device.old) (D.disk device.new) (blocks_touched run.lbn (run.here + run.beyond)) 0) }
-        ensures failures { OnErr result (Went (Changing (D.disk device.old).honest false (bitmap_of self.now) run.lbn (run.here + run.beyond) (D.disk device.old).image)
-            (D.disk device.old) (D.disk device.new) 2 1) }
+        requires within { LiesWithin (bitmap_of self.now) (length (D.disk device.old).image) }
+        requires bits { HasBits (bitmap_of self.now) run.lbn run.here run.beyond block.old next.old
+            (D.disk device.old) }
+        ensures marks { OnOk result (MarksOnDisk false (bitmap_of self.now) run.lbn (run.here + run.beyond)
+            (blocks_touched run.lbn (run.here + run.beyond)) (D.disk device.old) (D.disk device.new)) }
+        ensures failed { OnErr result (FailsToMark false (bitmap_of self.now) run.lbn (run.here + run.beyond)
+            2 (D.disk device.old) (D.disk device.new)) }
     {
         self.write_bits(device, run.lbn, run.here, false, block)?;
         if run.beyond > 0 {
@@ -286,14 +265,12 @@ impl Storage {
 
     /// Marks blocks free whose bits are in one bitmap block.
     fn free_part<D: Device>(&self, device: &mut D, lbn: u32, count: u32) -> Result<(), DeviceFault>
-        requires bitmap { IsBitmap (bitmap_of self.now) (length (D.disk device.old).image) }
+        requires within { LiesWithin (bitmap_of self.now) (length (D.disk device.old).image) }
         requires part { IsPart (bitmap_of self.now).size 0 4096 lbn count }
-        ensures marks { OnOk result (IsTrue (D.disk device.old).honest
-            → Marks true (bitmap_of self.now) lbn count (D.disk device.old).image (D.disk device.new).image) }
-        ensures transfers { OnOk result (Went (Changing (D.disk device.old).honest true (bitmap_of self.now) lbn count (D.disk device.old).image)
-            (D.disk device.old) (D.disk device.new) 2 0) }
-        ensures failures { OnErr result (Went (Changing (D.disk device.old).honest true (bitmap_of self.now) lbn count (D.disk device.old).image)
-            (D.disk device.old) (D.disk device.new) 2 1) }
+        ensures marks { OnOk result (MarksOnDisk true (bitmap_of self.now) lbn count
+            2 (D.disk device.old) (D.disk device.new)) }
+        ensures failed { OnErr result (FailsToMark true (bitmap_of self.now) lbn count
+            2 (D.disk device.old) (D.disk device.new)) }
     {
         let mut block = [0; BLOCK_SIZE];
         device.read(self.place(lbn / BITS), &mut block)?;
@@ -309,17 +286,16 @@ impl Storage {
         free: bool,
         block: &mut Block,
     ) -> Result<(), DeviceFault>
-        requires bitmap { IsBitmap (bitmap_of self.now) (length (D.disk device.old).image) }
+        requires within { LiesWithin (bitmap_of self.now) (length (D.disk device.old).image) }
         requires part { IsPart (bitmap_of self.now).size 0 4096 lbn count }
-        requires block { IsTrue (D.disk device.old).honest → HasBitOf (D.disk device.old).image (bitmap_of self.now) lbn block.old }
-        ensures writes { OnOk result ((D.disk device.new).image
-            ≡ slice_set (D.disk device.old).image (slice_index (bitmap_of self.now).places (lbn / 4096)) block.new) }
-        ensures marks { OnOk result (IsTrue (D.disk device.old).honest
-            → Marks free (bitmap_of self.now) lbn count (D.disk device.old).image (D.disk device.new).image) }
-        ensures transfers { OnOk result (Went (Changing (D.disk device.old).honest free (bitmap_of self.now) lbn count (D.disk device.old).image)
-            (D.disk device.old) (D.disk device.new) 1 0) }
-        ensures failures { OnErr result (Went (Changing (D.disk device.old).honest free (bitmap_of self.now) lbn count (D.disk device.old).image)
-            (D.disk device.old) (D.disk device.new) 1 1) }
+        requires block { IsTrue (D.disk device.old).honest
+            → HasBitOf (D.disk device.old).image (bitmap_of self.now) lbn block.old }
+        ensures writes { OnOk result ((D.disk device.new).image ≡ slice_set (D.disk device.old).image
+            (slice_index (bitmap_of self.now).places (lbn / 4096)) block.new) }
+        ensures marks { OnOk result (MarksOnDisk free (bitmap_of self.now) lbn count
+            1 (D.disk device.old) (D.disk device.new)) }
+        ensures failed { OnErr result (FailsToMark free (bitmap_of self.now) lbn count
+            1 (D.disk device.old) (D.disk device.new)) }
     {
         set_bits(block, lbn % BITS, count, free);
         device.write(self.place(lbn / BITS), block)
@@ -336,17 +312,19 @@ impl Storage {
 
 /// The number of free blocks of a volume of this size whose bitmap blocks are at these places.
 fn count_blocks<D: Device>(device: &mut D, places: &[u32], size: u32) -> Result<u32, DeviceFault>
-    requires bitmap { IsBitmap (record { places = places.now; size = size }) (length (D.disk device.old).image) }
-    ensures free { IfOk result (λ count. IsTrue (D.disk device.old).honest
-        → count ≡ free_blocks (D.disk device.old).image (record { places = places.now; size = size })) }
-    ensures transfers { OnOk result (Looked (D.disk device.old) (D.disk device.new) (length places.now) 0) }
-    ensures failures { OnErr result (Looked (D.disk device.old) (D.disk device.new) (length places.now) 1) }
+    requires bitmap { IsBitmap (record { places = places.now; size = size }) }
+    requires within { LiesWithin (record { places = places.now; size = size })
+        (length (D.disk device.old).image) }
+    ensures counts { IfOk result (λ count. Counts (record { places = places.now; size = size }) count
+        (D.disk device.old) (D.disk device.new)) }
+    ensures failed { OnErr result (FailsToCount (record { places = places.now; size = size })
+        (D.disk device.old) (D.disk device.new)) }
 {
     let mut block = [0; BLOCK_SIZE];
     let mut count = 0;
     for index in 0..size.div_ceil(BITS) {
         device.read(places[index as usize], &mut block)?;
-        count += count_free_below(&block, bits_in(size, index));
+        count += count_free_to(&block, bits_in(size, index));
     }
     Ok(count)
 }

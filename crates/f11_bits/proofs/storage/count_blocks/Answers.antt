@@ -19,16 +19,16 @@ loop-index-init g c = record {
 
 pub overflow_add-count : goal.overflow_add-count
 overflow_add-count g c =
-    omega (arith, c.count_free_below-count.ensures, count_below-le (bit c.read.new.into) c.bits_in.result, c.bits_in.ensures, c.loop-index.invariant.few, c.requires.bitmap.covered, c.requires.bitmap.few)
+    omega (arith, c.count_free_to-count.ensures, count_below-le (bit c.read.new.into) c.bits_in.result, c.bits_in.ensures, c.loop-index.invariant.few, c.requires.bitmap.covered, c.requires.bitmap.few)
 
 pub loop-index-preserved : goal.loop-index-preserved
 loop-index-preserved g c =
     let old = g.D.Device.disk c.args.device.now in
     let bitmap : Bitmap = record { places = c.args.places.now; size = c.args.size } in
-    let is = rw c.bits_in.ensures at c.count_free_below-count.ensures in
+    let is = rw c.bits_in.ensures at c.count_free_to-count.ensures in
     record {
       counts = λ honest.
-          free_below-more old.image bitmap c.loop-index.index c.loop-index.count c.count_free_below-count.result c.read.new.into
+          free_below-more old.image bitmap c.loop-index.index c.loop-index.count c.count_free_to-count.result c.read.new.into
           (slice_get-read old _ _ _ _ _ c.loop-index.invariant.looked refl c.in_ok-read.ensures.reads.gives honest) (c.loop-index.invariant.counts honest) is;
       few = omega (arith, is, count_below-le (bit c.read.new.into) (min (c.args.size - 4096 * c.loop-index.index) 4096), c.loop-index.invariant.few);
       looked = looked_more c.loop-index.invariant.looked (looked_read _ _ c.in_ok-read.ensures.reads.counts);

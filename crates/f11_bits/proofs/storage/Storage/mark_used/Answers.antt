@@ -3,44 +3,49 @@ use Rattle.f11_dev.proofs.WentLemmas.{went_within}
 use Rattle.f11_bits.specs.Changes.{Changing}
 use Rattle.f11_bits.specs.Storage.{bitmap_of}
 use Rattle.f11_bits.proofs.BitmapLemmas.{HasBitOf-apart}
-use Rattle.f11_bits.proofs.StepLemmas.{IsBitmap-kept, KeepsOthers-went, OnErr-given, Went-first, Went-more}
+use Rattle.f11_bits.proofs.StepLemmas.{LiesWithin-kept, KeepsOthers-went, Marks-next, OnErr-given, Went-first, Went-more}
 use Rattle.f11_bits.proofs.storage.Storage.mark_used.Goals as goal
 
-pub write_bits-requires-then-run-gt0-clause-bitmap : goal.write_bits-requires-then-run-gt0-clause-bitmap
-write_bits-requires-then-run-gt0-clause-bitmap g c =
-    IsBitmap-kept (bitmap_of c.args.self.now) _ _ c.requires.bitmap (KeepsOthers-went c.in_ok-write_bits.ensures.transfers)
+pub write_bits-requires-then-run-gt0-clause-within : goal.write_bits-requires-then-run-gt0-clause-within
+write_bits-requires-then-run-gt0-clause-within g c =
+    LiesWithin-kept (bitmap_of c.args.self.now) _ _ c.requires.within (KeepsOthers-went c.in_ok-write_bits.ensures.marks.went)
 
 pub write_bits-requires-then-run-gt0-clause-block : goal.write_bits-requires-then-run-gt0-clause-block
 write_bits-requires-then-run-gt0-clause-block g c = λ honest.
     let old = g.D.Device.disk c.args.device.now in
     let first = c.in_ok-write_bits.ensures in
-    let was_honest = subst (λ (b : Bool). IsTrue b) first.transfers.honest honest in
+    let was_honest = subst (λ (b : Bool). IsTrue b) first.marks.went.honest honest in
     let run = c.args.run in
-    let edge = c.requires.beyond.next c.if-run-gt0.true in
-    let within : run.lbn / 4096 < length (bitmap_of c.args.self.now).places = omega (arith, c.requires.bitmap.covered, c.requires.here.within, c.requires.here.some) in
-    let below : run.lbn + run.here < (bitmap_of c.args.self.now).size = omega (arith, c.requires.beyond.within, c.if-run-gt0.true) in
-    let apart : (run.lbn + run.here) / 4096 ≢ run.lbn / 4096 = omega (arith, edge, c.requires.here.some) in
-    HasBitOf-apart old.image _ (bitmap_of c.args.self.now) (run.lbn / 4096) (run.lbn + run.here) _ _ c.requires.bitmap within below apart first.writes (c.requires.next was_honest c.if-run-gt0.true)
+    let bits = c.requires.bits in
+    let edge = bits.beyond_is.next c.if-run-gt0.true in
+    let within : run.lbn / 4096 < length (bitmap_of c.args.self.now).places = omega (arith, c.args.self.now.valid.covered, bits.here_is.within, bits.here_is.some) in
+    let below : run.lbn + run.here < (bitmap_of c.args.self.now).size = omega (arith, bits.beyond_is.within, c.if-run-gt0.true) in
+    let apart : (run.lbn + run.here) / 4096 ≢ run.lbn / 4096 = omega (arith, edge, bits.here_is.some) in
+    HasBitOf-apart old.image _ (bitmap_of c.args.self.now) (run.lbn / 4096) (run.lbn + run.here) _ _ c.args.self.now.valid within below apart first.writes (bits.next_is was_honest c.if-run-gt0.true)
 
-pub returns-in_err-write_bits-2-clause-failures : goal.returns-in_err-write_bits-2-clause-failures
-returns-in_err-write_bits-2-clause-failures g c =
+pub returns-in_err-write_bits-2-clause-failed : goal.returns-in_err-write_bits-2-clause-failed
+returns-in_err-write_bits-2-clause-failed g c =
     let old = g.D.Device.disk c.args.device.now in
     let bitmap = bitmap_of c.args.self.now in
     let run = c.args.run in
-    let first = c.in_ok-write_bits.ensures in
-    let edge = c.requires.beyond.next c.if-run-gt0.true in
+    let first = c.in_ok-write_bits.ensures.marks in
+    let edge = c.requires.bits.beyond_is.next c.if-run-gt0.true in
     OnErr-given _ (Went-more false bitmap run.lbn run.here _ run.beyond (run.here + run.beyond) old _ _
-    (Went-first false bitmap run.lbn run.here (run.here + run.beyond) old _ (omega arith) (inr edge) first.transfers)
-    (KeepsOthers-went first.transfers) first.marks refl (omega arith) (inl refl) c.in_err-write_bits-2.ensures.failures)
+    (Went-first false bitmap run.lbn run.here (run.here + run.beyond) old _ (omega arith) (inr edge) first.went)
+    (KeepsOthers-went first.went) first.marks refl (omega arith) (inl refl) c.in_err-write_bits-2.ensures.failed)
 
-pub returns-in_ok-write_bits-2-clause-transfers : goal.returns-in_ok-write_bits-2-clause-transfers
-returns-in_ok-write_bits-2-clause-transfers g c =
+pub returns-in_ok-write_bits-2-clause-marks : goal.returns-in_ok-write_bits-2-clause-marks
+returns-in_ok-write_bits-2-clause-marks g c =
     let old = g.D.Device.disk c.args.device.now in
     let bitmap = bitmap_of c.args.self.now in
     let run = c.args.run in
-    let first = c.in_ok-write_bits.ensures in
-    let edge = c.requires.beyond.next c.if-run-gt0.true in
-    went_within (Changing old.honest false bitmap run.lbn (run.here + run.beyond) old.image) (Went-more false bitmap run.lbn run.here _ run.beyond (run.here + run.beyond) old _ _
-    (Went-first false bitmap run.lbn run.here (run.here + run.beyond) old _ (omega arith) (inr edge) first.transfers)
-    (KeepsOthers-went first.transfers) first.marks refl (omega arith) (inl refl) c.in_ok-write_bits-2.ensures.transfers)
-    (omega (arith, edge, c.requires.here.some, c.if-run-gt0.true))
+    let first = c.in_ok-write_bits.ensures.marks in
+    let then = c.in_ok-write_bits-2.ensures.marks in
+    let edge = c.requires.bits.beyond_is.next c.if-run-gt0.true in
+    record {
+      marks = Marks-next false bitmap run.lbn run.here _ run.beyond (run.here + run.beyond) old (g.D.Device.disk c.write_bits.new.device) (g.D.Device.disk c.write_bits-then-run-gt0.new.device) first.went.honest first.marks refl refl then.marks;
+      went = went_within (Changing old.honest false bitmap run.lbn (run.here + run.beyond) old.image) (Went-more false bitmap run.lbn run.here _ run.beyond (run.here + run.beyond) old _ _
+          (Went-first false bitmap run.lbn run.here (run.here + run.beyond) old _ (omega arith) (inr edge) first.went)
+          (KeepsOthers-went first.went) first.marks refl (omega arith) (inl refl) then.went)
+          (omega (arith, edge, c.requires.bits.here_is.some, c.if-run-gt0.true));
+    }
