@@ -81,7 +81,8 @@ impl Storage {
 
     /// The number of free blocks.
     pub fn free(&self) -> u32
-        ensures { (image : Image) → Keeps self.now image → result ≡ free_blocks image (bitmap_of self.now) }
+        ensures { (image : Image) → Keeps self.now image
+            → result ≡ free_blocks image (bitmap_of self.now) }
     {
         self.free
     }
@@ -251,9 +252,11 @@ impl Storage {
         requires within { LiesWithin (bitmap_of self.now) (length (D.disk device.old).image) }
         requires bits { HasBits (bitmap_of self.now) run.lbn run.here run.beyond block.old next.old
             (D.disk device.old) }
-        ensures marks { OnOk result (MarksOnDisk false (bitmap_of self.now) run.lbn (run.here + run.beyond)
-            (blocks_touched run.lbn (run.here + run.beyond)) (D.disk device.old) (D.disk device.new)) }
-        ensures failed { OnErr result (FailsToMark false (bitmap_of self.now) run.lbn (run.here + run.beyond)
+        ensures marks { let count = run.here + run.beyond in
+            OnOk result (MarksOnDisk false (bitmap_of self.now) run.lbn count
+            (blocks_touched run.lbn count) (D.disk device.old) (D.disk device.new)) }
+        ensures failed { let count = run.here + run.beyond in
+            OnErr result (FailsToMark false (bitmap_of self.now) run.lbn count
             2 (D.disk device.old) (D.disk device.new)) }
     {
         self.write_bits(device, run.lbn, run.here, false, block)?;
@@ -290,8 +293,9 @@ impl Storage {
         requires part { IsPart (bitmap_of self.now).size 0 4096 lbn count }
         requires block { IsTrue (D.disk device.old).honest
             → HasBitOf (D.disk device.old).image (bitmap_of self.now) lbn block.old }
-        ensures writes { OnOk result ((D.disk device.new).image ≡ slice_set (D.disk device.old).image
-            (slice_index (bitmap_of self.now).places (lbn / 4096)) block.new) }
+        ensures writes { let place = slice_index (bitmap_of self.now).places (lbn / 4096) in
+            OnOk result ((D.disk device.new).image
+            ≡ slice_set (D.disk device.old).image place block.new) }
         ensures marks { OnOk result (MarksOnDisk free (bitmap_of self.now) lbn count
             1 (D.disk device.old) (D.disk device.new)) }
         ensures failed { OnErr result (FailsToMark free (bitmap_of self.now) lbn count
@@ -315,7 +319,8 @@ fn count_blocks<D: Device>(device: &mut D, places: &[u32], size: u32) -> Result<
     requires bitmap { IsBitmap (record { places = places.now; size = size }) }
     requires within { LiesWithin (record { places = places.now; size = size })
         (length (D.disk device.old).image) }
-    ensures counts { IfOk result (λ count. Counts (record { places = places.now; size = size }) count
+    ensures counts { IfOk result (λ count.
+        Counts (record { places = places.now; size = size }) count
         (D.disk device.old) (D.disk device.new)) }
     ensures failed { OnErr result (FailsToCount (record { places = places.now; size = size })
         (D.disk device.old) (D.disk device.new)) }

@@ -1,8 +1,8 @@
 //! The command `home`.
 ghost use Rattle.std.specs.Prelude.{◌≡◌, ◌⊎◌, IfErr, OnOk};
 ghost use Rattle.std.specs.Io.KnownBytes.{Appends, Keeps};
-ghost use Rattle.f11_home.specs.Home.{HomeFields};
-ghost use Rattle.f11_commands.specs.Home.{FailsToFind, FindsHome, FindsNoHome, home_line, no_home_line};
+ghost use Rattle.f11_home.specs.Home.{FailsToFind, FindsHome, FindsNoHome, HomeFields};
+ghost use Rattle.f11_commands.specs.Home.{home_line, no_home_line};
 
 use crate::label::Label;
 use crate::outcome::{Answer, Failure};

@@ -1,1 +1,2 @@
 pub mod HomeLemmas
+pub mod SealLemmas

@@ -1,7 +1,9 @@
 -- The home block of an image (Files-11 On-Disk Structure Level 1, "Home Block"; profile: the search).
-use Rattle.std.specs.Prelude.{◌≡◌, ℕ, zero, suc, ◌+◌, ◌*◌, ◌/◌, ◌<◌, nat_le, if◌then◌else◌, List, length, Some}
+use Rattle.std.specs.Prelude.{◌≡◌, ℕ, zero, suc, ◌+◌, ◌*◌, ◌/◌, ◌<◌, nat_le, if◌then◌else◌, List, length, Some, IsTrue}
 use Rattle.std.specs.List.{slice_get}
+use Rattle.f11_dev.specs.Disk.{Disk}
 use Rattle.f11_dev.specs.Image.{Image}
+use Rattle.f11_dev.specs.Looked.{Looked}
 use Rattle.f11_home.specs.HomeBlock.{IsHomeBlock, index_lbn, index_blocks, max_files, label}
 
 -- candidate k for the home block: LBN 1, 256, 512 and each further multiple of 256
@@ -9,8 +11,7 @@ abbrev pub candidate : ℕ → ℕ
 candidate zero = 1
 candidate (suc k) = 256 * suc k
 
--- how many candidates are below the end of a device of so many blocks: candidate k is below it exactly where k is below
--- this number (`candidate-below`, `candidate-past`)
+-- how many candidates are below the end of a device of so many blocks
 abbrev pub candidates : ℕ → ℕ
 candidates blocks = if nat_le blocks 1 then 0 else (blocks + 255) / 256
 
@@ -52,3 +53,19 @@ pub record IsSound (home : HomeFields) (blocks : ℕ) : Type 0 where
 -- an image has no home block where no candidate is valid
 abbrev pub HasNoHome : Image → Type 0
 HasNoHome image = (k : ℕ) (b : List ℕ) → ¬ IsCandidate image k b
+
+-- The home block was found. It is the image's where the device is honest, its fields are sound on any device, and it was
+-- looked for by at most one transfer a candidate up to it.
+pub record FindsHome (old new : Disk) (home : HomeFields) : Type 0 where
+  pub is_home : IsTrue old.honest → IsHomeOf old.image home
+  pub sound : IsSound home (length old.image)
+  pub looked : Looked old new (home.lbn / 256 + 1) 0
+
+-- There is none, which is so where the device is honest, and each candidate was looked at once at most.
+pub record FindsNoHome (old new : Disk) : Type 0 where
+  pub has_none : IsTrue old.honest → HasNoHome old.image
+  pub looked : Looked old new (candidates (length old.image)) 0
+
+-- A transfer failed, one of at most one a candidate.
+abbrev pub FailsToFind : Disk → Disk → Type 0
+FailsToFind old new = Looked old new (candidates (length old.image)) 1

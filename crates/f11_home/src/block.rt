@@ -1,48 +1,23 @@
-//! The fields of a home block, and when it is valid.
+//! When a home block is valid, and how its check words are made right.
 ghost use Rattle.std.specs.Prelude.{◌≡◌, ◌⊎◌, ◌+◌, ◌<◌, ◌≤◌, ◌≢◌, ℕ, ◌↔◌, IsTrue, slice_index, slice_range, codes};
-ghost use Rattle.f11_dev.specs.Block.{word, word_sum};
-ghost use Rattle.f11_home.specs.HomeBlock.{IsHomeBlock, index_blocks, index_lbn};
+ghost use Rattle.f11_dev.specs.Block.{word};
+ghost use Rattle.f11_home.specs.HomeBlock.{HasHomeSums, IsHomeBlock, index_blocks, index_lbn, with_sums};
 
+use crate::fields::{CLUSTER, FIRST_SUM, FORMAT, INDEX_BLOCKS, INDEX_LBN, LEVEL, SECOND_SUM};
 use f11_dev::{Block, read_word, sum_words, write_word};
-
-/// H.IBSZ, a word: how many blocks the index file's bitmap has.
-pub const INDEX_BLOCKS: usize = 0;
-
-/// H.IBLB, two words, the high one first: the LBN of that bitmap.
-pub const INDEX_LBN: usize = 2;
-
-/// H.FMAX, a word: how many files the volume may have.
-pub const MAX_FILES: usize = 6;
-
-/// H.SBCL, a word: the storage bitmap's cluster factor.
-const CLUSTER: usize = 8;
-
-/// H.VLEV, a word: the structure level.
-const LEVEL: usize = 12;
-
-/// H.VNAM, 12 bytes: the volume's label.
-pub const LABEL: usize = 14;
-
-/// H.CHK1, a word: the sum of the words before it.
-const FIRST_SUM: usize = 58;
-
-/// H.INDF, 12 bytes: the name of the format.
-const FORMAT: usize = 496;
-
-/// H.CHK2, a word: the sum of the words before it.
-const SECOND_SUM: usize = 510;
 
 /// Whether the block is a valid home block of a device of so many blocks.
 pub fn is_home_block(block: &Block, blocks: u32) -> bool
     ensures { IsTrue result ↔ IsHomeBlock block.now blocks }
 {
-    has_index(block, blocks) && has_format(block) && is_sealed(block)
+    has_index(block, blocks) && has_format(block) && has_sums(block)
 }
 
 /// Whether the index file's bitmap has 1 to 16 blocks, and lies on the device with the 16 headers after it.
 fn has_index(block: &Block, blocks: u32) -> bool
     ensures { IsTrue result ↔ ((0 < index_blocks block.now) × (index_blocks block.now ≤ 16)
-        × (0 < index_lbn block.now) × (index_lbn block.now + index_blocks block.now + 16 ≤ blocks)) }
+        × (0 < index_lbn block.now)
+        × (index_lbn block.now + index_blocks block.now + 16 ≤ blocks)) }
 {
     let size = read_word(block, INDEX_BLOCKS);
     let lbn = read_index_lbn(block);
@@ -51,7 +26,8 @@ fn has_index(block: &Block, blocks: u32) -> bool
 
 /// Whether cluster factor, structure level and name are those of the format.
 fn has_format(block: &Block) -> bool
-    ensures { IsTrue result ↔ ((word block.now 8 ≡ 1) × ((word block.now 12 ≡ 257) ⊎ (word block.now 12 ≡ 258))
+    ensures { IsTrue result ↔ ((word block.now 8 ≡ 1)
+        × ((word block.now 12 ≡ 257) ⊎ (word block.now 12 ≡ 258))
         × (slice_range block.now 496 508 ≡ codes "DECFILE11A  ")) }
 {
     read_word(block, CLUSTER) == 1
@@ -60,8 +36,8 @@ fn has_format(block: &Block) -> bool
 }
 
 /// Whether both check words are right.
-fn is_sealed(block: &Block) -> bool
-    ensures { IsTrue result ↔ ((word block.now 58 ≡ word_sum block.now 29) × (word block.now 510 ≡ word_sum block.now 255)) }
+fn has_sums(block: &Block) -> bool
+    ensures { IsTrue result ↔ HasHomeSums block.now }
 {
     read_word(block, FIRST_SUM) == sum_words(block, FIRST_SUM / 2)
         && read_word(block, SECOND_SUM) == sum_words(block, SECOND_SUM / 2)
@@ -78,9 +54,10 @@ pub fn read_index_lbn(block: &Block) -> u32
 
 /// Makes both check words of a home block right, H.CHK1 and then H.CHK2, and changes nothing else.
 pub fn seal(block: &mut Block)
-    ensures first_sum { word block.new 58 ≡ word_sum block.new 29 }
-    ensures second_sum { word block.new 510 ≡ word_sum block.new 255 }
-    ensures others { (i : ℕ) → i ≢ 58 → i ≢ 59 → i ≢ 510 → i ≢ 511 → slice_index block.new i ≡ slice_index block.old i }
+    ensures block { block.new ≡ with_sums block.old }
+    ensures sums { HasHomeSums block.new }
+    ensures others { (i : ℕ) → i ≢ 58 → i ≢ 59 → i ≢ 510 → i ≢ 511
+        → slice_index block.new i ≡ slice_index block.old i }
 {
     write_word(block, FIRST_SUM, sum_words(block, FIRST_SUM / 2));
     write_word(block, SECOND_SUM, sum_words(block, SECOND_SUM / 2));

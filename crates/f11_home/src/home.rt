@@ -1,11 +1,10 @@
 //! The home block of a device.
-ghost use Rattle.std.specs.Prelude.{◌≡◌, ◌<◌, ◌+◌, ◌/◌, ◌^◌, length, IsTrue, IfOk, IfErr, IsErrOf};
-ghost use Rattle.f11_dev.specs.Looked.{Looked};
-ghost use Rattle.f11_home.specs.Home.{candidate, candidates, fields_of, IsSound, IsHomeOf, HasNoHome};
-ghost use Rattle.f11_home.specs.HomeFault.{faults_of};
+ghost use Rattle.std.specs.Prelude.{◌≡◌, ◌<◌, ◌^◌, IfOk, IsErrOf};
+ghost use Rattle.f11_home.specs.Home.{candidate, candidates, fields_of, FindsHome, FindsNoHome, FailsToFind};
 ghost use Rattle.f11_home.specs.declared.home.HomeFault.TheVariants.{DeviceFault as Fault};
 
-use crate::block::{INDEX_BLOCKS, LABEL, MAX_FILES, is_home_block, read_index_lbn};
+use crate::block::{is_home_block, read_index_lbn};
+use crate::fields::{INDEX_BLOCKS, LABEL, MAX_FILES};
 use f11_dev::{BLOCK_SIZE, Block, Device, DeviceFault, read_word};
 use std::error::Error;
 use std::fmt;
@@ -135,13 +134,12 @@ impl Home {
 ///
 /// `NoHome` where no candidate is valid, and `DeviceFault` where a transfer failed.
 pub fn find<D: Device>(device: &mut D) -> Result<Home, HomeFault>
-    ensures found { IfOk result (λ home. IsTrue (D.disk device.old).honest → IsHomeOf (D.disk device.old).image home) }
-
-    // On a device that isn't honest too the fields are those of a valid home block.
-    ensures sound { IfOk result (λ home. IsSound home (length (D.disk device.old).image)) }
-    ensures none { IsErrOf result HomeFault.NoHome → IsTrue (D.disk device.old).honest → HasNoHome (D.disk device.old).image }
-    ensures transfers { IfOk result (λ home. Looked (D.disk device.old) (D.disk device.new) (home.lbn / 256 + 1) 0) }
-    ensures failures { IfErr result (λ fault. Looked (D.disk device.old) (D.disk device.new) (candidates (length (D.disk device.old).image)) (faults_of fault)) }
+    ensures found { IfOk result (λ home.
+        FindsHome (D.disk device.old) (D.disk device.new) home) }
+    ensures none { IsErrOf result HomeFault.NoHome
+        → FindsNoHome (D.disk device.old) (D.disk device.new) }
+    ensures failed { IsErrOf result HomeFault.DeviceFault
+        → FailsToFind (D.disk device.old) (D.disk device.new) }
 {
     let blocks = device.blocks();
     let mut block = [0; BLOCK_SIZE];
@@ -155,15 +153,15 @@ pub fn find<D: Device>(device: &mut D) -> Result<Home, HomeFault>
     Err(HomeFault::NoHome)
 }
 
-/// The number of candidates below the end of a device of so many blocks.
-fn candidate_count(blocks: u32) -> u32
+/// The number of candidates below the end of a device of so many blocks: LBN 1, 256, 512 and each further multiple of 256.
+pub fn candidate_count(blocks: u32) -> u32
     ensures { result ≡ candidates blocks }
 {
     if blocks <= 1 { 0 } else { blocks.div_ceil(256) }
 }
 
-/// The LBN of candidate `k`.
-fn candidate_lbn(k: u32) -> u32
+/// The LBN of candidate `k`, from 0.
+pub fn candidate_lbn(k: u32) -> u32
     requires { candidate k < 2 ^ 32 }
     ensures { result ≡ candidate k }
 {
