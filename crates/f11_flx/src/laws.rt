@@ -1,0 +1,15 @@
+//! Laws of the conversions, each the contract of a function that does nothing: they show that the definitions say what is
+//! meant.
+ghost use Rattle.f11_flx.specs.Laws as laws;
+
+/// Where a line ends.
+pub fn lines()
+    ensures ended { laws.LineEnds }
+    ensures last { laws.LastLineEnds }
+{}
+
+/// What comes back: lines from their text, and from the records that spell them.
+pub fn round_trips()
+    ensures lines { laws.LinesComeBack }
+    ensures records { laws.RecordsComeBack }
+{}

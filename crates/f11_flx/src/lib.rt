@@ -1,0 +1,8 @@
+//! Copies between a Files-11 volume and an RT-11 one: how the records of a file become the lines of a text, and the lines
+//! of a text records again (RSX-11M Utilities manual, FLX).
+#![tactic(auto)]
+
+pub mod laws;
+mod layout;
+
+pub use layout::Layout;
