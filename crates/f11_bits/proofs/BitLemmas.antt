@@ -1,15 +1,11 @@
 -- Facts about the bits of a block, and about tests on numbers.
-use Rattle.std.proofs.Common.{◌≡◌, ℕ, ◌+◌, ◌<◌, ◌≤◌, Bool, true, false, eqb, List, refl, sym, ap, ◌∙◌, inl, inr, add-one, arith, ne_eqb, lt-ltb}
+use Rattle.std.proofs.Common.{◌≡◌, ℕ, ◌+◌, ◌<◌, ◌≤◌, Bool, true, false, List, refl, sym, ap, ◌∙◌, inl, inr, add-one, arith, lt-ltb}
 use Rattle.std.proofs.Common.{min}
 use Rattle.std.proofs.lemmas.Bool.{both_ways, and_from, cases_lt}
 use Rattle.f11_dev.specs.Block.{bit}
 use Rattle.f11_bits.specs.Bitmap.{count_below}
 use Rattle.f11_bits.specs.Bits.{bit_below}
 use Rattle.f11_bits.specs.Run.{IsFirstRun}
-
--- 0 isn't 1
-pub eqb-one : (n : ℕ) → n ≡ 0 → eqb n 1 ≡ false
-eqb-one n is = ne_eqb n 1 (λ one. absurd (omega arith))
 
 -- one number more, which passes
 pub count_below-pass : (test : ℕ → Bool) (n count : ℕ) → count ≡ count_below test n → true ≡ test n → count + 1 ≡ count_below test (n + 1)

@@ -1,8 +1,8 @@
 -- The storage bitmap (Files-11 On-Disk Structure Level 1, "Storage Bitmap File"): the set of a volume's free blocks.
-use Rattle.std.specs.Prelude.{◌≡◌, ◌≢◌, ◌⊎◌, ℕ, zero, suc, ◌+◌, ◌*◌, ◌/◌, ◌%◌, ◌<◌, ◌≤◌, Bool, ◌&&◌, nat_lt, if◌then◌else◌, List, [], length, slice_index, slice_index_or}
+use Rattle.std.specs.Prelude.{◌≡◌, ◌≢◌, ◌⊎◌, ℕ, zero, suc, ◌+◌, ◌*◌, ◌/◌, ◌%◌, ◌<◌, ◌≤◌, Bool, ◌&&◌, nat_lt, if◌then◌else◌, List, length, slice_index}
 use Rattle.std.specs.List.{slice_get}
-use Rattle.f11_dev.specs.Block.{bit}
-use Rattle.f11_dev.specs.Image.{Image}
+use Rattle.f11_bytes.specs.Bits.{bit}
+use Rattle.f11_dev.specs.Image.{Image, image_block}
 
 -- where a volume's bitmap is: the LBNs of its blocks in order, and the volume's size in blocks
 pub record Bitmap : Type 0 where
@@ -23,7 +23,7 @@ LiesWithin bitmap blocks = (i : ℕ) → i < length bitmap.places → slice_inde
 
 -- the bit of block lbn: a bitmap block has 4096 bits
 unfoldable pub bitmap_bit : Image → Bitmap → ℕ → Bool
-bitmap_bit image bitmap lbn = bit (slice_index_or image (slice_index bitmap.places (lbn / 4096)) []) (lbn % 4096)
+bitmap_bit image bitmap lbn = bit (image_block image (slice_index bitmap.places (lbn / 4096))) (lbn % 4096)
 
 -- a block of the volume is free where its bit is 1
 unfoldable pub is_free : Image → Bitmap → ℕ → Bool

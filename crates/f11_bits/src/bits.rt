@@ -1,13 +1,13 @@
 //! The bits of one bitmap block, which are 1 where a block is free (Files-11 On-Disk Structure Level 1, "Storage Bitmap
 //! File"). A run of them is cut at 256, which is as long as a retrieval pointer can tell.
-ghost use Rattle.std.specs.Prelude.{◌≡◌, ◌≢◌, ℕ, ◌+◌, ◌<◌, ◌≤◌, true, false, ◌==◌, MatchOption};
-ghost use Rattle.std.specs.Int.{bit_at};
-ghost use Rattle.f11_dev.specs.Block.{bit, word_sum as sum_of_words};
+ghost use Rattle.std.specs.Prelude.{◌≡◌, ℕ, ◌+◌, ◌<◌, ◌≤◌, true, false, MatchOption};
+ghost use Rattle.f11_bytes.specs.Bits.{bit};
+ghost use Rattle.f11_bytes.specs.Words.{word_sum as sum_of_words};
 ghost use Rattle.f11_bits.specs.Bitmap.{count_below};
 ghost use Rattle.f11_bits.specs.Bits.{bit_below};
 ghost use Rattle.f11_bits.specs.Run.{IsFirstRun, NoneFrom};
 
-use f11_dev::{Block, sum_words};
+use f11_bytes::{Block, is_set, set_bit, sum_words};
 
 /// How many bits a block has.
 pub const BITS: u32 = 4096;
@@ -109,32 +109,4 @@ pub fn set_bits(block: &mut Block, start: u32, count: u32, free: bool)
     for k in start..start + count {
         set_bit(block, k, free);
     }
-}
-
-/// Makes bit `k` 1, or 0, and leaves the others.
-fn set_bit(block: &mut Block, k: u32, free: bool)
-    requires { k < 4096 }
-    ensures set { bit block.new k ≡ free }
-    ensures others { (j : ℕ) → j < 4096 → j ≢ k → bit block.new j ≡ bit block.old j }
-{
-    let at = (k / 8) as usize;
-    block[at] = with_bit(block[at], k % 8, free);
-}
-
-/// A byte with its bit `k` 1, or 0.
-fn with_bit(byte: u8, k: u32, value: bool) -> u8
-    requires { k < 8 }
-    ensures set { (bit_at result k == 1) ≡ value }
-    ensures others { (j : ℕ) → j < 8 → j ≢ k → bit_at result j ≡ bit_at byte j }
-{
-    let mask = 1u8 << k;
-    if value { byte | mask } else { byte & !mask }
-}
-
-/// Whether bit `k` is 1.
-fn is_set(block: &Block, k: u32) -> bool
-    requires { k < 4096 }
-    ensures { result ≡ bit block.now k }
-{
-    block[(k / 8) as usize] >> (k % 8) & 1 == 1
 }

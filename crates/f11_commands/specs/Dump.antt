@@ -2,7 +2,7 @@
 use Rattle.std.specs.Prelude.{◌≡◌, ◌≢◌, ℕ, false, List, [], ◌∷◌, ◌++◌, codes}
 use Rattle.std.specs.Fmt.{decimal, digits}
 use Rattle.std.specs.List.{concat, flat_map}
-use Rattle.f11_dev.specs.Block.{word}
+use Rattle.f11_bytes.specs.Words.{word}
 use Rattle.f11_header.specs.Fields.{file_number, file_sequence, owner_group, owner_member, protection, characteristics, check_word, ident_area, map_area}
 use Rattle.f11_header.specs.Header.{IsDead, IsHeader}
 use Rattle.f11_map.specs.MapArea.{link, runs_of, segment}

@@ -8,7 +8,7 @@ ghost use Rattle.f11_map.specs.MapArea.{runs_of};
 ghost use Rattle.f11_commands.specs.Dump.{IsDump, IsHeaderText, IsNamePart, fields_line, name_line, name_words, run_lines};
 
 use crate::outcome::{Answer, Failure};
-use f11_dev::{Block, read_word};
+use f11_bytes::{Block, read_word};
 use f11_header::{Header, HeaderFault, check};
 use f11_map::Map;
 use f11_rad50::Name;
@@ -145,11 +145,11 @@ fn words_of(ident: &[u8]) -> [u16; 5]
     ensures { result ≡ name_words ident.now }
 {
     [
-        u16::from_le_bytes([ident[0], ident[1]]),
-        u16::from_le_bytes([ident[2], ident[3]]),
-        u16::from_le_bytes([ident[4], ident[5]]),
-        u16::from_le_bytes([ident[6], ident[7]]),
-        u16::from_le_bytes([ident[8], ident[9]]),
+        read_word(ident, 0),
+        read_word(ident, 2),
+        read_word(ident, 4),
+        read_word(ident, 6),
+        read_word(ident, 8),
     ]
 }
 

@@ -4,7 +4,7 @@ use Rattle.std.proofs.Math.ListN.{set, get_or}
 use Rattle.std.proofs.lemmas.List.{set-set, set-get_or, length-replicate, get_or-replicate, get_or_past, reverse-append, replicate-append-replicate}
 use Rattle.std.proofs.lemmas.Option.{slice_get_within, get_or_from_slice_get}
 use Rattle.std.proofs.lemmas.Bool.{cases_lt}
-use Rattle.f11_dev.specs.Block.{IsBlock, zero_block}
+use Rattle.f11_bytes.specs.Block.{IsBlock, zero_block}
 use Rattle.f11_dev.specs.Image.{Image, IsImage, zero_image}
 use Rattle.f11_dev.specs.Memory.{images_back}
 use Rattle.f11_dev.specs.declared.memory.Replaced.{Replaced}

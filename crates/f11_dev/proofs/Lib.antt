@@ -1,4 +1,4 @@
 pub mod DiskLemmas
-pub mod BlockLemmas
 pub mod LookedLemmas
 pub mod WentLemmas
+pub mod ImageLemmas

@@ -1,10 +1,9 @@
 //! A device that lies.
 ghost use Rattle.std.specs.Prelude.{◌≡◌, ◌≢◌, ◌⊎◌, ◌<◌, false, length, IsTrue, OnOk};
-ghost use Rattle.f11_dev.specs.Block.{zero_block};
+ghost use Rattle.f11_bytes.specs.Block.{zero_block};
 ghost use Rattle.f11_dev.specs.Disk.{Reads, Writes};
 
-use crate::block::zeros;
-use crate::{Block, Device, DeviceFault};
+use crate::{Block, Device, DeviceFault, zeros};
 use std::cell::Cell;
 
 /// A device around another that lies about one block once [`Liar::begin`] was called: reads of it give zeros.

@@ -4,9 +4,8 @@ ghost use Rattle.f11_dev.specs.Image.{IsImage, zero_image};
 ghost use Rattle.f11_dev.specs.Disk.{fresh, counted, Reads, Writes};
 ghost use Rattle.f11_dev.specs.Outcomes.{transfers_of};
 
-use crate::block::zeros;
 use crate::outcomes::Outcomes;
-use crate::{Block, Device, DeviceFault, NoMemory};
+use crate::{Block, Device, DeviceFault, NoMemory, zeros};
 use std::alloc::Global;
 
 /// A device in memory. It is honest, and keeps a record of its writes: a write that finds no memory for its

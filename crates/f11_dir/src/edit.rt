@@ -1,11 +1,13 @@
 //! Records that are put into a block, and taken out.
 ghost use Rattle.std.specs.Prelude.{◌≡◌, ◌≢◌, ℕ, ◌*◌, ◌<◌};
 ghost use Rattle.std.specs.List.{flat_map};
-ghost use Rattle.f11_store.specs.Directory.{record_in, record_bytes, empty_record, word_bytes, with_bytes};
+ghost use Rattle.f11_bytes.specs.Words.{word_bytes};
+ghost use Rattle.f11_bytes.specs.Part.{with_bytes};
+ghost use Rattle.f11_store.specs.Directory.{record_in, record_bytes, empty_record};
 ghost use Rattle.f11_dir.specs.Records.{record_of_bytes};
 
 use crate::RECORD_SIZE;
-use f11_dev::{Block, write_word};
+use f11_bytes::{Block, write_word};
 use f11_rad50::Name;
 use f11_store::FileId;
 

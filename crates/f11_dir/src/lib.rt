@@ -5,7 +5,7 @@
 //! [`first_empty`] for the first one without a file; [`put`] and [`clear`] change the 16 bytes of one
 //! record and no others. Whatever the bytes of a block are, it has 32 records.
 //!
-//! Stands on `f11_dev` (blocks and their words), `f11_rad50` (names) and `f11_store` (what a record
+//! Stands on `f11_bytes` (blocks and their words), `f11_rad50` (names) and `f11_store` (what a record
 //! says).
 #![tactic(auto)]
 

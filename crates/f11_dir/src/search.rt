@@ -1,12 +1,12 @@
 //! Records that are read, and looked for, in a block.
 ghost use Rattle.std.specs.Prelude.{◌≡◌, ◌*◌, ◌<◌, ◌≤◌, map, option_map, position, IfSome};
-ghost use Rattle.f11_store.specs.File.{word_at};
+ghost use Rattle.f11_bytes.specs.Words.{word};
 ghost use Rattle.f11_store.specs.Directory.{record_in, record_id, is_empty, has_name};
 ghost use Rattle.f11_dir.specs.Records.{records_in, record_of_bytes};
 
 use crate::record::Record;
 use crate::{RECORD_SIZE, RECORDS};
-use f11_dev::{Block, read_word};
+use f11_bytes::{Block, read_word};
 use f11_rad50::Name;
 use f11_store::FileId;
 
@@ -98,7 +98,7 @@ fn record_at(block: &Block, i: usize) -> Record
 fn word_of(block: &Block, i: usize, at: usize) -> u16
     requires record { i < 32 }
     requires byte { at ≤ 14 }
-    ensures { result ≡ word_at (record_in block.now i) at }
+    ensures { result ≡ word (record_in block.now i) at }
 {
     read_word(block, RECORD_SIZE * i + at)
 }

@@ -1,11 +1,12 @@
 -- Facts about a header whose map area is written, and about sealing it.
-use Rattle.std.proofs.Common.{◌≡◌, ℕ, ◌+◌, ◌-◌, ◌*◌, ◌/◌, ◌%◌, ◌<◌, ◌≤◌, min, List, ◌++◌, length, take, drop, sym, ap, ◌∙◌, arith}
+use Rattle.std.proofs.Common.{◌≡◌, ℕ, ◌+◌, ◌-◌, ◌*◌, ◌/◌, ◌%◌, ◌<◌, ◌≤◌, min, List, length, drop, sym, ap, ◌∙◌, arith}
 use Rattle.std.specs.Prelude.{slice_index, slice_range}
-use Rattle.std.proofs.lemmas.List.{length-take, length-drop, length-append, take-append-drop, drop-drop, get_or-take, get_or-drop, get_or_append_left, get_or-append_right, take_at, drop_at, length-set}
+use Rattle.std.proofs.lemmas.List.{length-take, length-drop, get_or-take, get_or-drop, length-set}
 use Rattle.std.proofs.lemmas.Grind.{same_number_lists}
 use Rattle.std.proofs.Math.ListN.{set}
-use Rattle.f11_dev.specs.Block.{word_sum}
-use Rattle.f11_dev.proofs.BlockLemmas.{slice_index-with_word}
+use Rattle.f11_bytes.specs.Words.{word_sum}
+use Rattle.f11_bytes.proofs.WordLemmas.{slice_index-with_word}
+use Rattle.f11_bytes.proofs.PartLemmas.{length-with_bytes, slice_index-with_bytes_before, slice_index-with_bytes, slice_range-with_bytes, with_bytes-slice_range}
 use Rattle.f11_header.specs.Fields.{map_offset, map_area, map_byte, segment, count_size, lbn_size, words_in_use, places}
 use Rattle.f11_header.specs.Header.{IsHeader, ident_words}
 use Rattle.f11_header.specs.Writing.{sealed, with_map}
@@ -15,21 +16,9 @@ use Rattle.f11_header.proofs.BlankLemmas.{sum-sealed}
 pub slice_index-sealed : (b : List ℕ) (i : ℕ) → i < 510 → slice_index (sealed b) i ≡ slice_index b i
 slice_index-sealed b i before = slice_index-with_word b 510 (word_sum b 255) i (λ e. omega arith) (λ e. omega arith)
 
--- a byte before the map area stays
-pub slice_index-with_map_before : (b map : List ℕ) (i : ℕ) → 2 * map_offset b ≤ length b → i < 2 * map_offset b → slice_index (with_map b map) i ≡ slice_index b i
-slice_index-with_map_before b map i long before =
-    get_or_append_left (take (2 * map_offset b) b) (map ++ drop 510 b) 0 i (omega (arith, length-take (2 * map_offset b) b)) ∙ get_or-take (2 * map_offset b) b i 0 before
-
--- a byte of the map area that was put
-pub slice_index-with_map : (b map : List ℕ) (i : ℕ) → 2 * map_offset b ≤ length b → i < length map → slice_index (with_map b map) (2 * map_offset b + i) ≡ slice_index map i
-slice_index-with_map b map i long within =
-    get_or-append_right (take (2 * map_offset b) b) (map ++ drop 510 b) (2 * map_offset b) (2 * map_offset b + i) 0 (omega (arith, length-take (2 * map_offset b) b)) (omega arith)
-    ∙ ap (slice_index (map ++ drop 510 b)) (omega arith) ∙ get_or_append_left map (drop 510 b) 0 i within
-
 -- the block keeps its size
 pub length-with_map : (b map : List ℕ) → length b ≡ 512 → map_offset b ≤ 250 → length map ≡ 510 - 2 * map_offset b → length (with_map b map) ≡ 512
-length-with_map b map long within size =
-    omega (arith, length-append (take (2 * map_offset b) b) (map ++ drop 510 b), length-append map (drop 510 b), length-take (2 * map_offset b) b, length-drop 510 b)
+length-with_map b map long within size = length-with_bytes b (2 * map_offset b) map (omega arith) ∙ long
 
 -- the size of the map area
 pub length-map_area : (b : List ℕ) → length b ≡ 512 → length (map_area b) ≡ 510 - 2 * map_offset b
@@ -42,10 +31,8 @@ slice_index-map_area b i within = get_or-take (510 - 2 * map_offset b) (drop (2 
 -- the map area that was put
 pub map_area-with_map : (b map : List ℕ) → length b ≡ 512 → 0 < map_offset b → map_offset b ≤ 250 → length map ≡ 510 - 2 * map_offset b → map_area (with_map b map) ≡ map
 map_area-with_map b map long some low size =
-    let at : map_offset (with_map b map) ≡ map_offset b = slice_index-with_map_before b map 1 (omega arith) (omega arith) in
-    let front : length (take (2 * map_offset b) b) ≡ 2 * map_offset b = omega (arith, length-take (2 * map_offset b) b) in
-    ap (λ (o : ℕ). slice_range (with_map b map) (2 * o) 510) at
-    ∙ ap (take (510 - 2 * map_offset b)) (drop_at (take (2 * map_offset b) b) (map ++ drop 510 b) (2 * map_offset b) front) ∙ take_at map (drop 510 b) (510 - 2 * map_offset b) size
+    let at : map_offset (with_map b map) ≡ map_offset b = slice_index-with_bytes_before b (2 * map_offset b) map 1 (omega arith) (omega arith) in
+    ap (λ (o : ℕ). slice_range (with_map b map) (2 * o) 510) at ∙ slice_range-with_bytes b (2 * map_offset b) 510 map (omega arith) (omega arith)
 
 -- sealing leaves the map area
 pub map_area-sealed : (b : List ℕ) → length b ≡ 512 → map_area (sealed b) ≡ map_area b
@@ -90,10 +77,10 @@ IsHeader-with_map b map n long size number count lbn even within header =
     let high : 23 ≤ map_offset b = omega (arith, header.map_placed, header.ident_placed) in
     let area : length (map_area b) ≡ 510 - 2 * map_offset b = length-map_area b long in
     let front : (i : ℕ) → i < 8 → slice_index (sealed new) i ≡ slice_index (sealed b) i =
-    λ i before. slice_index-sealed new i (omega arith) ∙ slice_index-with_map_before b map i (omega arith) (omega arith) ∙ sym (slice_index-sealed b i (omega arith)) in
+    λ i before. slice_index-sealed new i (omega arith) ∙ slice_index-with_bytes_before b (2 * map_offset b) map i (omega arith) (omega arith) ∙ sym (slice_index-sealed b i (omega arith)) in
     let offset : map_offset (sealed new) ≡ map_offset b = front 1 (omega arith) ∙ at in
     let byte : (i : ℕ) → i < 10 → map_byte (sealed new) i ≡ slice_index map i =
-    λ i few. ap (λ (o : ℕ). slice_index (sealed new) (2 * o + i)) offset ∙ slice_index-sealed new (2 * map_offset b + i) (omega arith) ∙ slice_index-with_map b map i (omega arith) (omega arith) in
+    λ i few. ap (λ (o : ℕ). slice_index (sealed new) (2 * o + i)) offset ∙ slice_index-sealed new (2 * map_offset b + i) (omega arith) ∙ slice_index-with_bytes b (2 * map_offset b) map i (omega arith) (omega arith) in
     let was : (i : ℕ) → i < 10 → slice_index (map_area b) i ≡ map_byte (sealed b) i =
     λ i few. slice_index-map_area b i (omega arith) ∙ sym (ap (λ (o : ℕ). slice_index (sealed b) (2 * o + i)) at ∙ slice_index-sealed b (2 * map_offset b + i) (omega arith)) in
     let room : 250 - map_offset (sealed new) ≡ (length map - 10) / 2 = omega arith in
@@ -116,9 +103,4 @@ IsHeader-sealed b n long header =
 
 -- the map area put where it stood
 pub with_map-map_area : (b : List ℕ) → map_offset b ≤ 255 → with_map b (map_area b) ≡ b
-with_map-map_area b low =
-    let whole : 2 * map_offset b + (510 - 2 * map_offset b) ≡ 510 = omega (arith, low) in
-    let behind : drop (510 - 2 * map_offset b) (drop (2 * map_offset b) b) ≡ drop 510 b = drop-drop (510 - 2 * map_offset b) (2 * map_offset b) b ∙ ap (λ (k : ℕ). drop k b) whole in
-    ap (λ (rest : List ℕ). take (2 * map_offset b) b ++ (map_area b ++ rest)) (sym behind)
-    ∙ ap (λ (rest : List ℕ). take (2 * map_offset b) b ++ rest) (take-append-drop (510 - 2 * map_offset b) (drop (2 * map_offset b) b))
-    ∙ take-append-drop (2 * map_offset b) b
+with_map-map_area b low = with_bytes-slice_range b (2 * map_offset b) 510

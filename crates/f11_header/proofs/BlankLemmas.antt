@@ -1,8 +1,9 @@
 -- Facts about an empty header.
 use Rattle.std.proofs.Common.{◌≡◌, ◌≢◌, ℕ, ◌+◌, ◌*◌, ◌/◌, ◌%◌, ◌<◌, ◌≤◌, List, length, refl, ◌∙◌, sym, arith}
 use Rattle.std.proofs.lemmas.Bool.Decides.{nat_tests}
-use Rattle.f11_dev.specs.Block.{word, word_sum, zero_block}
-use Rattle.f11_dev.proofs.BlockLemmas.{word-with_word, word_sum-with_word}
+use Rattle.f11_bytes.specs.Block.{zero_block}
+use Rattle.f11_bytes.specs.Words.{word, word_sum}
+use Rattle.f11_bytes.proofs.WordLemmas.{word-with_word, word_sum-with_word}
 use Rattle.f11_store.specs.declared.callers.Uic.{Uic}
 use Rattle.f11_store.specs.declared.files.FileId.{FileId}
 use Rattle.f11_header.specs.Fields.{file_number, file_sequence, owner_group, owner_member, protection, map_byte, segment}

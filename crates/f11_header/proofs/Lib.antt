@@ -1,3 +1,2 @@
 pub mod BlankLemmas
 pub mod AreaLemmas
-pub mod BytesMemory

@@ -1,6 +1,6 @@
 -- The fields of a file header (Files-11 On-Disk Structure Level 1, "File Header").
 use Rattle.std.specs.Prelude.{ℕ, ◌+◌, ◌-◌, ◌*◌, ◌/◌, min, List, slice_index, slice_range}
-use Rattle.f11_dev.specs.Block.{word}
+use Rattle.f11_bytes.specs.Words.{word}
 
 -- H.IDOF and H.MPOF: where the ident area and the map area begin, in words
 abbrev pub ident_offset : List ℕ → ℕ

@@ -1,6 +1,6 @@
 -- When a block is a file header (Files-11 On-Disk Structure Level 1, "File Header"; profile: which fields are tested).
 use Rattle.std.specs.Prelude.{◌≡◌, ◌≢◌, ℕ, ◌+◌, ◌*◌, ◌%◌, ◌≤◌, ◌==◌, List, replicate, if◌then◌else◌}
-use Rattle.f11_dev.specs.Block.{word, word_sum}
+use Rattle.f11_bytes.specs.Words.{word, word_sum}
 use Rattle.f11_header.specs.Fields.{ident_offset, map_offset, file_number, file_sequence, level, owner_group, owner_member, protection, characteristics, attributes, check_word, map_byte, segment, count_size, lbn_size, words_in_use, places}
 use Rattle.f11_store.specs.declared.callers.Uic.{Uic}
 use Rattle.f11_store.specs.declared.files.FileId.{FileId}

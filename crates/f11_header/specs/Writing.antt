@@ -1,6 +1,8 @@
 -- What writers leave of a header's block (Files-11 On-Disk Structure Level 1, "File Header").
-use Rattle.std.specs.Prelude.{ℕ, ◌+◌, ◌*◌, List, ◌++◌, take, drop}
-use Rattle.f11_dev.specs.Block.{with_word, word_sum, zero_block}
+use Rattle.std.specs.Prelude.{ℕ, ◌+◌, ◌*◌, List}
+use Rattle.f11_bytes.specs.Block.{zero_block}
+use Rattle.f11_bytes.specs.Words.{with_word, word_sum}
+use Rattle.f11_bytes.specs.Part.{with_bytes}
 use Rattle.f11_header.specs.Fields.{ident_offset, map_offset}
 use Rattle.f11_store.specs.declared.callers.Uic.{Uic}
 use Rattle.f11_store.specs.declared.files.FileId.{FileId}
@@ -27,15 +29,15 @@ with_characteristics b characteristics = with_word b 12 characteristics
 
 -- with these user attributes
 abbrev pub with_attributes : List ℕ → List ℕ → List ℕ
-with_attributes b attributes = take 14 b ++ (attributes ++ drop 46 b)
+with_attributes b attributes = with_bytes b 14 attributes
 
 -- with this ident area
 abbrev pub with_ident : List ℕ → List ℕ → List ℕ
-with_ident b ident = take (2 * ident_offset b) b ++ (ident ++ drop (2 * ident_offset b + 46) b)
+with_ident b ident = with_bytes b (2 * ident_offset b) ident
 
 -- with this map area
 abbrev pub with_map : List ℕ → List ℕ → List ℕ
-with_map b map = take (2 * map_offset b) b ++ (map ++ drop 510 b)
+with_map b map = with_bytes b (2 * map_offset b) map
 
 -- with the check word right
 abbrev pub sealed : List ℕ → List ℕ

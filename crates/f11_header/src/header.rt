@@ -5,7 +5,7 @@ use crate::fields::{
     ATTRIBUTES, CHARACTERISTICS, CHECK_WORD, IDENT_BYTES, IDENT_OFFSET, MAP_OFFSET, NUMBER, OWNER,
     PROTECTION, SEQUENCE,
 };
-use f11_dev::{Block, read_word};
+use f11_bytes::{Block, read_word};
 use f11_store::{FileId, Uic};
 
 /// A file header, read in the block that holds it, without a copy.
@@ -33,9 +33,10 @@ impl<'a> Header<'a> {
           volume = 0;
         } }
     {
+        let block = self.block;
         FileId {
-            number: read_word(self.block, NUMBER),
-            sequence: read_word(self.block, SEQUENCE),
+            number: read_word(block, NUMBER),
+            sequence: read_word(block, SEQUENCE),
             volume: 0,
         }
     }
@@ -57,14 +58,16 @@ impl<'a> Header<'a> {
     pub fn protection(&self) -> u16
         ensures { result ≡ protection (header_block self.now) }
     {
-        read_word(self.block, PROTECTION)
+        let block = self.block;
+        read_word(block, PROTECTION)
     }
 
     /// The characteristics (H.UCHA in the low byte, H.SCHA in the high one).
     pub fn characteristics(&self) -> u16
         ensures { result ≡ characteristics (header_block self.now) }
     {
-        read_word(self.block, CHARACTERISTICS)
+        let block = self.block;
+        read_word(block, CHARACTERISTICS)
     }
 
     /// The user attributes (H.UFAT).

@@ -3,13 +3,12 @@ ghost use Rattle.std.specs.Prelude.{◌≡◌, ◌+◌, ◌-◌, ◌*◌, ◌≤
 ghost use Rattle.std.specs.Borrow.{sem};
 ghost use Rattle.f11_header.specs.Writing.{with_id, with_owner, with_protection, with_characteristics, with_attributes, sealed};
 
-use crate::bytes::bytes_mut;
 use crate::fields::{
     ATTRIBUTES, CHARACTERISTICS, CHECK_WORD, IDENT_BYTES, IDENT_OFFSET, MAP_OFFSET, NUMBER, OWNER,
     PROTECTION, SEQUENCE,
 };
 use crate::whole::owner_word;
-use f11_dev::{Block, sum_words, write_word};
+use f11_bytes::{Block, bytes_mut, put_bytes, sum_words, write_word};
 use f11_store::{FileId, Uic};
 
 /// A file header, written in the block that holds it, without a copy. Each writer changes its field alone, and what is
@@ -93,7 +92,7 @@ impl<'a> HeaderMut<'a> {
         ensures block { written_block self.new ≡ with_attributes (written_block self.old) attributes.now }
         ensures same_reference { lent_name self.new ≡ lent_name self.old }
     {
-        put_attributes(self.block, attributes);
+        put_bytes(self.block, ATTRIBUTES, attributes);
     }
 
     /// Makes the check word right (H.CKSM).
@@ -104,11 +103,4 @@ impl<'a> HeaderMut<'a> {
         let sum = sum_words(self.block, CHECK_WORD / 2);
         write_word(self.block, CHECK_WORD, sum);
     }
-}
-
-/// Puts the user attributes in their place.
-fn put_attributes(block: &mut Block, attributes: &[u8; 32])
-    ensures { block.new ≡ with_attributes block.old attributes.now }
-{
-    block[ATTRIBUTES..ATTRIBUTES + 32].copy_from_slice(attributes);
 }

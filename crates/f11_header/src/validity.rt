@@ -1,6 +1,6 @@
 //! When a block is a valid file header.
 ghost use Rattle.std.specs.Prelude.{◌≡◌, ◌≢◌, ◌+◌, ◌*◌, ◌%◌, ◌≤◌, ◌↔◌, IsTrue, IsErrOf, IsOk};
-ghost use Rattle.f11_dev.specs.Block.{word_sum};
+ghost use Rattle.f11_bytes.specs.Words.{word_sum};
 ghost use Rattle.f11_header.specs.Fields.{ident_offset, map_offset, file_number, file_sequence, level, check_word, segment, count_size, lbn_size, words_in_use, places};
 ghost use Rattle.f11_header.specs.Header.{IsHeader, IsDead, ident_words};
 
@@ -8,7 +8,7 @@ use crate::fields::{
     CHECK_WORD, COUNT_SIZE, IDENT_OFFSET, IN_USE, LBN_SIZE, LEVEL, MAP_OFFSET, MOST, NUMBER,
     SEGMENT, SEQUENCE,
 };
-use f11_dev::{Block, read_word, sum_words};
+use f11_bytes::{Block, read_word, sum_words};
 use std::error::Error;
 use std::fmt;
 

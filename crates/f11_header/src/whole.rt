@@ -4,7 +4,7 @@ ghost use Rattle.f11_header.specs.Header.{IsHeader, IsDead, IsEmptyHeader};
 ghost use Rattle.f11_header.specs.Writing.{owner_word, formatted, blank_header, sealed, killed};
 
 use crate::fields::{CHECK_WORD, LEVEL, NUMBER, OWNER, PROTECTION, SEQUENCE};
-use f11_dev::{Block, write_word, zeros};
+use f11_bytes::{Block, write_word, zeros};
 use f11_store::{FileId, Uic};
 
 /// Makes a block an empty header of format 1, with 102 places for retrieval pointers and no link, that isn't sealed

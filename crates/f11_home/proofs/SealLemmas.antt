@@ -3,8 +3,8 @@ use Rattle.std.proofs.Common.{◌≡◌, ◌⊎◌, inl, inr, ⊎_elim, ℕ, ◌
 use Rattle.std.specs.Prelude.{slice_range}
 use Rattle.std.proofs.Math.ListN.{set}
 use Rattle.std.proofs.lemmas.List.{length-set, drop-set-lt, drop-set-add, take-set-le}
-use Rattle.f11_dev.specs.Block.{word, with_word, word_sum}
-use Rattle.f11_dev.proofs.BlockLemmas.{word-with_word, word-with_word_apart, word_sum-with_word}
+use Rattle.f11_bytes.specs.Words.{word, with_word, word_sum}
+use Rattle.f11_bytes.proofs.WordLemmas.{word-with_word, word-with_word_apart, word_sum-with_word}
 use Rattle.f11_home.specs.HomeBlock.{HasHomeFields, HasHomeSums, IsHomeBlock, with_first_sum, with_sums}
 
 -- bytes before the one that was put, or behind it

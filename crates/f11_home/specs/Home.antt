@@ -1,8 +1,7 @@
 -- The home block of an image (Files-11 On-Disk Structure Level 1, "Home Block"; profile: the search).
-use Rattle.std.specs.Prelude.{◌≡◌, ℕ, zero, suc, ◌+◌, ◌*◌, ◌/◌, ◌<◌, nat_le, if◌then◌else◌, List, length, Some, IsTrue}
-use Rattle.std.specs.List.{slice_get}
+use Rattle.std.specs.Prelude.{◌≡◌, ℕ, zero, suc, ◌+◌, ◌*◌, ◌/◌, ◌<◌, nat_le, if◌then◌else◌, List, length, IsTrue}
 use Rattle.f11_dev.specs.Disk.{Disk}
-use Rattle.f11_dev.specs.Image.{Image}
+use Rattle.f11_dev.specs.Image.{Image, image_block}
 use Rattle.f11_dev.specs.Looked.{Looked}
 use Rattle.f11_home.specs.HomeBlock.{IsHomeBlock, index_lbn, index_blocks, max_files, label}
 
@@ -16,13 +15,13 @@ abbrev pub candidates : ℕ → ℕ
 candidates blocks = if nat_le blocks 1 then 0 else (blocks + 255) / 256
 
 -- candidate k of the image is a valid home block
-pub record IsCandidate (image : Image) (k : ℕ) (b : List ℕ) : Type 0 where
-  pub stands : slice_get image (candidate k) ≡ Some b
-  pub valid : IsHomeBlock b (length image)
+pub record IsCandidate (image : Image) (k : ℕ) : Type 0 where
+  pub within : candidate k < length image
+  pub valid : IsHomeBlock (image_block image (candidate k)) (length image)
 
 -- none of the first n candidates is a valid home block
 abbrev pub NoneBelow : Image → ℕ → Type 0
-NoneBelow image n = (k : ℕ) (b : List ℕ) → k < n → ¬ IsCandidate image k b
+NoneBelow image n = (k : ℕ) → k < n → ¬ IsCandidate image k
 
 -- what is read off a home block, and its place
 pub record HomeFields : Type 0 where
@@ -38,10 +37,9 @@ fields_of lbn b = record { lbn = lbn; index_lbn = index_lbn b; index_blocks = in
 -- the home block of an image is its first candidate that is a valid home block
 pub record IsHomeOf (image : Image) (home : HomeFields) : Type 0 where
   pub place : ℕ
-  pub block : List ℕ
-  pub found : IsCandidate image place block
+  pub found : IsCandidate image place
   pub first : NoneBelow image place
-  pub fields : home ≡ fields_of (candidate place) block
+  pub fields : home ≡ fields_of (candidate place) (image_block image (candidate place))
 
 -- The fields are those of a valid home block, at a place below the end of a device of so many blocks.
 pub record IsSound (home : HomeFields) (blocks : ℕ) : Type 0 where
@@ -52,7 +50,7 @@ pub record IsSound (home : HomeFields) (blocks : ℕ) : Type 0 where
 
 -- an image has no home block where no candidate is valid
 abbrev pub HasNoHome : Image → Type 0
-HasNoHome image = (k : ℕ) (b : List ℕ) → ¬ IsCandidate image k b
+HasNoHome image = (k : ℕ) → ¬ IsCandidate image k
 
 -- The home block was found. It is the image's where the device is honest, its fields are sound on any device, and it was
 -- looked for by at most one transfer a candidate up to it.

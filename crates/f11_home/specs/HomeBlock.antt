@@ -1,6 +1,6 @@
 -- The home block (Files-11 On-Disk Structure Level 1, "Home Block").
-use Rattle.std.specs.Prelude.{◌≡◌, ◌⊎◌, ℕ, ◌+◌, ◌*◌, ◌<◌, ◌≤◌, List, slice_range, codes}
-use Rattle.f11_dev.specs.Block.{word, with_word, word_sum}
+use Rattle.std.specs.Prelude.{◌≡◌, ◌⊎◌, ℕ, ◌+◌, ◌<◌, ◌≤◌, List, slice_range, codes}
+use Rattle.f11_bytes.specs.Words.{word, long, with_word, word_sum}
 
 -- H.IBSZ: how many blocks the index file's bitmap has
 abbrev pub index_blocks : List ℕ → ℕ
@@ -8,7 +8,7 @@ index_blocks b = word b 0
 
 -- H.IBLB: the LBN of the first of them, in two words, the high one first
 abbrev pub index_lbn : List ℕ → ℕ
-index_lbn b = word b 2 * 65536 + word b 4
+index_lbn b = long b 2
 
 -- H.FMAX: how many files the volume may have
 abbrev pub max_files : List ℕ → ℕ

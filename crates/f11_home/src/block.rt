@@ -1,10 +1,10 @@
 //! When a home block is valid, and how its check words are made right.
 ghost use Rattle.std.specs.Prelude.{◌≡◌, ◌⊎◌, ◌+◌, ◌<◌, ◌≤◌, ◌≢◌, ℕ, ◌↔◌, IsTrue, slice_index, slice_range, codes};
-ghost use Rattle.f11_dev.specs.Block.{word};
+ghost use Rattle.f11_bytes.specs.Words.{word};
 ghost use Rattle.f11_home.specs.HomeBlock.{HasHomeSums, IsHomeBlock, index_blocks, index_lbn, with_sums};
 
 use crate::fields::{CLUSTER, FIRST_SUM, FORMAT, INDEX_BLOCKS, INDEX_LBN, LEVEL, SECOND_SUM};
-use f11_dev::{Block, read_word, sum_words, write_word};
+use f11_bytes::{Block, read_long, read_word, sum_words, write_word};
 
 /// Whether the block is a valid home block of a device of so many blocks.
 pub fn is_home_block(block: &Block, blocks: u32) -> bool
@@ -47,9 +47,7 @@ fn has_sums(block: &Block) -> bool
 pub fn read_index_lbn(block: &Block) -> u32
     ensures { result ≡ index_lbn block.now }
 {
-    let high = read_word(block, INDEX_LBN);
-    let low = read_word(block, INDEX_LBN + 2);
-    u32::from(high) * 65536 + u32::from(low)
+    read_long(block, INDEX_LBN)
 }
 
 /// Makes both check words of a home block right, H.CHK1 and then H.CHK2, and changes nothing else.
@@ -59,6 +57,8 @@ pub fn seal(block: &mut Block)
     ensures others { (i : ℕ) → i ≢ 58 → i ≢ 59 → i ≢ 510 → i ≢ 511
         → slice_index block.new i ≡ slice_index block.old i }
 {
-    write_word(block, FIRST_SUM, sum_words(block, FIRST_SUM / 2));
-    write_word(block, SECOND_SUM, sum_words(block, SECOND_SUM / 2));
+    let first = sum_words(block, FIRST_SUM / 2);
+    write_word(block, FIRST_SUM, first);
+    let second = sum_words(block, SECOND_SUM / 2);
+    write_word(block, SECOND_SUM, second);
 }

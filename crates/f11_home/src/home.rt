@@ -5,7 +5,8 @@ ghost use Rattle.f11_home.specs.declared.home.HomeFault.TheVariants.{DeviceFault
 
 use crate::block::{is_home_block, read_index_lbn};
 use crate::fields::{INDEX_BLOCKS, LABEL, MAX_FILES};
-use f11_dev::{BLOCK_SIZE, Block, Device, DeviceFault, read_word};
+use f11_bytes::{BLOCK_SIZE, Block, read_word};
+use f11_dev::{Device, DeviceFault};
 use std::error::Error;
 use std::fmt;
 use std::marker::Model;

@@ -6,8 +6,8 @@ use Rattle.std.proofs.Math.ListN.{set}
 use Rattle.std.proofs.lemmas.Grind.{same_number_lists}
 use Rattle.std.proofs.lemmas.List.{length-set, length-take, get_or-take, get_or-set_same, get_or-set_other, take_all}
 use Rattle.std.proofs.lemmas.List.FromFn.{fill_by_all, get_or-map-range_with_len, map-range_with_len_more}
-use Rattle.f11_dev.specs.Block.{word, with_word}
-use Rattle.f11_dev.proofs.BlockLemmas.{slice_index-with_word, word-with_word}
+use Rattle.f11_bytes.specs.Words.{word, with_word}
+use Rattle.f11_bytes.proofs.WordLemmas.{slice_index-with_word, word-with_word}
 use Rattle.f11_header.proofs.AreaLemmas.{IsHeader-with_map}
 use Rattle.f11_map.specs.MapArea.{IsMapArea, run_at, runs_of, words_in_use, most_words, places}
 use Rattle.f11_map.specs.MapWriting.{with_run, with_words_in_use, WritesPointers, StaysHeader}

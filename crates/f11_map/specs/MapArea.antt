@@ -2,7 +2,7 @@
 -- Area" and "Retrieval Pointers").
 use Rattle.std.specs.Prelude.{◌≡◌, ℕ, ◌+◌, ◌-◌, ◌*◌, ◌/◌, ◌%◌, ◌<◌, ◌≤◌, min, List, [], ◌∷◌, ◌++◌, length, take, map, slice_index, slice_index_or}
 use Rattle.std.specs.List.{range_with_len}
-use Rattle.f11_dev.specs.Block.{word}
+use Rattle.f11_bytes.specs.Words.{word}
 use Rattle.f11_store.specs.declared.files.FileId.{FileId}
 
 -- M.ESQN: the segment number

@@ -1,7 +1,7 @@
 -- What writing retrieval pointers leaves of a map area (Files-11 On-Disk Structure Level 1, "Map Area" and "Retrieval
 -- Pointers"; how pointers join: profile).
 use Rattle.std.specs.Prelude.{◌≡◌, ℕ, ◌+◌, ◌-◌, ◌*◌, ◌/◌, ◌%◌, ◌≤◌, ◌==◌, nat_le, Bool, false, ◌&&◌, if◌then◌else◌, List, [], ◌∷◌, length, take, drop, slice_index, slice_set}
-use Rattle.f11_dev.specs.Block.{with_word}
+use Rattle.f11_bytes.specs.Words.{with_word}
 use Rattle.f11_header.specs.Fields.{map_area}
 use Rattle.f11_header.specs.Header.{IsHeader}
 use Rattle.f11_header.specs.Writing.{sealed, with_map}

@@ -1,13 +1,14 @@
 //! The retrieval pointers of a header.
 ghost use Rattle.std.specs.Prelude.{◌≡◌, ◌<◌, ◌≤◌, ◌+◌, ◌-◌, ◌^◌, length, Some, MatchOption, IfSome};
 ghost use Rattle.std.specs.List.{slice_get};
-ghost use Rattle.f11_dev.specs.Block.{word};
+ghost use Rattle.f11_bytes.specs.Words.{word};
 ghost use Rattle.f11_header.specs.Fields.{file_number, map_area};
 ghost use Rattle.f11_header.specs.Header.{IsHeader};
 ghost use Rattle.f11_map.specs.MapArea.{IsMapArea, LiesIn, segment, link, runs_of, blocks_of, places};
 ghost use Rattle.f11_map.specs.MapWriting.{joins_last};
 
 use crate::fields::{IN_USE, LINK_NUMBER, LINK_SEQUENCE, LINK_VOLUME, MOST, POINTERS, SEGMENT};
+use f11_bytes::read_word;
 use f11_header::Header;
 use f11_store::FileId;
 
@@ -50,8 +51,8 @@ impl<'a> Map<'a> {
         ensures { result ≡ link (area_of self.now) }
     {
         FileId {
-            number: word(self.area, LINK_NUMBER),
-            sequence: word(self.area, LINK_SEQUENCE),
+            number: read_word(self.area, LINK_NUMBER),
+            sequence: read_word(self.area, LINK_SEQUENCE),
             volume: u16::from(self.area[LINK_VOLUME]),
         }
     }
@@ -72,7 +73,7 @@ impl<'a> Map<'a> {
         ensures bounds { (result.0 < 2 ^ 24) × (0 < result.1) × (result.1 ≤ 256) }
     {
         let at = POINTERS + 4 * i;
-        let lbn = u32::from(self.area[at]) * 65536 + u32::from(word(self.area, at + 2));
+        let lbn = u32::from(self.area[at]) * 65536 + u32::from(read_word(self.area, at + 2));
         (lbn, u32::from(self.area[at + 1]) + 1)
     }
 
@@ -134,12 +135,4 @@ impl<'a> Map<'a> {
         let (first, blocks) = self.run(pointers - 1);
         first + blocks == lbn && blocks + count <= 256
     }
-}
-
-/// The word at a byte of the area, the low byte first.
-fn word(area: &[u8], at: usize) -> u16
-    requires { at + 1 < length area.now }
-    ensures { result ≡ word area.now at }
-{
-    u16::from_le_bytes([area[at], area[at + 1]])
 }

@@ -1,10 +1,11 @@
 //! Bytes of a map area that are written.
 ghost use Rattle.std.specs.Prelude.{◌≡◌, ◌+◌, ◌*◌, ◌<◌, ◌≤◌, ◌^◌, ◌++◌, [], ◌∷◌, length, take};
-ghost use Rattle.f11_dev.specs.Block.{with_word};
+ghost use Rattle.f11_bytes.specs.Words.{with_word};
 ghost use Rattle.f11_map.specs.MapArea.{IsMapArea, runs_of, places};
 ghost use Rattle.f11_map.specs.MapWriting.{with_run, with_words_in_use, WritesPointers, WritesLink, StaysHeader};
 
 use crate::fields::{IN_USE, LINK_NUMBER, LINK_SEQUENCE, LINK_VOLUME, POINTERS};
+use f11_bytes::write_word;
 use f11_store::FileId;
 
 /// Makes pointer `i` the last one, and lets it name `count` blocks, 1 to 256, from LBN `lbn` on, below 16,777,216.
@@ -45,8 +46,8 @@ pub fn put_link(area: &mut [u8], id: FileId)
     ensures header { StaysHeader area.old area.new }
 {
     area[LINK_VOLUME] = 0;
-    put_word(area, LINK_NUMBER, id.number);
-    put_word(area, LINK_SEQUENCE, id.sequence);
+    write_word(area, LINK_NUMBER, id.number);
+    write_word(area, LINK_SEQUENCE, id.sequence);
 }
 
 /// Writes retrieval pointer `i`.
@@ -59,7 +60,7 @@ fn put_run(area: &mut [u8], i: usize, lbn: u32, count: u32)
     let at = POINTERS + 4 * i;
     area[at] = (lbn / 65536) as u8;
     area[at + 1] = (count - 1) as u8;
-    put_word(area, at + 2, (lbn % 65536) as u16);
+    write_word(area, at + 2, (lbn % 65536) as u16);
 }
 
 /// Writes how many pointers are in use, 127 at most (M.USE).
@@ -69,13 +70,4 @@ fn put_words_in_use(area: &mut [u8], pointers: usize)
     ensures { area.new ≡ with_words_in_use area.old (2 * pointers) }
 {
     area[IN_USE] = (2 * pointers) as u8;
-}
-
-/// Writes the word at a byte of the area, the low byte first.
-fn put_word(area: &mut [u8], at: usize, value: u16)
-    requires { at + 1 < length area.old }
-    ensures { area.new ≡ with_word area.old at value }
-{
-    area[at] = (value % 256) as u8;
-    area[at + 1] = (value / 256) as u8;
 }

@@ -1,25 +1,11 @@
--- Octal digits read one after another, and the two numbers of a user's code.
-use Rattle.std.proofs.Common.{◌≡◌, ◌≢◌, Option, MatchOption, Bor, subst, ℕ, suc, zero, ◌*◌, ◌+◌, ◌<◌, ◌≤◌, List, [], ◌∷◌, length, get_or, take, arith}
+-- The two numbers of a user's code.
+use Rattle.std.proofs.Common.{◌≡◌, ◌≢◌, Option, MatchOption, Bor, subst, ℕ, ◌<◌, List, length, get_or, arith}
 use Rattle.std.specs.Char.{digit_value}
-use Rattle.std.specs.Str.Parse.{digits_value, digits_value_after}
 use Rattle.std.proofs.lemmas.Str.Pattern.{IsSplitOnceResult, split_after}
-use Rattle.f11_rad50.proofs.Places.{AllDigits-at}
+use Rattle.f11_bytes.specs.Octal.{IsOctal}
+use Rattle.f11_bytes.proofs.OctalLemmas.{AllDigits-at}
 use Rattle.f11_store.specs.declared.callers.Uic.{Uic}
-use Rattle.f11_pip.specs.Octal.{IsOctal, SpellsUic}
-
-digits_value_after-ge : (n : ℕ) (ds : List ℕ) → n ≤ digits_value_after 8 n ds
-digits_value_after-ge n [] = omega arith
-digits_value_after-ge n (d ∷ ds) = let more = digits_value_after-ge (n * 8 + digit_value d) ds in omega arith
-
-digits_value_after-take : (n : ℕ) (ds : List ℕ) (i : ℕ) → digits_value_after 8 n (take i ds) ≤ digits_value_after 8 n ds
-digits_value_after-take n [] zero = omega arith
-digits_value_after-take n [] (suc i) = omega arith
-digits_value_after-take n (d ∷ ds) zero = digits_value_after-ge n (d ∷ ds)
-digits_value_after-take n (d ∷ ds) (suc i) = digits_value_after-take (n * 8 + digit_value d) ds i
-
--- the first digits have no greater value than all of them
-pub digits_value-take : (ds : List ℕ) (i : ℕ) → digits_value 8 (take i ds) ≤ digits_value 8 ds
-digits_value-take ds i = digits_value_after-take 0 ds i
+use Rattle.f11_pip.specs.Octal.{SpellsUic}
 
 -- a comma is no octal digit
 no_comma : (ds : List ℕ) (most : ℕ) → IsOctal ds most → (i : ℕ) → i < length ds → get_or ds i 0 ≢ 44

@@ -1,13 +1,8 @@
 -- Octal numbers among the words, users' codes and protection words (profile).
-use Rattle.std.specs.Prelude.{◌≡◌, ◌<◌, ◌≤◌, ℕ, List, ◌∷◌, ◌++◌, length}
-use Rattle.std.specs.Str.Parse.{AllDigits, digits_value}
+use Rattle.std.specs.Prelude.{◌≡◌, ◌≤◌, ℕ, List, ◌∷◌, ◌++◌, length}
+use Rattle.std.specs.Str.Parse.{digits_value}
+use Rattle.f11_bytes.specs.Octal.{IsOctal}
 use Rattle.f11_store.specs.declared.callers.Uic.{Uic}
-
--- a number of at most so much, in one octal digit or more
-pub record IsOctal (digits : List ℕ) (most : ℕ) : Type 0 where
-  pub octal_digits : AllDigits 8 digits
-  pub some_digit : 0 < length digits
-  pub at_most : digits_value 8 digits ≤ most
 
 -- A user's code is spelled as its group, a comma (44) and its member, each in octal and at most 377, which is 255.
 pub record SpellsUic (text : List ℕ) (uic : Uic) : Type 0 where

@@ -1,15 +1,17 @@
--- A separator's place in a text, pieces put one after another, and digits read one after another.
-use Rattle.std.proofs.Common.{◌≡◌, ◌≢◌, ℕ, suc, ◌+◌, ◌<◌, ◌≤◌, true, false, not, List, [], ◌∷◌, ◌++◌, length, get_or, take, drop, All, Some, position, nat_lt, ◌==◌, arith, refl, sym, ◌∙◌, ap, append_assoc, length-append, length-take, take-append-drop, drop-cons, drop-drop, add-one, zero, lt_of_lt_of_le}
-use Rattle.std.specs.Char.{digit_value}
+-- A separator's place in a text, pieces put one after another, and the digits of a version.
+use Rattle.std.proofs.Common.{◌≡◌, ◌≢◌, ℕ, ◌+◌, ◌<◌, ◌≤◌, true, false, not, List, [], ◌∷◌, ◌++◌, length, get_or, take, drop, All, Some, position, nat_lt, ◌==◌, arith, refl, sym, ◌∙◌, ap, length-append, take-append-drop, drop-cons, drop-drop, add-one, lt_of_lt_of_le}
 use Rattle.std.specs.List.{position_or_len}
-use Rattle.std.specs.Str.Parse.{AllDigits, digits_value}
+use Rattle.std.specs.Str.Parse.{digits_value}
 use Rattle.std.proofs.lemmas.Bool.Decides.{nat_tests}
 use Rattle.std.proofs.lemmas.List.Elements.{All-head, All-tail}
 use Rattle.std.proofs.lemmas.List.Quantifiers.{position-Some}
-use Rattle.std.proofs.lemmas.Slice.{drop-append-drop}
 use Rattle.std.proofs.lemmas.Int.Digits.{digits_value-lt}
 use Rattle.std.proofs.Math.Nat.{pow-le-pow_right}
+use Rattle.f11_bytes.specs.Octal.{IsOctal}
+use Rattle.f11_bytes.specs.Part.{with_bytes}
+use Rattle.f11_bytes.proofs.PartLemmas.{with_bytes-append}
 use Rattle.f11_rad50.specs.Buffer.{IsPut}
+use Rattle.f11_rad50.specs.Name.{IsVersion}
 use Rattle.std.proofs.Math.Seq.{take-append_seam, drop-append_seam}
 
 -- the separator's place is the length of what stands before it
@@ -44,24 +46,15 @@ split_at_front sep front back text i e f =
 
 -- a piece put after another one
 pub IsPut-append : (old mid new p q : List ℕ) (at last next : ℕ) → at ≤ length old → IsPut old mid p at last → IsPut mid new q last next → IsPut old new (p ++ q) at next
-IsPut-append old mid new p q at last next fits a b =
-    let begun : length (take at old ++ p) ≡ last = omega (arith, length-append (take at old) p, length-take at old) in
-    let mid_is : mid ≡ (take at old ++ p) ++ drop last old = a.written ∙ sym (append_assoc (take at old) p (drop last old)) in
-    let front : take last mid ≡ take at old ++ p =
-    ap (take last) mid_is ∙ ap (λ k. take k ((take at old ++ p) ++ drop last old)) (sym begun) ∙ take-append_seam (take at old ++ p) _ in
-    let back : drop next mid ≡ drop next old = ap (drop next) mid_is ∙ drop-append-drop last old (take at old ++ p) next (omega arith) begun in
-    record {
-      next_is = omega (arith, length-append p q);
-      written = b.written ∙ rw (front, back) (simp append_assoc);
-    }
+IsPut-append old mid new p q at last next fits a b = record {
+  next_is = omega (arith, length-append p q, a.next_is, b.next_is);
+  written = b.written ∙ ap (λ m. with_bytes m last q) a.written ∙ ap (λ k. with_bytes (with_bytes old at p) k q) a.next_is ∙ with_bytes-append old at p q fits;
+}
 
--- each digit of a version is below eight
-pub AllDigits-at : (ds : List ℕ) (i : ℕ) → AllDigits 8 ds → i < length ds → digit_value (get_or ds i 0) < 8
-AllDigits-at [] i h l = absurd (omega (arith, l))
-AllDigits-at (d ∷ ds) zero h l = h.0
-AllDigits-at (d ∷ ds) (suc i) h l = AllDigits-at ds i h.1 (omega (arith, l))
-
--- up to four digits have a value below 4096
-pub value_of_four : (ds : List ℕ) (i : ℕ) → AllDigits 8 (take i ds) → i < 5 → digits_value 8 (take i ds) < 4096
-value_of_four ds i h small =
-    lt_of_lt_of_le (digits_value-lt 8 (take i ds) h) (pow-le-pow_right {n = 8} (omega arith) {i = length (take i ds)} {j = 4} (omega (arith, length-take i ds)))
+-- a version has up to five digits, so its value is below 32768
+pub IsOctal-version : (ds : List ℕ) → IsVersion ds → IsOctal ds 32767
+IsOctal-version ds is =
+    let few : length ds ≤ 5 = is.five_digits in
+    let below : digits_value 8 ds < 32768 =
+    lt_of_lt_of_le (digits_value-lt 8 ds is.octal_digits) (pow-le-pow_right {n = 8} (omega arith) {i = length ds} {j = 5} few) in
+    record { octal_digits = is.octal_digits; some_digit = is.some_digit; at_most = omega arith }

@@ -1,7 +1,8 @@
 -- Bytes put into a buffer.
-use Rattle.std.specs.Prelude.{◌≡◌, ℕ, ◌+◌, List, ◌++◌, length, take, drop}
+use Rattle.std.specs.Prelude.{◌≡◌, ℕ, ◌+◌, List, length}
+use Rattle.f11_bytes.specs.Part.{with_bytes}
 
--- The new buffer is the old one with a piece from one place up to another.
+-- The new buffer is the old one with a piece from one place on, up to another.
 pub record IsPut (old new piece : List ℕ) (at next : ℕ) : Type 0 where
   pub next_is : next ≡ at + length piece
-  pub written : new ≡ take at old ++ (piece ++ drop next old)
+  pub written : new ≡ with_bytes old at piece

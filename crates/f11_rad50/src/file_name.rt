@@ -2,8 +2,9 @@ ghost use Rattle.std.specs.Prelude.{◌≡◌, ◌↔◌, ℕ, ◌≤◌, List, 
 ghost use Rattle.f11_rad50.specs.Radix50.{characters_of, radix50};
 ghost use Rattle.f11_rad50.specs.Name.{IsProper, words_of, unpadded, name_of, type_of, IsName, name_text, Spells};
 
-use crate::errors::{BadName, NoMemory};
+use crate::errors::BadName;
 use crate::{pieces, radix50};
+use f11_bytes::NoMemory;
 use std::alloc::Global;
 use std::fmt;
 use std::marker::Model;
@@ -86,7 +87,7 @@ impl Name {
     {
         let (name, rest) = pieces::split_at_first(text, b'.')?;
         let (kind, digits) = pieces::split_at_first(rest, b';')?;
-        Name::of_parts(name, kind, pieces::octal_value(digits)?)
+        Name::of_parts(name, kind, pieces::read_version(digits)?)
     }
 
     /// Reads `NAME.TYP;VERSION`: up to nine characters, a dot, up to three characters, a semicolon and

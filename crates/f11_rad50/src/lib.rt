@@ -2,7 +2,7 @@
 //!
 //! [`encode`] and [`decode`] turn three characters into a word and back. A [`Name`] is five words (three
 //! of the name, one of the type, the version) whose text is `NAME.TYP;VERSION`; every value of the type
-//! is the name of a file. The crate stands on `std` alone.
+//! is the name of a file. The crate stands on [`f11_bytes`] for bytes that are put and octal digits.
 #![tactic(auto)]
 
 mod errors;
@@ -10,6 +10,7 @@ mod file_name;
 mod pieces;
 mod radix50;
 
-pub use errors::{BadCharacter, BadName, NoMemory};
+pub use errors::{BadCharacter, BadName};
+pub use f11_bytes::NoMemory;
 pub use file_name::Name;
 pub use radix50::{decode, encode};

@@ -1,10 +1,11 @@
 // Pieces of a text: what stands before and after a separator, a version, and bytes put into a buffer.
 ghost use Rattle.std.specs.Prelude.{◌≡◌, ◌≢◌, ℕ, ◌+◌, ◌<◌, ◌==◌, ◌≤◌, ◌↔◌, List, ◌∷◌, ◌++◌, length, take, drop, All, IsTrue, IfSome, IsSomeAnd, SomeIff, position};
 ghost use Rattle.std.specs.List.{AllPass};
-ghost use Rattle.std.specs.Char.{digit_value};
 ghost use Rattle.std.specs.Str.Parse.{digits_value};
 ghost use Rattle.f11_rad50.specs.Buffer.{IsPut};
 ghost use Rattle.f11_rad50.specs.Name.{is_name_character, unpadded, octal, IsVersion};
+
+use f11_bytes::{octal_value, put_bytes};
 
 // The place of the first such byte.
 fn position_of(text: &[u8], byte: u8) -> Option<usize>
@@ -51,28 +52,14 @@ pub(crate) fn is_part(characters: &[u8], most: usize) -> bool
     characters.len() <= most && characters.iter().all(|c| is_name_character(*c))
 }
 
-// The value of an octal digit.
-fn octal_digit(digit: u8) -> Option<u16>
-    ensures { SomeIff result (digit_value digit < 8) (digit_value digit) }
-{
-    match digit {
-        b'0'..=b'7' => Some(u16::from(digit - b'0')),
-        _ => None,
-    }
-}
-
-// The value of one to five octal digits.
-pub(crate) fn octal_value(digits: &[u8]) -> Option<u16>
+// The version in one to five octal digits.
+pub(crate) fn read_version(digits: &[u8]) -> Option<u16>
     ensures { SomeIff result (IsVersion digits.now) (digits_value 8 digits.now) }
 {
-    if digits.is_empty() || digits.len() > 5 {
+    if digits.len() > 5 {
         return None;
     }
-    let mut value: u16 = 0;
-    for digit in digits {
-        value = value * 8 + octal_digit(*digit)?;
-    }
-    Some(value)
+    octal_value(digits, 0o77777)
 }
 
 // Puts a piece into a buffer at a place, and gives the place after it.
@@ -80,9 +67,8 @@ pub(crate) fn put(into: &mut [u8; 19], at: usize, piece: &[u8]) -> usize
     requires { at + length piece.now ≤ 19 }
     ensures { IsPut into.old into.new piece.now at result }
 {
-    let end = at + piece.len();
-    into[at..end].copy_from_slice(piece);
-    end
+    put_bytes(into, at, piece);
+    at + piece.len()
 }
 
 // Puts a number in octal into a buffer at a place, and gives the place after it; 0 has no digits.

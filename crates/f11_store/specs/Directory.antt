@@ -1,14 +1,17 @@
 -- Directories of the plain store (Files-11 On-Disk Structure Level 1, directories).
 -- A section in parentheses is one of the Files-11 On-Disk Structure Level 1 specification; 'profile' is a rule of this project.
-use Rattle.std.specs.Prelude.{ℕ, ◌+◌, ◌*◌, ◌/◌, ◌%◌, ◌==◌, ◌&&◌, nat_eq, nat_le, Bool, not, List, [], ◌∷◌, ◌++◌, length, map, take, drop, Option, unwrap_or, find, position, is_none, slice_index, slice_index_or, slice_set, replicate}
+use Rattle.std.specs.Prelude.{ℕ, ◌+◌, ◌*◌, ◌/◌, ◌%◌, ◌==◌, ◌&&◌, nat_eq, nat_le, Bool, not, List, [], ◌∷◌, ◌++◌, map, take, drop, Option, unwrap_or, find, position, is_none, slice_index, slice_index_or, slice_set, replicate}
 use Rattle.std.specs.List.{range_with_len, flat_map, list_any}
 use lib.Pointwise.{pointwise}
 use Rattle.f11_store.specs.declared.files.FileId.{FileId}
-use Rattle.f11_store.specs.File.{File, length_of, word_at, end_of}
+pub use Rattle.f11_bytes.specs.Words.{word_bytes, long_bytes}
+pub use Rattle.f11_bytes.specs.Part.{with_bytes}
+use Rattle.f11_bytes.specs.Words.{word}
+use Rattle.f11_store.specs.File.{File, length_of, end_of}
 
 -- a directory: ident type DIR (6778 in Radix-50), record type 1, record size 16 (directories)
 unfoldable pub is_directory : File → Bool
-is_directory f = (word_at f.ident 6 == 6778) && (slice_index f.attr 0 == 1) && (word_at f.attr 2 == 16)
+is_directory f = (word f.ident 6 == 6778) && (slice_index f.attr 0 == 1) && (word f.attr 2 == 16)
 
 -- the 16 bytes of a record in a block
 abbrev pub record_in : List ℕ → ℕ → List ℕ
@@ -28,15 +31,15 @@ entries_of f = map (record_at f.blocks) (range_with_len 0 (entry_count f))
 
 -- the identification in a record (directories)
 abbrev pub record_id : List ℕ → FileId
-record_id r = record { number = word_at r 0; sequence = word_at r 2; volume = word_at r 4 }
+record_id r = record { number = word r 0; sequence = word r 2; volume = word r 4 }
 
 -- the five words of a record's name: three of the name, type, version (directories)
 abbrev pub record_name : List ℕ → List ℕ
-record_name r = word_at r 6 ∷ word_at r 8 ∷ word_at r 10 ∷ word_at r 12 ∷ word_at r 14 ∷ []
+record_name r = word r 6 ∷ word r 8 ∷ word r 10 ∷ word r 12 ∷ word r 14 ∷ []
 
 -- an empty record has the file number 0, whatever its other bytes (directories)
 abbrev pub is_empty : List ℕ → Bool
-is_empty r = word_at r 0 == 0
+is_empty r = word r 0 == 0
 
 -- the record isn't empty and has the name
 unfoldable pub has_name : List ℕ → List ℕ → Bool
@@ -62,14 +65,6 @@ index_of_empty f = position is_empty (entries_of f)
 abbrev pub needs_block : File → Bool
 needs_block f = is_none (index_of_empty f) && nat_le (512 * length_of f) (16 * entry_count f)
 
--- the bytes of a word: low byte first
-abbrev pub word_bytes : ℕ → List ℕ
-word_bytes w = w % 256 ∷ w / 256 ∷ []
-
--- the bytes of a number of two words: high word first
-abbrev pub long_bytes : ℕ → List ℕ
-long_bytes n = word_bytes (n / 65536) ++ word_bytes (n % 65536)
-
 -- the record of a file under a name (directories)
 unfoldable pub record_bytes : FileId → List ℕ → List ℕ
 record_bytes id name = flat_map word_bytes (id.number ∷ id.sequence ∷ id.volume ∷ name)
@@ -77,10 +72,6 @@ record_bytes id name = flat_map word_bytes (id.number ∷ id.sequence ∷ id.vol
 -- an empty record
 abbrev pub empty_record : List ℕ
 empty_record = replicate 16 0
-
--- the bytes of a block with those at a place replaced
-abbrev pub with_bytes : List ℕ → ℕ → List ℕ → List ℕ
-with_bytes block place bytes = take place block ++ (bytes ++ drop (place + length bytes) block)
 
 -- the blocks with record i replaced
 unfoldable pub with_record : List (List ℕ) → ℕ → List ℕ → List (List ℕ)

@@ -1,7 +1,9 @@
 -- A file of the plain store, and how far its bytes go.
 -- A section in parentheses is one of the Files-11 On-Disk Structure Level 1 specification; 'profile' is a rule of this project.
-use Rattle.std.specs.Prelude.{ℕ, ◌+◌, ◌-◌, ◌*◌, ◌/◌, ◌==◌, Bool, List, [], length, min, slice_index, bit_and, bit_or, if◌then◌else◌, replicate}
+use Rattle.std.specs.Prelude.{ℕ, ◌+◌, ◌-◌, ◌*◌, ◌/◌, ◌==◌, Bool, List, [], length, min, bit_and, bit_or, if◌then◌else◌, replicate}
 use Rattle.std.specs.Int.{bit_at}
+unfoldable pub use Rattle.f11_bytes.specs.Block.{zero_block}
+use Rattle.f11_bytes.specs.Words.{word, long}
 use Rattle.f11_store.specs.declared.callers.Uic.{Uic}
 
 -- a file, by what its headers say of it (file header)
@@ -44,25 +46,13 @@ without_contiguous c = bit_and c 65407
 abbrev pub need : ℕ → ℕ → ℕ
 need room n = (n - room + 101) / 102
 
--- the word at a byte: low byte first
-abbrev pub word_at : List ℕ → ℕ → ℕ
-word_at bytes i = slice_index bytes i + 256 * slice_index bytes (i + 1)
-
--- the two words at a byte: high word first
-abbrev pub long_at : List ℕ → ℕ → ℕ
-long_at bytes i = 65536 * word_at bytes i + word_at bytes (i + 2)
-
 -- the end in bytes that F.EFBK (byte 8) and F.FFBY (byte 12) state (file attributes)
 unfoldable pub stated_end : List ℕ → ℕ
-stated_end attr = if long_at attr 8 == 0 then 0 else (long_at attr 8 - 1) * 512 + word_at attr 12
+stated_end attr = if long attr 8 == 0 then 0 else (long attr 8 - 1) * 512 + word attr 12
 
 -- the end in bytes: as stated, but no further than the allocation (profile)
 abbrev pub end_of : File → ℕ
 end_of f = min (stated_end f.attr) (512 * length_of f)
-
--- a block of zeros
-unfoldable pub zero_block : List ℕ
-zero_block = replicate 512 0
 
 -- n blocks of zeros
 unfoldable pub zero_blocks : ℕ → List (List ℕ)

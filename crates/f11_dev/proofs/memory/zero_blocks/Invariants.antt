@@ -1,5 +1,5 @@
 use Rattle.std.proofs.Common.{◌≡◌, replicate}
-use Rattle.f11_dev.specs.Block.{zero_block}
+use Rattle.f11_bytes.specs.Block.{zero_block}
 use Rattle.f11_dev.proofs.memory.zero_blocks.Given as goal
 
 abbrev pub invariant-loop : goal.invariant-loop

@@ -1,5 +1,5 @@
 use Rattle.std.proofs.Common.{◌*◌, ap, ◌∙◌}
-use Rattle.f11_store.specs.Directory.{with_bytes}
+use Rattle.f11_bytes.specs.Part.{with_bytes}
 use Rattle.f11_dir.specs.Records.{record_of_bytes}
 use Rattle.f11_dir.proofs.RecordWords.{record_bytes-words, record_of_bytes-record_bytes}
 use Rattle.f11_dir.proofs.edit.put.Goals as goal

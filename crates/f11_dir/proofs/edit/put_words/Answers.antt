@@ -1,10 +1,11 @@
 use Rattle.std.proofs.Common.{◌≡◌, ◌+◌, ◌*◌, get_or, length, take, ap, ◌∙◌, arith}
 use Rattle.std.specs.List.{flat_map}
 use Rattle.std.proofs.lemmas.List.{length-take-le}
-use Rattle.f11_dev.specs.Block.{with_word}
-use Rattle.f11_store.specs.Directory.{record_in, word_bytes}
+use Rattle.f11_bytes.specs.Words.{with_word}
+use Rattle.f11_bytes.specs.Words.{word_bytes}
+use Rattle.f11_store.specs.Directory.{record_in}
 use Rattle.f11_store.proofs.RecordLemmas.{record_in-other}
-use Rattle.f11_dir.proofs.RecordWords.{with_bytes-more, length-words}
+use Rattle.f11_bytes.proofs.PartLemmas.{with_bytes-more, length-words}
 use Rattle.f11_dir.proofs.edit.put_words.Goals as goal
 
 pub loop-k-preserved : goal.loop-k-preserved

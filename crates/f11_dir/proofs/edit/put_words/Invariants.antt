@@ -1,6 +1,7 @@
 use Rattle.std.proofs.Common.{◌≡◌, ◌*◌, take}
 use Rattle.std.specs.List.{flat_map}
-use Rattle.f11_store.specs.Directory.{word_bytes, with_bytes}
+use Rattle.f11_bytes.specs.Words.{word_bytes}
+use Rattle.f11_bytes.specs.Part.{with_bytes}
 use Rattle.f11_dir.proofs.edit.put_words.Given as goal
 
 abbrev pub invariant-loop-k : goal.invariant-loop-k

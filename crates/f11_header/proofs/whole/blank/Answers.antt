@@ -1,5 +1,5 @@
 use Rattle.std.proofs.Common.{ap, ◌∙◌, subst, sym, rules}
-use Rattle.f11_dev.specs.Block.{with_word}
+use Rattle.f11_bytes.specs.Words.{with_word}
 use Rattle.f11_header.specs.Writing.{formatted, owner_word, sealed}
 use Rattle.f11_header.specs.Header.{IsHeader, IsEmptyHeader}
 use Rattle.f11_header.proofs.BlankLemmas.{IsHeader-blank_header, IsEmptyHeader-blank_header}
@@ -11,9 +11,9 @@ returns-clause-block c =
     let format = c.format.ensures ∙ ap formatted c.zeros.ensures in
     let number = c.write_word.ensures ∙ ap (λ b. with_word b 2 c.args.id.number) format in
     let sequence = c.write_word-2.ensures ∙ ap (λ b. with_word b 4 c.args.id.sequence) number in
-    let owner = c.write_word-3.ensures ∙ ap (λ w. with_word c.write_word-2.new.block 8 w) c.owner_word.ensures ∙ ap (λ b. with_word b 8 (owner_word c.args.owner)) sequence in
+    let owner = c.write_word-3.ensures ∙ ap (λ w. with_word c.write_word-2.new.bytes 8 w) c.owner_word.ensures ∙ ap (λ b. with_word b 8 (owner_word c.args.owner)) sequence in
     let protection = c.write_word-4.ensures ∙ ap (λ b. with_word b 10 c.args.protection) owner in
-    c.write_word-5.ensures ∙ ap (λ w. with_word c.write_word-4.new.block 92 w) c.from.ensures ∙ ap (λ b. with_word b 92 c.args.segment) protection
+    c.write_word-5.ensures ∙ ap (λ w. with_word c.write_word-4.new.bytes 92 w) c.from.ensures ∙ ap (λ b. with_word b 92 c.args.segment) protection
 
 pub returns-clause-valid : goal.returns-clause-valid
 returns-clause-valid c = λ some_number some_sequence.

@@ -1,7 +1,7 @@
 use Rattle.std.proofs.Common.{◌∙◌, ap, arith, None, Some, subst, sym}
 use Rattle.std.specs.Str.Parse.{digits_value}
 use Rattle.std.proofs.lemmas.Str.Pattern.{split_parts}
-use Rattle.f11_pip.specs.Octal.{IsOctal}
+use Rattle.f11_bytes.specs.Octal.{IsOctal}
 use Rattle.f11_pip.proofs.OctalLemmas.{same_uic, split_at_comma}
 use Rattle.f11_pip.proofs.octal.read_uic.Goals as goal
 

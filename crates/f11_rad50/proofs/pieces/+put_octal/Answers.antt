@@ -1,4 +1,5 @@
-use Rattle.std.proofs.Common.{◌<◌, ◌+◌, ◌/◌, ◌%◌, ◌∷◌, [], arith, rules, take-append-drop, sym}
+use Rattle.std.proofs.Common.{◌<◌, ◌+◌, ◌/◌, ◌%◌, ◌∷◌, [], arith, rules, sym}
+use Rattle.f11_bytes.proofs.PartLemmas.{with_bytes-nil}
 use Rattle.f11_rad50.specs.Name.{octal}
 use Rattle.f11_rad50.proofs.Texts.{octal-zero, octal-step, length-octal-step}
 use Rattle.f11_rad50.proofs.Places.{IsPut-append}
@@ -7,7 +8,7 @@ use Rattle.f11_rad50.proofs.pieces.+put_octal.Goals as goal
 pub returns-then-number-eq0 : goal.returns-then-number-eq0
 returns-then-number-eq0 t c = record {
   next_is = rw (c.if-number-eq0.true, octal-zero) (omega arith);
-  written = rw (c.if-number-eq0.true, octal-zero) (sym (take-append-drop c.args.at c.args.into.now));
+  written = rw (c.if-number-eq0.true, octal-zero) (sym (with_bytes-nil c.args.into.now c.args.at));
 }
 
 pub put_octal-last-requires : goal.put_octal-last-requires

@@ -1,6 +1,6 @@
 use Rattle.std.proofs.Common.{arith}
 use Rattle.std.proofs.lemmas.List.{length-replicate}
-use Rattle.f11_dev.specs.Block.{zero_block}
+use Rattle.f11_bytes.specs.Block.{zero_block}
 use Rattle.f11_dev.proofs.DiskLemmas.{IsImage-zero_image}
 use Rattle.f11_dev.proofs.file_image.FileImage.of.Goals as goal
 

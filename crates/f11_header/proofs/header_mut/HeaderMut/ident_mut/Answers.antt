@@ -1,5 +1,6 @@
-use Rattle.std.proofs.Common.{◌+◌, ◌*◌, ◌++◌, ◌∙◌, refl, take, drop, arith}
+use Rattle.std.proofs.Common.{◌+◌, ◌*◌, ◌∙◌, refl, arith}
 use Rattle.std.specs.Prelude.{slice_range}
+use Rattle.f11_bytes.specs.Part.{with_bytes}
 use Rattle.f11_header.specs.Lending.{over}
 use Rattle.f11_header.proofs.header_mut.HeaderMut.ident_mut.Goals as goal
 
@@ -8,7 +9,7 @@ returns c =
     let header = c.args.self.now in
     let block = header.block.now in
     let offset = c.from-ident.ensures in (
-      (refl, λ w. λ i. over header (take (2 * offset i) block ++ (w ++ drop (2 * offset i + 46) block))),
+      (refl, λ w. λ i. over header (with_bytes block (2 * offset i) w)),
       record {
         writes_back = tt;
         area = c.bytes_mut.ensures.bytes.0 ∙ (λ i. slice_range block (2 * offset i) (2 * offset i + 46));

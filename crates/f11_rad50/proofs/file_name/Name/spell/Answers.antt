@@ -1,4 +1,4 @@
-use Rattle.std.proofs.Common.{◌++◌, ◌∷◌, [], length, arith, ap, ◌∙◌, get_or, zero-add}
+use Rattle.std.proofs.Common.{◌++◌, ◌∷◌, [], length, drop, arith, ap, ◌∙◌, sym, get_or, zero-add}
 use Rattle.f11_rad50.specs.Buffer.{IsPut}
 use Rattle.f11_rad50.specs.Name.{IsName, name_text}
 use Rattle.f11_rad50.proofs.Texts.{length-octal-le, name_text-eq, Spells-name_text, length-name_text}
@@ -31,7 +31,7 @@ returns c =
     let put = whole c in
     record {
       length = put.next_is ∙ zero-add (length (name_text words));
-      text = put.written;
+      text = put.written ∙ ap (λ end. name_text words ++ drop end c.args.into.now) (sym put.next_is);
       fits = omega (arith, put.next_is, length-name_text words name);
       reads_back = Spells-name_text words name;
     }

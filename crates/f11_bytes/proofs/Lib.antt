@@ -1,0 +1,4 @@
+pub mod WordLemmas
+pub mod PartLemmas
+pub mod PartMemory
+pub mod OctalLemmas

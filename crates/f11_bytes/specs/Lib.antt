@@ -1,0 +1,5 @@
+pub mod Block
+pub mod Words
+pub mod Part
+pub mod Bits
+pub mod Octal
