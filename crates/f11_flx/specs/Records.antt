@@ -3,7 +3,8 @@ use Rattle.std.specs.Prelude.{ℕ, zero, suc, ◌+◌, ◌%◌, ◌==◌, ◌&&�
 use Rattle.std.specs.Option.{option_map}
 use Rattle.std.specs.Int.{bit_at}
 use Rattle.std.specs.List.{concat}
-use Rattle.f11_store.specs.File.{File, word_at, end_of}
+use Rattle.f11_bytes.specs.Words.{word}
+use Rattle.f11_store.specs.File.{File, end_of}
 use Rattle.f11_flx.specs.declared.layout.Layout.{Layout}
 use Rattle.f11_flx.specs.declared.layout.Layout.TheVariants.{Fixed, Variable}
 
@@ -13,7 +14,7 @@ unfoldable pub layout_of : List ℕ → Option Layout
 layout_of attr =
     if bit_at (slice_index attr 1) 3 == 1 then None else
     if slice_index attr 0 == 2 then Some Variable else
-    if slice_index attr 0 == 1 && (nat_lt 0 (word_at attr 2) && word_at attr 2 % 2 == 0) then Some (Fixed (word_at attr 2)) else None
+    if slice_index attr 0 == 1 && (nat_lt 0 (word attr 2) && word attr 2 % 2 == 0) then Some (Fixed (word attr 2)) else None
 
 -- how many bytes stand before a record's own: a variable one has a length word
 abbrev pub head_of : Layout → ℕ
@@ -23,7 +24,7 @@ head_of Variable = 2
 -- how many bytes the record has that begins here
 abbrev pub size_of : Layout → List ℕ → ℕ
 size_of (Fixed size) bytes = size
-size_of Variable bytes = word_at bytes 0
+size_of Variable bytes = word bytes 0
 
 -- how many stand behind them: a variable record of an odd length has a pad byte
 abbrev pub pad_of : Layout → ℕ → ℕ
