@@ -4,7 +4,7 @@ use Rattle.std.proofs.Math.ListN.{set}
 use Rattle.std.specs.List.{slice_get}
 use Rattle.std.proofs.lemmas.Bool.{cases_lt}
 use Rattle.std.proofs.lemmas.Option.{unwrap_or-slice_get}
-use Rattle.f11_dev.specs.Block.{bit}
+use Rattle.f11_bytes.specs.Bits.{bit}
 use Rattle.f11_dev.specs.Image.{Image}
 use Rattle.f11_bits.specs.Bitmap.{Bitmap, IsBitmap, bitmap_bit, is_free, free_blocks, KeepsBitmap}
 use Rattle.f11_bits.specs.Storage.{bitmap_of, Keeps}

@@ -7,7 +7,6 @@ pub mod Changes
 pub mod Parts
 pub mod Calls
 pub mod Laws
-pub use Rattle.f11_dev.specs.Block
 pub use Rattle.f11_dev.specs.Image
 pub use Rattle.f11_dev.specs.Disk
 pub use Rattle.f11_dev.specs.Looked

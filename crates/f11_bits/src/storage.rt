@@ -4,7 +4,8 @@ ghost use Rattle.f11_bits.specs.Bitmap.{IsBitmap, LiesWithin, is_free};
 ghost use Rattle.f11_bits.specs.Calls.{Counts, FailsToCount};
 
 use crate::bits::{BITS, LONGEST, count_free_to, first_run_to, run_length, set_bits};
-use f11_dev::{BLOCK_SIZE, Block, Device, DeviceFault};
+use f11_bytes::{BLOCK_SIZE, Block};
+use f11_dev::{Device, DeviceFault};
 
 /// The most blocks that a bitmap has (Files-11 On-Disk Structure Level 1, "Storage Bitmap File").
 pub const MAX_PLACES: usize = 126;

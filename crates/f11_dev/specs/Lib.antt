@@ -1,4 +1,3 @@
-pub mod Block
 pub mod Image
 pub mod Disk
 pub mod Looked

@@ -3,7 +3,8 @@ ghost use Rattle.std.specs.Prelude.{◌≡◌, ◌≢◌, ◌⊎◌, ◌<◌, fa
 ghost use Rattle.f11_bytes.specs.Block.{zero_block};
 ghost use Rattle.f11_dev.specs.Disk.{Reads, Writes};
 
-use crate::{Block, Device, DeviceFault, zeros};
+use crate::{Block, Device, DeviceFault};
+use f11_bytes::zeros;
 use std::cell::Cell;
 
 /// A device around another that lies about one block once [`Liar::begin`] was called: reads of it give zeros.

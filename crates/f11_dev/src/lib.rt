@@ -5,7 +5,7 @@
 //! is proved of any `Device`.
 //!
 //! [`Memory`] is a device in memory, and [`FileImage`] one in a file. [`Fuse`], [`FailOnce`] and [`Liar`] are devices
-//! that fail or lie, for tests and for theorems about failures. A [`Block`] and its words are those of [`f11_bytes`].
+//! that fail or lie, for tests and for theorems about failures. A [`Block`] is that of [`f11_bytes`].
 #![tactic(auto)]
 
 mod device;
@@ -18,7 +18,7 @@ mod outcomes;
 mod written;
 
 pub use device::{Device, DeviceFault};
-pub use f11_bytes::{BLOCK_SIZE, Block, NoMemory, read_word, sum_words, write_word, zeros};
+pub use f11_bytes::{BLOCK_SIZE, Block, NoMemory};
 pub use fail_once::FailOnce;
 pub use file_image::{CannotOpen, FileImage, MAX_BLOCKS};
 pub use fuse::Fuse;

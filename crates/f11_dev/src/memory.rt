@@ -5,7 +5,8 @@ ghost use Rattle.f11_dev.specs.Disk.{fresh, counted, Reads, Writes};
 ghost use Rattle.f11_dev.specs.Outcomes.{transfers_of};
 
 use crate::outcomes::Outcomes;
-use crate::{Block, Device, DeviceFault, NoMemory, zeros};
+use crate::{Block, Device, DeviceFault, NoMemory};
+use f11_bytes::zeros;
 use std::alloc::Global;
 
 /// A device in memory. It is honest, and keeps a record of its writes: a write that finds no memory for its

@@ -4,7 +4,8 @@ ghost use Rattle.f11_bits.specs.Storage.{bitmap_of};
 
 use crate::fixtures::{ZEROS, put};
 use f11_bits::{Storage, count_free, first_run, word_sum};
-use f11_dev::{BLOCK_SIZE, Block, Device, DeviceFault, FailOnce, Fuse, Liar, Memory};
+use f11_bytes::{BLOCK_SIZE, Block};
+use f11_dev::{Device, DeviceFault, FailOnce, Fuse, Liar, Memory};
 use std::alloc::Global;
 use std::test::Fail;
 

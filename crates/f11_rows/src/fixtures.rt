@@ -1,5 +1,6 @@
 //! What the tests have in common.
-use f11_dev::{BLOCK_SIZE, Block, Device, DeviceFault, Memory, NoMemory, zeros};
+use f11_bytes::{BLOCK_SIZE, Block, NoMemory, zeros};
+use f11_dev::{Device, DeviceFault, Memory};
 use f11_header::blank;
 use f11_store::{FileId, Uic};
 use std::alloc::Global;

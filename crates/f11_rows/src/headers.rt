@@ -1,6 +1,6 @@
 //! File headers over a lent block.
 use crate::fixtures::{A_TXT, SYSTEM, ZEROS, blank_of, file};
-use f11_dev::{Block, read_word, write_word};
+use f11_bytes::{Block, read_word, write_word};
 use f11_header::{Header, HeaderFault, HeaderMut, check, kill};
 use f11_store::Uic;
 

@@ -1,8 +1,9 @@
 //! The lines of commands, where no command of the program shows them.
 use crate::fixtures::{A_TXT, SYSTEM, ZEROS, blank_of, file, lines, memory, text_of};
 use crate::headers::{directory_header, extension_header, put_name};
+use f11_bytes::{Block, write_word};
 use f11_commands::{Answer, Failure, dump_header, print_home, print_name, print_rights};
-use f11_dev::{Block, FailOnce, write_word};
+use f11_dev::FailOnce;
 use f11_header::{HeaderMut, kill};
 use std::io::Cursor;
 use std::test::Fail;

@@ -8,7 +8,7 @@ ghost use Rattle.f11_map.specs.MapArea.{IsMapArea, blocks_of};
 ghost use Rattle.f11_map.specs.MapWriting.{StaysHeader};
 
 use crate::fixtures::{SYSTEM, blank_of, file};
-use f11_dev::{Block, write_word, zeros};
+use f11_bytes::{Block, write_word, zeros};
 use f11_header::{Header, HeaderMut, blank, check};
 use f11_map::{Map, MapFull, MapMut};
 use f11_store::FileId;

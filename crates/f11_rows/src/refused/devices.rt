@@ -1,9 +1,7 @@
 //! Devices, and the errors' texts.
 use crate::fixtures::{SEVENS, ZEROS, get, memory, put};
-use f11_dev::{
-    CannotOpen, Device, DeviceFault, FailOnce, FileImage, Fuse, Liar, NoMemory, read_word,
-    sum_words, write_word,
-};
+use f11_bytes::{NoMemory, read_long, read_word, sum_words, write_long, write_word};
+use f11_dev::{CannotOpen, Device, DeviceFault, FailOnce, FileImage, Fuse, Liar};
 use f11_header::HeaderFault;
 use f11_home::HomeFault;
 use f11_map::MapFull;
@@ -48,6 +46,9 @@ fn words_have_their_low_byte_first(rt: HostRuntime) {
     assert_eq!(rt; read_word(&block, 3), 31419);
     assert_eq!(rt; sum_words(&block, 3), 0xbb00 + 0x7a);
     assert_eq!(rt; sum_words(&[255; 512], 256), 65280);
+    write_long(&mut block, 100, 0x0102_0304);
+    assert_eq!(rt; &block[100..104], [2, 1, 4, 3].as_slice());
+    assert_eq!(rt; read_long(&block, 100), 0x0102_0304);
 }
 
 #[test]
@@ -148,10 +149,10 @@ fn errors_say_what_they_are(rt: HostRuntime) -> Result<(), Fail> {
         HeaderFault::Dead,
         HeaderFault::Bad
     )?;
-    write!(text, "{BadCharacter}, {BadName}, {}", f11_rad50::NoMemory)?;
+    write!(text, "{BadCharacter}, {BadName}")?;
     assert_eq!(rt;
         text.as_str(),
-        "device fault, cannot open, no memory, no home block, device fault, dead, bad, map full, not a character of Radix-50, bad name, no memory"
+        "device fault, cannot open, no memory, no home block, device fault, dead, bad, map full, not a character of Radix-50, bad name"
     );
     Ok(())
 }

@@ -1,6 +1,6 @@
 use Rattle.std.proofs.Common.{List, ℕ, subst, refl, sym, ap, ◌∙◌, arith}
 use Rattle.std.specs.Prelude.{slice_range}
-use Rattle.f11_dev.specs.Block.{zero_block}
+use Rattle.f11_bytes.specs.Block.{zero_block}
 use Rattle.f11_store.specs.declared.callers.Uic.{Uic}
 use Rattle.f11_store.specs.declared.files.FileId.{FileId}
 use Rattle.f11_header.specs.Writing.{blank_header}
