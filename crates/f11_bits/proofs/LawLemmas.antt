@@ -1,13 +1,15 @@
 -- A write of blocks that aren't the bitmap's keeps what is free.
-use Rattle.std.proofs.Common.{◌≡◌, ◌≢◌, inl, inr, ℕ, ◌%◌, ◌/◌, ◌<◌, List, [], length, get_or, Option, unwrap_or, sym, ap, ◌∙◌, arith}
+use Rattle.std.proofs.Common.{◌≡◌, ◌≢◌, inl, inr, ℕ, ◌%◌, ◌/◌, ◌<◌, Bool, IsTrue, List, [], length, get_or, Option, unwrap_or, sym, ap, ◌∙◌, arith}
 use Rattle.std.proofs.Math.ListN.{set}
 use Rattle.std.specs.List.{slice_get}
 use Rattle.std.proofs.lemmas.Bool.{cases_lt}
+use Rattle.std.proofs.lemmas.List.{length-set}
 use Rattle.std.proofs.lemmas.Option.{unwrap_or-slice_get}
 use Rattle.f11_bytes.specs.Bits.{bit}
+use Rattle.f11_dev.specs.Disk.{Disk, counted, landed}
 use Rattle.f11_dev.specs.Image.{Image}
 use Rattle.f11_bits.specs.Bitmap.{Bitmap, IsBitmap, bitmap_bit, is_free, free_blocks, KeepsBitmap}
-use Rattle.f11_bits.specs.Storage.{bitmap_of, Keeps}
+use Rattle.f11_bits.specs.Storage.{bitmap_of, Keeps, IsFor}
 use Rattle.f11_bits.specs.declared.storage.Storage.{Storage}
 use Rattle.f11_bits.proofs.CountLemmas.{count_below-same}
 use Rattle.f11_bits.proofs.BitmapLemmas.{slice_get-set_other, is_free-past, is_free-same}
@@ -34,3 +36,10 @@ free_blocks-kept bitmap old new valid keeps = count_below-same (is_free new bitm
 
 pub Keeps-kept : (s : Storage) (old new : Image) → KeepsBitmap (bitmap_of s) old new → Keeps s old → Keeps s new
 Keeps-kept s old new keeps before = record { free = before.free ∙ sym (free_blocks-kept (bitmap_of s) old new s.valid keeps) }
+
+pub IsFor-write : (s : Storage) (disk : Disk) (passed : Bool) (lbn : ℕ) (block : List ℕ)
+    → (IsTrue disk.honest → (i : ℕ) → i < length (bitmap_of s).places → get_or (bitmap_of s).places i 0 ≢ lbn) → IsFor s disk → IsFor s (counted passed (landed lbn block disk))
+IsFor-write s disk passed lbn block apart is = record {
+  within = λ i inside. omega (arith, is.within i inside, length-set disk.image lbn block);
+  keeps = λ honest. Keeps-kept s disk.image _ (KeepsBitmap-write (bitmap_of s) disk.image lbn block (apart honest)) (is.keeps honest);
+}

@@ -1,8 +1,9 @@
 -- Laws of the storage bitmap: what a write of other blocks leaves (profile).
-use Rattle.std.specs.Prelude.{◌≡◌, ◌≢◌, ℕ, ◌<◌, List, length, slice_index, slice_set}
+use Rattle.std.specs.Prelude.{◌≡◌, ◌≢◌, ℕ, ◌<◌, Bool, IsTrue, List, length, slice_index, slice_set}
+use Rattle.f11_dev.specs.Disk.{Disk, counted, landed}
 use Rattle.f11_dev.specs.Image.{Image}
 use Rattle.f11_bits.specs.Bitmap.{Bitmap, IsBitmap, is_free, free_blocks, KeepsBitmap}
-use Rattle.f11_bits.specs.Storage.{bitmap_of, Keeps}
+use Rattle.f11_bits.specs.Storage.{bitmap_of, Keeps, IsFor}
 use Rattle.f11_bits.specs.declared.storage.Storage.{Storage}
 
 -- a write of a block that isn't one of the bitmap's leaves each of those
@@ -29,3 +30,10 @@ abbrev pub KeptStays : Type 0
 KeptStays =
     (s : Storage) (old new : Image) →
     KeepsBitmap (bitmap_of s) old new → Keeps s old → Keeps s new
+
+-- so a `Storage` for a disk is for it still, once such a block was written there
+abbrev pub ForStays : Type 0
+ForStays =
+    (s : Storage) (disk : Disk) (passed : Bool) (lbn : ℕ) (block : List ℕ) →
+    (IsTrue disk.honest → (i : ℕ) → i < length (bitmap_of s).places → slice_index (bitmap_of s).places i ≢ lbn) →
+    IsFor s disk → IsFor s (counted passed (landed lbn block disk))
