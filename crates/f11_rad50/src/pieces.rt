@@ -52,11 +52,14 @@ pub(crate) fn is_part(characters: &[u8], most: usize) -> bool
     characters.len() <= most && characters.iter().all(|c| is_name_character(*c))
 }
 
+// The most octal digits of a version.
+const VERSION_DIGITS: usize = 5;
+
 // The version in one to five octal digits.
 pub(crate) fn read_version(digits: &[u8]) -> Option<u16>
     ensures { SomeIff result (IsVersion digits.now) (digits_value 8 digits.now) }
 {
-    if digits.len() > 5 {
+    if digits.len() > VERSION_DIGITS {
         return None;
     }
     octal_value(digits, 0o77777)

@@ -1,6 +1,7 @@
 //! The storage bitmap.
-ghost use Rattle.std.specs.Prelude.{◌≡◌, ◌<◌, ◌≤◌, ◌+◌, [], ◌∷◌, IfOk};
-ghost use Rattle.f11_bits.specs.Storage.{bitmap_of};
+ghost use Rattle.std.specs.Prelude.{◌≡◌, ◌<◌, ◌≤◌, ◌+◌, ℕ, [], ◌∷◌, false, length, slice_index, IsTrue, IfOk, OnOk};
+ghost use Rattle.f11_bits.specs.Bitmap.{is_free};
+ghost use Rattle.f11_bits.specs.Storage.{IsFor, bitmap_of};
 
 use crate::fixtures::{ZEROS, put};
 use f11_bits::{Storage, count_free, first_run, word_sum};
@@ -187,9 +188,7 @@ fn a_device_that_fails_once(rt: HostRuntime) -> Result<(), Fail> {
 #[test]
 fn what_was_taken_is_given_back(rt: HostRuntime) -> Result<(), Fail> {
     let mut device = device_with(rt.alloc(), &block_with_22_used(), &ONES)?;
-    if device.blocks() < 3 {
-        return Ok(());
-    }
+    assert!(rt; device.blocks() >= 3);
     let mut storage = Storage::load(&mut device, &[1, 2], 400)?;
     let run = storage.take(&mut device, 0, 300)?;
     assert_eq!(rt; run, Some((22, 256)));
@@ -198,5 +197,45 @@ fn what_was_taken_is_given_back(rt: HostRuntime) -> Result<(), Fail> {
         storage.give(&mut device, lbn, count)?;
     }
     assert_eq!(rt; storage.free(), 378);
+    Ok(())
+}
+
+/// Takes blocks, makes the first of them zeros, and takes more, as where a file grows: the bitmap is for the disk all the
+/// while, since its own blocks are used.
+fn take_zero_take<D: Device>(
+    storage: &mut Storage,
+    device: &mut D,
+    most: u32,
+) -> Result<Option<(u32, u32)>, DeviceFault>
+    requires storage { IsFor storage.old (D.disk device.old) }
+    requires most { 0 < most }
+    requires used { IsTrue (D.disk device.old).honest → (i : ℕ)
+        → i < length (bitmap_of storage.old).places
+        → is_free (D.disk device.old).image (bitmap_of storage.old)
+        (slice_index (bitmap_of storage.old).places i) ≡ false }
+    ensures storage { OnOk result (IsFor storage.new (D.disk device.new)) }
+{
+    let Some((lbn, _)) = storage.take(device, 0, most)? else {
+        return Ok(None);
+    };
+    if lbn >= device.blocks() {
+        return Err(DeviceFault);
+    }
+    device.write(lbn, &ZEROS)?;
+    storage.take(device, 0, most)
+}
+
+#[test]
+fn blocks_are_taken_one_after_another(rt: HostRuntime) -> Result<(), Fail> {
+    let mut device = Memory::new(rt.alloc(), 400)?;
+    put(&mut device, 1, &block_with_22_used())?;
+    let mut device = Liar::new(device, 0);
+    assert!(rt; device.blocks() >= 3);
+    let mut storage = Storage::load(&mut device, &[1, 2], 400)?;
+    assert_eq!(rt;
+        take_zero_take(&mut storage, &mut device, 4)?,
+        Some((26, 4))
+    );
+    assert_eq!(rt; (storage.size(), storage.free()), (400, 370));
     Ok(())
 }

@@ -3,6 +3,7 @@ use crate::fixtures::{A_TXT, SYSTEM, ZEROS, blank_of, file};
 use f11_bytes::{Block, read_word, write_word};
 use f11_header::{Header, HeaderFault, HeaderMut, check, kill};
 use f11_store::Uic;
+use std::process::Abort;
 
 /// Header 4 of a fresh volume of 400 blocks and 16 slots: the master file directory, in block 21.
 pub fn directory_header() -> Block {
@@ -98,12 +99,16 @@ fn fields_are_written(rt: HostRuntime) {
 
 /// What `check` says of a header with these bytes in place of its own, once it is sealed, and of one whose check word is
 /// wrong.
-fn checked(header: &Block, bytes: &[(usize, u8)], n: u16) -> [Result<(), HeaderFault>; 2] {
+fn checked(
+    rt: &impl Abort,
+    header: &Block,
+    bytes: &[(usize, u8)],
+    n: u16,
+) -> [Result<(), HeaderFault>; 2] {
     let mut block = *header;
     for (at, value) in bytes {
-        if *at < 512 {
-            block[*at] = *value;
-        }
+        assert!(rt; *at < 512);
+        block[*at] = *value;
     }
     HeaderMut::new(&mut block).seal();
     let sealed = check(&block, n);
@@ -136,7 +141,11 @@ fn each_condition_is_tested(rt: HostRuntime) {
         ([(101, 255), (100, 204)], good),
         ([(101, 255), (100, 206)], bad),
     ] {
-        assert_eq!(rt; checked(&header, &bytes, 4), [outcome, bad], "{bytes:?}");
+        assert_eq!(rt;
+            checked(&rt, &header, &bytes, 4),
+            [outcome, bad],
+            "{bytes:?}"
+        );
     }
     assert_eq!(rt; (check(&header, 3), check(&header, 5)), (bad, bad));
 }
@@ -155,7 +164,7 @@ fn the_map_area_stands_behind_the_ident_area(rt: HostRuntime) {
         (extension, [(0, 46), (98, 1), (99, 3)], Ok(())),
         (extension, [(0, 47), (98, 1), (99, 3)], bad),
     ] {
-        assert_eq!(rt; checked(&header, &bytes, 7)[0], outcome, "{bytes:?}");
+        assert_eq!(rt; checked(&rt, &header, &bytes, 7)[0], outcome, "{bytes:?}");
     }
 }
 

@@ -12,16 +12,16 @@ use f11_bytes::{Block, write_word, zeros};
 use f11_header::{Header, HeaderMut, blank, check};
 use f11_map::{Map, MapFull, MapMut};
 use f11_store::FileId;
+use std::process::Abort;
 
 /// A sealed header of file 6 with these retrieval pointers, an LBN and a count less one each.
-fn header_of(pointers: &[(u16, u8)]) -> Block {
+fn header_of(rt: &impl Abort, pointers: &[(u16, u8)]) -> Block {
     let mut block = blank_of(file(6, 1), 0, 0);
     for (i, (lbn, more)) in pointers.iter().enumerate() {
-        if i < 102 {
-            block[100] = (2 * i + 2) as u8;
-            block[103 + 4 * i] = *more;
-            write_word(&mut block, 104 + 4 * i, *lbn);
-        }
+        assert!(rt; i < 102);
+        block[100] = (2 * i + 2) as u8;
+        block[103 + 4 * i] = *more;
+        write_word(&mut block, 104 + 4 * i, *lbn);
     }
     HeaderMut::new(&mut block).seal();
     block
@@ -29,7 +29,7 @@ fn header_of(pointers: &[(u16, u8)]) -> Block {
 
 #[test]
 fn pointers_name_blocks_in_order(rt: HostRuntime) {
-    let mut block = header_of(&[(22, 255), (278, 43)]);
+    let mut block = header_of(&rt, &[(22, 255), (278, 43)]);
     block[46] = 7;
     HeaderMut::new(&mut block).seal();
     assert_eq!(rt; check(&block, 6), Ok(()));
@@ -54,14 +54,14 @@ fn pointers_name_blocks_in_order(rt: HostRuntime) {
 
 #[test]
 fn an_lbn_has_its_high_byte_first(rt: HostRuntime) {
-    let mut block = header_of(&[(0x3412, 0)]);
+    let mut block = header_of(&rt, &[(0x3412, 0)]);
     block[102] = 0x56;
     HeaderMut::new(&mut block).seal();
     assert_eq!(rt; check(&block, 6), Ok(()));
     let map = Map::of(&Header::new(&block));
     assert_eq!(rt; map.runs(), 1);
     assert_eq!(rt; map.run(0), (0x56_3412, 1));
-    let empty = header_of(&[]);
+    let empty = header_of(&rt, &[]);
     assert_eq!(rt; check(&empty, 6), Ok(()));
     let map = Map::of(&Header::new(&empty));
     assert_eq!(rt;
@@ -159,7 +159,7 @@ fn append(block: &mut Block, lbn: u32, count: u32) -> Result<(), MapFull>
 
 #[test]
 fn a_full_header_stays_as_it_is(rt: HostRuntime) {
-    let mut block = header_of(&[]);
+    let mut block = header_of(&rt, &[]);
     for i in 0..102u32 {
         assert_eq!(rt; check(&block, 6), Ok(()), "pointer {i}");
         assert_eq!(rt; append(&mut block, 1000 + 2 * i, 1), Ok(()), "pointer {i}");

@@ -12,4 +12,4 @@ is_version ds None few octal = λ version. octal (IsOctal-version ds version)
 is_version ds (Some value) few octal = (record { octal_digits = octal.0.octal_digits; some_digit = octal.0.some_digit; five_digits = few }, octal.1)
 
 pub returns : goal.returns
-returns c = is_version _ _ c.if-digits-gt5.false c.octal_value.ensures
+returns c = is_version _ _ c.if-digits-gt-VERSION_DIGITS.false c.octal_value.ensures
