@@ -4,15 +4,10 @@ use Rattle.std.specs.Prelude.{slice_range, replicate, option_and_then, option_ma
 use Rattle.std.proofs.lemmas.Bool.{cases_lt, cond-true, cond-false}
 use Rattle.std.proofs.lemmas.List.{length-replicate}
 use Rattle.std.proofs.Math.Seq.{drop-append_seam, take-append_seam}
-use Rattle.f11_flx.specs.Records.{head_of, size_of, pad_of, first_record, records_upto, records_in}
+use Rattle.f11_flx.specs.Records.{some_of, head_of, size_of, pad_of, first_record, records_upto, records_in}
 use Rattle.f11_flx.specs.Spelled.{variable_record, variable_records}
 use Rattle.f11_flx.specs.declared.layout.Layout.{Layout}
 use Rattle.f11_flx.specs.declared.layout.Layout.TheVariants.{Fixed, Variable}
-
--- a record takes some bytes: fixed ones have a size that isn't 0
-abbrev pub some_of : Layout → ℕ
-some_of (Fixed size) = size
-some_of Variable = 2
 
 -- where it fits
 pub first_record-fits : (layout : Layout) (bytes : List ℕ) → head_of layout + size_of layout bytes ≤ length bytes

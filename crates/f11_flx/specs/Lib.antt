@@ -2,5 +2,6 @@ pub mod Laws
 pub mod Lines
 pub mod Records
 pub mod Spelled
+pub mod Walk
 pub use Rattle.f11_store.specs.File
 pub use Rattle.f11_store.specs.Directory

@@ -16,6 +16,11 @@ layout_of attr =
     if slice_index attr 0 == 2 then Some Variable else
     if slice_index attr 0 == 1 && (nat_lt 0 (word attr 2) && word attr 2 % 2 == 0) then Some (Fixed (word attr 2)) else None
 
+-- a record takes some bytes at least: a fixed one its size, a variable one its length word
+abbrev pub some_of : Layout → ℕ
+some_of (Fixed size) = size
+some_of Variable = 2
+
 -- how many bytes stand before a record's own: a variable one has a length word
 abbrev pub head_of : Layout → ℕ
 head_of (Fixed size) = 0

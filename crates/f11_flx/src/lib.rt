@@ -2,7 +2,11 @@
 //! of a text records again (RSX-11M Utilities manual, FLX).
 #![tactic(auto)]
 
+mod attributes;
 pub mod laws;
 mod layout;
+mod records;
 
+pub use attributes::MOST_BLOCKS;
 pub use layout::Layout;
+pub use records::{BadRecord, Records};
