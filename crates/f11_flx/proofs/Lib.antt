@@ -1,2 +1,4 @@
 pub mod LineLemmas
 pub mod RecordLemmas
+pub mod TextLemmas
+pub mod WalkLemmas

@@ -1,5 +1,6 @@
 pub mod Laws
 pub mod Lines
+pub mod Place
 pub mod Records
 pub mod Spelled
 pub mod Walk

@@ -1,7 +1,7 @@
 -- A walk over the records of a file (profile).
-use Rattle.std.specs.Prelude.{◌≡◌, ◌↔◌, ℕ, ◌+◌, ◌*◌, ◌<◌, ◌≤◌, nat_lt, if◌then◌else◌, List, length, take, drop, slice_range, min, Option, Some, None, option_map, ◌∷◌}
-use Rattle.f11_store.specs.File.{word_at, stated_end}
-use Rattle.f11_flx.specs.Records.{layout_of, head_of, pad_of, first_record, records_in}
+use Rattle.std.specs.Prelude.{◌≡◌, ℕ, ◌+◌, ◌*◌, ◌≤◌, nat_lt, if◌then◌else◌, List, take, drop, min, Option, Some, None}
+use Rattle.f11_store.specs.File.{stated_end}
+use Rattle.f11_flx.specs.Records.{head_of, pad_of}
 use Rattle.f11_flx.specs.declared.layout.Layout.{Layout}
 use Rattle.f11_flx.specs.declared.layout.Layout.TheVariants.{Fixed, Variable}
 use Rattle.f11_flx.specs.declared.records.Records.{Records}

@@ -13,3 +13,11 @@ pub fn round_trips()
     ensures lines { laws.LinesComeBack }
     ensures records { laws.RecordsComeBack }
 {}
+
+/// What a walk over the records of a file finds: [`Records`](crate::Records) takes them one by one.
+pub fn walks()
+    ensures start { laws.StartHasAll }
+    ensures taken { laws.TakenIsFirst }
+    ensures refused { laws.RefusedIsBad }
+    ensures end { laws.EndHasNone }
+{}

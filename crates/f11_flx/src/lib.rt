@@ -5,7 +5,9 @@
 mod attributes;
 pub mod laws;
 mod layout;
+mod place;
 mod records;
+mod to_text;
 
 pub use attributes::MOST_BLOCKS;
 pub use layout::Layout;

@@ -1,0 +1,128 @@
+-- The text of a file's records, a byte read at a time.
+use Rattle.std.proofs.Common.{◌≡◌, ℕ, zero, suc, ◌+◌, ◌-◌, ◌*◌, ◌%◌, ◌<◌, ◌≤◌, Bool, true, false, eqb, IsTrue, List, [], ◌∷◌, ◌++◌, length, take, drop, Option, Some, None, refl, sym, ap, ◌∙◌, arith, append_assoc}
+use Rattle.std.specs.Prelude.{slice_range, option_map}
+use Rattle.std.proofs.lemmas.Bool.Decides.{nat_tests}
+use Rattle.std.proofs.lemmas.Iterator.Adapters.{option_map_id}
+use Rattle.f11_flx.specs.Lines.{text_of}
+use Rattle.f11_flx.specs.Place.{text_in, pads, has_place, is_ending, ReadsByte, RefusesByte}
+use Rattle.f11_flx.specs.Records.{some_of, head_of, size_of, pad_of, records_in}
+use Rattle.f11_flx.specs.declared.layout.Layout.{Layout}
+use Rattle.f11_flx.specs.declared.layout.Layout.TheVariants.{Fixed, Variable}
+use Rattle.f11_flx.specs.declared.place.Place.TheVariants as place
+use Rattle.f11_flx.proofs.RecordLemmas.{first_record-fits, first_record-past, records_in-first, with_first}
+
+-- one after another
+option_map-map : {A B C : Type 0} (f : B → C) (g : A → B) (o : Option A) → option_map f (option_map g o) ≡ option_map (λ x. f (g x)) o
+option_map-map f g None = refl
+option_map-map f g (Some x) = refl
+
+-- a record more in the text
+text_of-more : (own : List ℕ) (records : Option (List (List ℕ))) → option_map text_of (option_map (λ (more : List (List ℕ)). own ∷ more) records) ≡ option_map (λ (text : List ℕ). own ++ 13 ∷ 10 ∷ text) (option_map text_of records)
+text_of-more own None = refl
+text_of-more own (Some records) = ap Some (append_assoc own (13 ∷ 10 ∷ []) (text_of records))
+
+-- the text of the first record, and that of the others
+pub text_in-first : (layout : Layout) (bytes own rest : List ℕ) → 0 < some_of layout → 0 < length bytes → head_of layout + size_of layout bytes ≤ length bytes
+    → slice_range bytes (head_of layout) (head_of layout + size_of layout bytes) ≡ own → drop (head_of layout + size_of layout bytes + pad_of layout (size_of layout bytes)) bytes ≡ rest
+    → text_in layout bytes ≡ option_map (λ (text : List ℕ). own ++ 13 ∷ 10 ∷ text) (text_in layout rest)
+unfolding text_in
+text_in-first layout bytes own rest some long fits own_is rest_is =
+    ap (option_map text_of) (records_in-first layout bytes some long
+    ∙ ap (λ (f : Option (List ℕ × List ℕ)). with_first f (records_in layout)) (first_record-fits layout bytes fits)
+    ∙ ap (λ (b : List ℕ). option_map (λ (more : List (List ℕ)). b ∷ more) (records_in layout (drop (head_of layout + size_of layout bytes + pad_of layout (size_of layout bytes)) bytes))) own_is
+    ∙ ap (λ (b : List ℕ). option_map (λ (more : List (List ℕ)). own ∷ more) (records_in layout b)) rest_is)
+    ∙ text_of-more own (records_in layout rest)
+
+-- where it goes past the end there is no text
+pub text_in-past : (layout : Layout) (bytes : List ℕ) → 0 < some_of layout → 0 < length bytes → length bytes < head_of layout + size_of layout bytes → text_in layout bytes ≡ None
+unfolding text_in
+text_in-past layout bytes some long past =
+    ap (option_map text_of) (records_in-first layout bytes some long ∙ ap (λ (f : Option (List ℕ × List ℕ)). with_first f (records_in layout)) (first_record-past layout bytes past))
+
+-- the first byte of a fixed record
+pub reads-fixed : (size byte rest : ℕ) → 0 < size → size - 1 ≤ rest → ReadsByte (Fixed size) place.Record (place.Within (size - 1) false) byte rest (Some byte)
+reads-fixed size byte rest some fits = record {
+  text = λ bytes is.
+      let count : 0 + size - 0 ≡ suc (size - 1) = omega arith in
+      let end : 0 + size + 0 ≡ suc (size - 1 + 0) = omega arith in
+      text_in-first (Fixed size) (byte ∷ bytes) (byte ∷ take (size - 1) bytes) (drop (size - 1 + 0) bytes) some (omega arith) (omega arith)
+      (ap (λ (n : ℕ). take n (byte ∷ bytes)) count) (ap (λ (n : ℕ). drop n (byte ∷ bytes)) end)
+      ∙ sym (option_map-map (λ (more : List ℕ). byte ∷ more) (λ (more : List ℕ). take (size - 1) bytes ++ 13 ∷ 10 ∷ more) (text_in (Fixed size) (drop (size - 1 + 0) bytes)));
+  wanted = fits;
+  placed = refl;
+}
+
+-- one that goes past the end
+pub refuses-fixed : (size byte rest : ℕ) → 0 < size → rest < size - 1 → RefusesByte (Fixed size) place.Record byte rest
+refuses-fixed size byte rest some past bytes is = text_in-past (Fixed size) (byte ∷ bytes) some (omega arith) (omega arith)
+
+-- the low byte of a length word
+pub reads-low : (byte rest : ℕ) → 0 < rest → ReadsByte Variable place.Record (place.High byte) byte rest None
+reads-low byte rest more = record {
+  text = λ bytes is. sym (option_map_id (text_in Variable (byte ∷ bytes)));
+  wanted = more;
+  placed = refl;
+}
+
+pub refuses-low : (byte rest : ℕ) → rest ≡ 0 → RefusesByte Variable place.Record byte rest
+refuses-low byte rest none bytes is = let some : 0 < 2 = omega arith in text_in-past Variable (byte ∷ bytes) some (omega arith) (omega arith)
+
+-- a pad byte where the length is odd
+pads-odd : (n : ℕ) → pads (eqb (n % 2) 1) ≡ n % 2
+pads-odd n = grind (arith, nat_tests)
+
+-- the high byte
+pub reads-high : (low byte size rest : ℕ) → size ≡ byte * 256 + low → size ≤ rest → ReadsByte Variable (place.High low) (place.Within size (eqb (size % 2) 1)) byte rest None
+reads-high low byte size rest size_is fits = record {
+  text = λ bytes is.
+      let whole = low ∷ byte ∷ bytes in
+      let some : 0 < 2 = omega arith in
+      let told : size_of Variable whole ≡ size = omega arith in
+      let count : 2 + size_of Variable whole - 2 ≡ size = omega arith in
+      let end : 2 + size_of Variable whole + size_of Variable whole % 2 ≡ suc (suc (size + size % 2)) = omega (arith, ap (λ (n : ℕ). n % 2) told) in
+      let pad : size + size % 2 ≡ size + pads (eqb (size % 2) 1) = omega (arith, pads-odd size) in
+      text_in-first Variable whole (take size bytes) (drop (size + pads (eqb (size % 2) 1)) bytes) some (omega arith) (omega arith)
+      (ap (λ (n : ℕ). take n bytes) count) (ap (λ (n : ℕ). drop n whole) end ∙ ap (λ (n : ℕ). drop n bytes) pad)
+      ∙ sym (option_map_id (option_map (λ (more : List ℕ). take size bytes ++ 13 ∷ 10 ∷ more) (text_in Variable (drop (size + pads (eqb (size % 2) 1)) bytes))));
+  wanted = fits;
+  placed = refl;
+}
+
+pub refuses-high : (low byte size rest : ℕ) → size ≡ byte * 256 + low → rest < size → RefusesByte Variable (place.High low) byte rest
+refuses-high low byte size rest size_is past bytes is =
+    let some : 0 < 2 = omega arith in
+    text_in-past Variable (low ∷ byte ∷ bytes) some (omega arith) (omega arith)
+
+-- records that lie so may stop within one
+placed-within : (layout : Layout) (left : ℕ) (pad : Bool) → IsTrue (has_place layout (place.Within left pad))
+placed-within (Fixed size) left pad = refl
+placed-within Variable left pad = refl
+
+-- more bytes are to come where none is given without one
+some-left : (n : ℕ) → eqb n 0 ≡ false → 0 < n
+some-left zero none = absurd (differ none)
+  where
+    differ : true ≡ false → ⊥
+    differ is = cc
+some-left (suc n) none = omega arith
+
+-- a byte of a record
+pub reads-within : (layout : Layout) (left : ℕ) (pad : Bool) (byte rest : ℕ) → is_ending (place.Within left pad) ≡ false → left ≤ rest + 1 → ReadsByte layout (place.Within left pad) (place.Within (left - 1) pad) byte rest (Some byte)
+reads-within layout left pad byte rest more fits = let some : 0 < left = some-left left more in record {
+  text = λ bytes is.
+      let count : left ≡ suc (left - 1) = omega arith in
+      let end : left + pads pad ≡ suc (left - 1 + pads pad) = omega arith in
+      ap (λ (n : ℕ). option_map (λ (more : List ℕ). take n (byte ∷ bytes) ++ 13 ∷ 10 ∷ more) (text_in layout (drop (left + pads pad) (byte ∷ bytes)))) count
+      ∙ ap (λ (n : ℕ). option_map (λ (more : List ℕ). byte ∷ (take (left - 1) bytes ++ 13 ∷ 10 ∷ more)) (text_in layout (drop n (byte ∷ bytes)))) end
+      ∙ sym (option_map-map (λ (more : List ℕ). byte ∷ more) (λ (more : List ℕ). take (left - 1) bytes ++ 13 ∷ 10 ∷ more) (text_in layout (drop (left - 1 + pads pad) bytes)));
+  wanted = omega arith;
+  placed = placed-within layout (left - 1) pad;
+}
+
+-- a pad byte
+pub reads-pad : (layout : Layout) (byte rest : ℕ) → IsTrue (has_place layout place.Record) → ReadsByte layout place.Pad place.Record byte rest None
+reads-pad layout byte rest placed = record {
+  text = λ bytes is. sym (option_map_id (text_in layout bytes));
+  wanted = omega arith;
+  placed = placed;
+}
