@@ -1,4 +1,6 @@
+pub mod ConvertLemmas
 pub mod LineLemmas
+pub mod PutLemmas
 pub mod RecordLemmas
 pub mod TextLemmas
 pub mod WalkLemmas

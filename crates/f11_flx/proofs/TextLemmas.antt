@@ -3,11 +3,18 @@ use Rattle.std.proofs.Common.{◌≡◌, ℕ, zero, suc, ◌+◌, ◌-◌, ◌*�
 use Rattle.std.specs.Prelude.{slice_range, option_map}
 use Rattle.std.proofs.lemmas.Bool.Decides.{nat_tests}
 use Rattle.std.proofs.lemmas.Iterator.Adapters.{option_map_id}
+use Rattle.f11_store.specs.File.{File, end_of}
+use Rattle.std.proofs.Common.{Result, Ok, Err, OnErr}
+use Rattle.std.specs.List.{concat}
+use Rattle.std.specs.Prelude.{option_and_then}
+use Rattle.std.proofs.lemmas.List.{length-take-le}
 use Rattle.f11_flx.specs.Lines.{text_of}
-use Rattle.f11_flx.specs.Place.{text_in, pads, has_place, is_ending, ReadsByte, RefusesByte}
-use Rattle.f11_flx.specs.Records.{some_of, head_of, size_of, pad_of, records_in}
+use Rattle.f11_flx.specs.Place.{text_in, text_from, pads, has_place, is_ending, ReadsByte, RefusesByte}
+use Rattle.f11_flx.specs.Records.{layout_of, some_of, head_of, size_of, pad_of, records_in}
+use Rattle.f11_flx.specs.ToText.{converted_text}
 use Rattle.f11_flx.specs.declared.layout.Layout.{Layout}
 use Rattle.f11_flx.specs.declared.layout.Layout.TheVariants.{Fixed, Variable}
+use Rattle.f11_flx.specs.declared.place.Place.{Place}
 use Rattle.f11_flx.specs.declared.place.Place.TheVariants as place
 use Rattle.f11_flx.proofs.RecordLemmas.{first_record-fits, first_record-past, records_in-first, with_first}
 
@@ -126,3 +133,19 @@ reads-pad layout byte rest placed = record {
   wanted = omega arith;
   placed = placed;
 }
+
+-- what is said of an error, where it holds
+pub OnErr-given : {T E P : Type 0} (result : Result T E) → P → OnErr result P
+OnErr-given (Ok value) holds = tt
+OnErr-given (Err error) holds = holds
+
+-- a byte that is refused by how many are behind it is refused where as many follow
+pub refuses-on : (layout : Layout) (at : Place) (byte rest : ℕ) → 0 < rest → RefusesByte layout at byte (rest - 1) → (bytes : List ℕ) → rest ≤ length bytes + 1 → text_from layout at (take rest (byte ∷ bytes)) ≡ None
+refuses-on layout at byte rest some refuses bytes long =
+    let count : rest ≡ suc (rest - 1) = omega arith in
+    ap (λ (n : ℕ). text_from layout at (take n (byte ∷ bytes))) count ∙ refuses (take (rest - 1) bytes) (length-take-le (rest - 1) bytes (omega arith))
+
+-- the text of a file whose records lie so
+pub converted_text-in : (file : File) (layout : Layout) → layout_of file.attr ≡ Some layout → text_in layout (take (end_of file) (concat file.blocks)) ≡ converted_text file
+unfolding text_in
+converted_text-in file layout is = sym (ap (λ (l : Option Layout). option_map text_of (option_and_then (λ (how : Layout). records_in how (take (end_of file) (concat file.blocks))) l)) is)

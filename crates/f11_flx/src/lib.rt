@@ -12,3 +12,4 @@ mod to_text;
 pub use attributes::MOST_BLOCKS;
 pub use layout::Layout;
 pub use records::{BadRecord, Records};
+pub use to_text::ToText;

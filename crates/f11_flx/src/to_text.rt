@@ -1,11 +1,155 @@
 //! From records to text.
-ghost use Rattle.std.specs.Prelude.{◌≡◌, ◌+◌, ◌<◌, ◌≤◌, false, IsTrue, IfOk, OnErr};
-ghost use Rattle.f11_flx.specs.Place.{has_place, is_ending, wanted_at, ReadsByte, RefusesByte};
-ghost use Rattle.f11_flx.specs.Records.{some_of};
+ghost use Rattle.std.specs.Prelude.{◌≡◌, ◌↔◌, ◌+◌, ◌-◌, ◌*◌, ◌<◌, ◌≤◌, ℕ, false, List, ◌∷◌, IsTrue, length, slice_range, None, option_map, option_to_list, IsErr, IfOk, IfSome, IfNone, OnErr};
+ghost use Rattle.f11_flx.specs.Place.{has_place, is_ending, text_from, wanted_at, ReadsByte, RefusesByte};
+ghost use Rattle.f11_flx.specs.Puts.{PutsAt};
+ghost use Rattle.f11_flx.specs.Records.{layout_of, some_of};
 
+use crate::attributes::{end, layout};
 use crate::layout::Layout;
 use crate::place::Place;
 use crate::records::BadRecord;
+use f11_dev::{BLOCK_SIZE, Block};
+
+/// The text of a file's records, each of them and then CR LF (RSX-11M Utilities manual, FLX), made from the file's bytes in
+/// whatever pieces they come.
+#[derive(Clone, Copy, Debug)]
+pub struct ToText {
+    layout: Layout,
+    /// The bytes of the file that are still to come.
+    rest: u32,
+    place: Place,
+    ghost some: { 0 < some_of layout },
+    ghost wanted: { wanted_at place ≤ rest },
+    ghost placed: { IsTrue (has_place layout place) },
+}
+
+impl ToText {
+    ghost use Rattle.std.specs.Prelude.{drop};
+    ghost use Rattle.std.specs.List.{concat};
+    ghost use Rattle.f11_store.specs.File.{File, stated_end, length_of};
+    ghost use Rattle.f11_flx.specs.ToText.{converted_text, ends_record, rest_of, text_left, Converts, HasNoText, StopsAt, Stops, EndsRecord, ReadsOn, RefusesOn, Steps};
+
+    /// The conversion of a file with these attributes (H.UFAT) and so many blocks, of which it may have 516,096.
+    ///
+    /// # Errors
+    ///
+    /// `BadRecord` where the attributes don't say how the records lie.
+    pub fn new(attr: &[u8; 32], allocation: u32) -> Result<ToText, BadRecord>
+        requires { allocation ≤ 516096 }
+        ensures starts { IfOk result (λ text. (file : File) → file.attr ≡ attr.now
+            → length_of file ≡ allocation → text_left text (concat file.blocks) ≡ converted_text file) }
+        ensures bad { IsErr result ↔ (layout_of attr.now ≡ None) }
+    {
+        let Some(layout) = layout(attr) else {
+            return Err(BadRecord);
+        };
+        Ok(ToText {
+            layout,
+            rest: end(attr, allocation),
+            place: Place::Record,
+        })
+    }
+
+    /// Converts bytes of the file into a target block, from byte `from` of it on, until the target is full or the bytes are
+    /// used up: how many bytes of the source were read, and the byte of the target behind the last that was put. The file
+    /// goes on with the source's other bytes.
+    ///
+    /// # Errors
+    ///
+    /// `BadRecord` where a record goes past the end of the file. Then this value is of no more use.
+    pub fn convert(
+        &mut self,
+        source: &[u8],
+        target: &mut Block,
+        from: usize,
+    ) -> Result<(usize, usize), BadRecord>
+        requires { from ≤ 512 }
+        ensures converts { IfOk result (λ done.
+            Converts self.old self.new source.now done.0 target.new from done.1) }
+        ensures puts { IfOk result (λ done. PutsAt target.old target.new from done.1) }
+        ensures stops { IfOk result (λ done. StopsAt self.new source.now done.0 done.1) }
+        ensures bad { OnErr result (HasNoText self.old source.now) }
+    {
+        let mut used = 0;
+        let mut to = from;
+        while to < BLOCK_SIZE {
+            let Some((next, given)) = self.step(source, used)? else {
+                return Ok((used, to));
+            };
+            used = next;
+            to = put(target, to, given);
+        }
+        Ok((used, to))
+    }
+
+    /// Gives the CR or LF that is to come, or else reads the source's next byte: how many of its bytes are then read, and the
+    /// byte of text that was given, if one was. `None` where neither can be done.
+    fn step(&mut self, source: &[u8], used: usize) -> Result<Option<(usize, Option<u8>)>, BadRecord>
+        requires { used ≤ length source.now }
+        ensures steps { IfOk result (λ answer. IfSome answer (λ step.
+            Steps self.old self.new source.now used step.0 step.1)) }
+        ensures stops { IfOk result (λ answer. IfNone answer (Stops self.old source.now used)) }
+        ensures stays { IfOk result (λ answer. IfNone answer (self.new ≡ self.old)) }
+        ensures bad { OnErr result (HasNoText self.old (drop used source.now)) }
+    {
+        if let Some(byte) = self.end_record() {
+            return Ok(Some((used, Some(byte))));
+        }
+        if used == source.len() || self.rest == 0 {
+            return Ok(None);
+        }
+        let given = self.read(source[used])?;
+        Ok(Some((used + 1, given)))
+    }
+
+    /// CR or LF, where one of them is to come.
+    fn end_record(&mut self) -> Option<u8>
+        ensures ends { IfSome result (λ byte. EndsRecord self.old self.new byte) }
+        ensures none { IfNone result (ends_record self.old ≡ false) }
+        ensures stays { IfNone result (self.new ≡ self.old) }
+    {
+        match self.place {
+            Place::Within(0, pad) => {
+                self.place = Place::LineFeed(pad);
+                Some(b'\r')
+            }
+            Place::LineFeed(pad) => {
+                self.place = if pad { Place::Pad } else { Place::Record };
+                Some(b'\n')
+            }
+            _ => None,
+        }
+    }
+
+    /// Reads a byte of the file, and gives the byte of text that it is, if it is one.
+    fn read(&mut self, byte: u8) -> Result<Option<u8>, BadRecord>
+        requires some { 0 < rest_of self.old }
+        requires reads { ends_record self.old ≡ false }
+        ensures reads { IfOk result (λ given. ReadsOn self.old self.new byte given) }
+        ensures bad { OnErr result (RefusesOn self.old byte) }
+    {
+        let rest = self.rest - 1;
+        let (place, given) = next(self.layout, self.place, byte, rest)?;
+        self.rest = rest;
+        self.place = place;
+        Ok(given)
+    }
+}
+
+/// Puts a byte into a block, if there is one: the place behind it.
+fn put(block: &mut Block, at: usize, byte: Option<u8>) -> usize
+    requires { at < 512 }
+    ensures place { result ≡ at + length (option_to_list byte) }
+    ensures within { result ≤ 512 }
+    ensures puts { PutsAt block.old block.new at result }
+    ensures put { slice_range block.new at result ≡ option_to_list byte }
+{
+    let Some(byte) = byte else {
+        return at;
+    };
+    block[at] = byte;
+    at + 1
+}
 
 /// What comes behind a byte, and the byte of text that it is, if it is one.
 type Next = Result<(Place, Option<u8>), BadRecord>;

@@ -1,0 +1,65 @@
+-- What the conversion of records into a text gives (RSX-11M Utilities manual, FLX).
+use Rattle.std.specs.Prelude.{◌≡◌, ◌⊎◌, ℕ, ◌+◌, ◌≤◌, false, Bool, List, ◌∷◌, ◌++◌, length, take, drop, slice_range, Option, None, option_map, option_to_list}
+use Rattle.f11_store.specs.File.{File}
+use Rattle.f11_flx.specs.Lines.{text_of}
+use Rattle.f11_flx.specs.Place.{text_from, is_ending}
+use Rattle.f11_flx.specs.Records.{records_of}
+use Rattle.f11_flx.specs.declared.to_text.ToText.{ToText}
+
+-- the text of a file's records; none where they can't be read
+abbrev pub converted_text : File → Option (List ℕ)
+converted_text file = option_map text_of (records_of file)
+
+-- how many bytes of the file are to come
+abbrev pub rest_of : ToText → ℕ
+rest_of s = s.rest
+
+-- the text that is still to come where the file goes on with these bytes
+abbrev pub text_left : ToText → List ℕ → Option (List ℕ)
+text_left s bytes = text_from s.layout s.place (take s.rest bytes)
+
+-- CR or LF is to come, for which no byte is read
+abbrev pub ends_record : ToText → Bool
+ends_record s = is_ending s.place
+
+-- So many bytes of the source were read, and bytes were put into the target: whatever follows the source, the text to come
+-- was these bytes, and then what is to come for the rest of the source and what follows it.
+pub record Converts (old new : ToText) (source : List ℕ) (used : ℕ) (target : List ℕ) (from to : ℕ) : Type 0 where
+  pub text : (more : List ℕ) → rest_of old ≤ length (source ++ more) → text_left old (source ++ more) ≡ option_map (λ text. slice_range target from to ++ text) (text_left new (drop used source ++ more))
+  pub read : rest_of new + used ≡ rest_of old
+  pub within : used ≤ length source
+  pub order : from ≤ to
+
+-- no text is to come, whatever follows the source
+abbrev pub HasNoText : ToText → List ℕ → Type 0
+HasNoText s source = (more : List ℕ) → rest_of s ≤ length (source ++ more) → text_left s (source ++ more) ≡ None
+
+-- nothing more comes for these bytes of the source
+abbrev pub Stops : ToText → List ℕ → ℕ → Type 0
+Stops s source used = (ends_record s ≡ false) × ((used ≡ length source) ⊎ (rest_of s ≡ 0))
+
+-- it stopped since the target is full, or since nothing more comes for these bytes
+abbrev pub StopsAt : ToText → List ℕ → ℕ → ℕ → Type 0
+StopsAt s source used to = (to ≡ 512) ⊎ Stops s source used
+
+-- CR or LF was given, and no byte was read
+pub record EndsRecord (old new : ToText) (byte : ℕ) : Type 0 where
+  pub text : (bytes : List ℕ) → text_left old bytes ≡ option_map (λ text. byte ∷ text) (text_left new bytes)
+  pub rest : rest_of new ≡ rest_of old
+
+-- a byte of the file was read
+pub record ReadsOn (old new : ToText) (byte : ℕ) (given : Option ℕ) : Type 0 where
+  pub text : (bytes : List ℕ) → rest_of new ≤ length bytes → text_left old (byte ∷ bytes) ≡ option_map (λ text. option_to_list given ++ text) (text_left new bytes)
+  pub rest : rest_of new + 1 ≡ rest_of old
+
+-- a record goes past the end, whatever follows this byte
+abbrev pub RefusesOn : ToText → ℕ → Type 0
+RefusesOn old byte = (bytes : List ℕ) → rest_of old ≤ length bytes + 1 → text_left old (byte ∷ bytes) ≡ None
+
+-- one step: CR or LF was given, or a byte of the source was read
+pub record Steps (old new : ToText) (source : List ℕ) (used next : ℕ) (given : Option ℕ) : Type 0 where
+  pub text : (more : List ℕ) → rest_of old ≤ length (drop used source ++ more) → text_left old (drop used source ++ more) ≡ option_map (λ text. option_to_list given ++ text) (text_left new (drop next source ++ more))
+  pub read : rest_of new + next ≡ rest_of old + used
+  pub within : next ≤ length source
+  pub order : used ≤ next
+  pub progress : used + 1 ≤ next + length (option_to_list given)
