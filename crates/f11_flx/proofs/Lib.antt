@@ -1,6 +1,9 @@
 pub mod ConvertLemmas
+pub mod CrLemmas
+pub mod GiveLemmas
 pub mod LineLemmas
 pub mod PutLemmas
+pub mod ReadLemmas
 pub mod RecordLemmas
 pub mod TextLemmas
 pub mod WalkLemmas

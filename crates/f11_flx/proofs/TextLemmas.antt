@@ -105,8 +105,8 @@ placed-within : (layout : Layout) (left : ℕ) (pad : Bool) → IsTrue (has_plac
 placed-within (Fixed size) left pad = refl
 placed-within Variable left pad = refl
 
--- more bytes are to come where none is given without one
-some-left : (n : ℕ) → eqb n 0 ≡ false → 0 < n
+-- a number that isn't 0
+pub some-left : (n : ℕ) → eqb n 0 ≡ false → 0 < n
 some-left zero none = absurd (differ none)
   where
     differ : true ≡ false → ⊥

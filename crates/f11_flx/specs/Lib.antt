@@ -5,6 +5,8 @@ pub mod Puts
 pub mod Records
 pub mod Spelled
 pub mod ToText
+pub mod Stage
+pub mod ToRecords
 pub mod Walk
 pub use Rattle.f11_store.specs.File
 pub use Rattle.f11_store.specs.Directory

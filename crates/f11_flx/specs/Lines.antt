@@ -11,6 +11,12 @@ abbrev pub goes_on_with_lf : List ℕ → Bool
 goes_on_with_lf [] = false
 goes_on_with_lf (c ∷ text) = c == 10
 
+-- it ends with CR
+abbrev pub ends_with_cr : List ℕ → Bool
+ends_with_cr [] = false
+ends_with_cr (c ∷ []) = c == 13
+ends_with_cr (c ∷ d ∷ text) = ends_with_cr (d ∷ text)
+
 -- CR LF stands in the text
 unfoldable pub has_crlf : List ℕ → Bool
 has_crlf [] = false

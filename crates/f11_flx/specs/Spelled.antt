@@ -1,6 +1,6 @@
 -- How a copy's records and attributes are written (Files-11 On-Disk Structure Level 1, file attributes; RSX-11M Utilities
 -- manual, FLX).
-use Rattle.std.specs.Prelude.{ℕ, ◌+◌, ◌*◌, ◌/◌, ◌%◌, List, ◌∷◌, ◌++◌, length, take, replicate, flat_map, fold, max}
+use Rattle.std.specs.Prelude.{ℕ, ◌+◌, ◌*◌, ◌/◌, ◌%◌, List, [], ◌∷◌, ◌++◌, length, take, replicate, flat_map, max}
 use Rattle.f11_store.specs.File.{File, end_of}
 use Rattle.f11_store.specs.Directory.{word_bytes, with_end}
 
@@ -14,7 +14,8 @@ variable_records records = flat_map variable_record records
 
 -- the length of the longest
 abbrev pub longest_of : List (List ℕ) → ℕ
-longest_of records = fold (λ longest bytes. max longest (length bytes)) 0 records
+longest_of [] = 0
+longest_of (first ∷ records) = max (length first) (longest_of records)
 
 -- The attributes of a text: variable records, each a line for a printer (record attribute 2), the longest of so many
 -- bytes. The end is behind the last pad byte.

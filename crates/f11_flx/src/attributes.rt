@@ -1,7 +1,9 @@
-//! What the attributes of a file say of its records (Files-11 On-Disk Structure Level 1, file attributes).
-ghost use Rattle.std.specs.Prelude.{◌≡◌, ◌+◌, ◌*◌, ◌<◌, ◌≤◌, min, length, IfSome};
+//! What the attributes of a file say of its records, and those of a copy (Files-11 On-Disk Structure Level 1, file attributes).
+ghost use Rattle.std.specs.Prelude.{◌≡◌, ◌+◌, ◌*◌, ◌/◌, ◌<◌, ◌≤◌, ◌∷◌, ◌++◌, min, length, replicate, IfSome};
 ghost use Rattle.f11_store.specs.File.{word_at, long_at, stated_end};
+ghost use Rattle.f11_store.specs.Directory.{word_bytes as bytes_of_word, long_bytes as bytes_of_long, with_end};
 ghost use Rattle.f11_flx.specs.Records.{layout_of, some_of};
+ghost use Rattle.f11_flx.specs.Spelled.{text_attributes as attributes_of_text, image_attributes as attributes_of_image};
 
 use crate::layout::Layout;
 use byteorder::{ByteOrder, LittleEndian};
@@ -56,6 +58,60 @@ pub fn end(attr: &[u8; 32], allocation: u32) -> u32
         let stated = (block - 1) * 512 + u64::from(word(attr, END_BYTE));
         stated.min(u64::from(most)) as u32
     }
+}
+
+/// How many blocks a copy of such a file as it is takes: those up to its end, rounded up.
+pub fn image_blocks(attr: &[u8; 32], allocation: u32) -> u32
+    requires { allocation ≤ 516096 }
+    ensures { result ≡ (min (stated_end attr.now) (512 * allocation) + 511) / 512 }
+{
+    end(attr, allocation).div_ceil(512)
+}
+
+/// The attributes of a file of so many blocks copied as they are, of which it may have 516,096.
+pub fn image_attributes(blocks: u32) -> [u8; 32]
+    requires { blocks ≤ 516096 }
+    ensures { result ≡ attributes_of_image blocks }
+{
+    attributes(1, 0, 512, blocks, 512 * blocks)
+}
+
+/// The attributes of a text whose longest line has so many bytes, of so many blocks, which ends behind so many bytes.
+pub fn text_attributes(longest: u16, allocation: u32, end: u32) -> [u8; 32]
+    ensures { result ≡ attributes_of_text longest allocation end }
+{
+    attributes(2, 2, longest, allocation, end)
+}
+
+/// The attributes with this record type, these record attributes, this record size, allocation and end.
+#[tactic(auto, unfolding(f11_store::specs::Directory::with_end))]
+fn attributes(kind: u8, carriage: u8, size: u16, allocation: u32, end: u32) -> [u8; 32]
+    ensures { result ≡ with_end (kind ∷ carriage ∷ (bytes_of_word size ++ replicate 28 0)) allocation end }
+{
+    let [size_low, size_high] = word_bytes(size);
+    let [a, b, c, d] = long_bytes(allocation);
+    let [e, f, g, h] = long_bytes(end / 512 + 1);
+    let [byte_low, byte_high] = word_bytes((end % 512) as u16);
+    [
+        kind, carriage, size_low, size_high, a, b, c, d, e, f, g, h, byte_low, byte_high, 0, 0, 0,
+        0, 0, 0, 0, 0, 0, 0, 0, 0, 0, 0, 0, 0, 0, 0,
+    ]
+}
+
+/// The bytes of a word, low byte first.
+fn word_bytes(word: u16) -> [u8; 2]
+    ensures { result ≡ bytes_of_word word }
+{
+    [(word % 256) as u8, (word / 256) as u8]
+}
+
+/// The bytes of a number of two words, high word first.
+fn long_bytes(long: u32) -> [u8; 4]
+    ensures { result ≡ bytes_of_long long }
+{
+    let [a, b] = word_bytes((long / 65536) as u16);
+    let [c, d] = word_bytes((long % 65536) as u16);
+    [a, b, c, d]
 }
 
 /// The word at byte `at`, low byte first.

@@ -6,10 +6,14 @@ mod attributes;
 pub mod laws;
 mod layout;
 mod place;
+mod put;
 mod records;
+mod stage;
+mod to_records;
 mod to_text;
 
-pub use attributes::MOST_BLOCKS;
+pub use attributes::{MOST_BLOCKS, image_attributes, image_blocks, text_attributes};
 pub use layout::Layout;
 pub use records::{BadRecord, Records};
+pub use to_records::{LONGEST_LINE, LineTooLong, ToRecords};
 pub use to_text::ToText;

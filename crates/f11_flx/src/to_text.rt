@@ -7,6 +7,7 @@ ghost use Rattle.f11_flx.specs.Records.{layout_of, some_of};
 use crate::attributes::{end, layout};
 use crate::layout::Layout;
 use crate::place::Place;
+use crate::put::put;
 use crate::records::BadRecord;
 use f11_dev::{BLOCK_SIZE, Block};
 
@@ -134,21 +135,6 @@ impl ToText {
         self.place = place;
         Ok(given)
     }
-}
-
-/// Puts a byte into a block, if there is one: the place behind it.
-fn put(block: &mut Block, at: usize, byte: Option<u8>) -> usize
-    requires { at < 512 }
-    ensures place { result ≡ at + length (option_to_list byte) }
-    ensures within { result ≤ 512 }
-    ensures puts { PutsAt block.old block.new at result }
-    ensures put { slice_range block.new at result ≡ option_to_list byte }
-{
-    let Some(byte) = byte else {
-        return at;
-    };
-    block[at] = byte;
-    at + 1
 }
 
 /// What comes behind a byte, and the byte of text that it is, if it is one.
