@@ -5,7 +5,8 @@ use Rattle.std.specs.List.{concat}
 use Rattle.std.proofs.lemmas.Bool.{cases_lt, cond-true}
 use Rattle.std.proofs.Common.{lt-ltb}
 use Rattle.std.proofs.lemmas.List.{length-take, length-take-le, drop-drop, drop-take, drop_all, take-take, get_or-drop, get_or-take}
-use Rattle.f11_store.specs.File.{File, word_at, length_of}
+use Rattle.f11_bytes.specs.Words.{word}
+use Rattle.f11_store.specs.File.{File, length_of}
 use Rattle.f11_flx.specs.Records.{layout_of, some_of, head_of, size_of, pad_of, records_in, records_of}
 use Rattle.f11_flx.specs.Walk.{Walk, bytes_left, end_by, place_of, size_by, walk_from_start, TakesRecord}
 use Rattle.f11_flx.specs.declared.layout.Layout.{Layout}
@@ -21,10 +22,10 @@ get_or-bytes_left : (w : Walk) (content : List ℕ) (i : ℕ) → w.next + i < w
 get_or-bytes_left w content i below = get_or-drop w.next (take w.end content) i 0 ∙ get_or-take w.end content (w.next + i) 0 below
 
 -- what the next record's size is told by
-pub size_of-bytes_left : (w : Walk) (content : List ℕ) → w.next + head_of w.layout ≤ w.end → size_of w.layout (bytes_left w content) ≡ size_by w.layout (word_at content w.next)
+pub size_of-bytes_left : (w : Walk) (content : List ℕ) → w.next + head_of w.layout ≤ w.end → size_of w.layout (bytes_left w content) ≡ size_by w.layout (word content w.next)
 size_of-bytes_left w content within = of_layout w.layout within
   where
-    of_layout : (layout : Layout) → w.next + head_of layout ≤ w.end → size_of layout (bytes_left w content) ≡ size_by layout (word_at content w.next)
+    of_layout : (layout : Layout) → w.next + head_of layout ≤ w.end → size_of layout (bytes_left w content) ≡ size_by layout (word content w.next)
     of_layout (Fixed size) within = refl
     of_layout Variable within =
         let low = get_or-bytes_left w content 0 (omega arith) in
@@ -44,7 +45,7 @@ slice_range-bytes_left w content from to order within =
     ∙ ap (λ (n : ℕ). take n (drop (w.next + from) content)) count
 
 pub taken_is_first : (old new : Walk) (content : List ℕ) (first size : ℕ) → 0 < some_of old.layout → old.end ≤ length content → old.next < old.end
-    → TakesRecord old new (word_at content old.next) first size
+    → TakesRecord old new (word content old.next) first size
     → records_in old.layout (bytes_left old content) ≡ option_map (λ (more : List (List ℕ)). slice_range content first (first + size) ∷ more) (records_in new.layout (bytes_left new content))
 taken_is_first old new content first size some long more taken =
     let layout = old.layout in
@@ -66,7 +67,7 @@ taken_is_first old new content first size some long more taken =
     ∙ ap (λ (w : Walk). option_map (λ (m : List (List ℕ)). slice_range content first (first + size) ∷ m) (records_in w.layout (bytes_left w content))) (sym taken.goes_on)
 
 pub refused_is_bad : (old : Walk) (content : List ℕ) → 0 < some_of old.layout → old.end ≤ length content → old.next < old.end
-    → old.end < end_by old (word_at content old.next) → records_in old.layout (bytes_left old content) ≡ None
+    → old.end < end_by old (word content old.next) → records_in old.layout (bytes_left old content) ≡ None
 refused_is_bad old content some long more past =
     let layout = old.layout in
     let bytes = bytes_left old content in

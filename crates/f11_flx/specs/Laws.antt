@@ -1,7 +1,8 @@
 -- Laws of the conversions: what becomes of records and lines on the way and back (profile).
 use Rattle.std.specs.Prelude.{◌≡◌, ℕ, ◌+◌, ◌<◌, ◌≤◌, false, List, [], ◌∷◌, ◌++◌, length, slice_range, Some, None, option_map, All}
 use Rattle.std.specs.List.{concat}
-use Rattle.f11_store.specs.File.{File, word_at, length_of}
+use Rattle.f11_bytes.specs.Words.{word}
+use Rattle.f11_store.specs.File.{File, length_of}
 use Rattle.f11_flx.specs.Lines.{without_zeros, has_crlf, lines_of, text_of, filled}
 use Rattle.f11_flx.specs.Records.{layout_of, some_of, records_in, records_of}
 use Rattle.f11_flx.specs.Spelled.{variable_records}
@@ -34,7 +35,7 @@ abbrev pub TakenIsFirst : Type 0
 TakenIsFirst =
     (old new : Walk) (content : List ℕ) (first size : ℕ) →
     0 < some_of old.layout → old.end ≤ length content → old.next < old.end →
-    TakesRecord old new (word_at content old.next) first size →
+    TakesRecord old new (word content old.next) first size →
     records_in old.layout (bytes_left old content)
     ≡ option_map (λ more. slice_range content first (first + size) ∷ more) (records_in new.layout (bytes_left new content))
 
@@ -43,7 +44,7 @@ abbrev pub RefusedIsBad : Type 0
 RefusedIsBad =
     (old : Walk) (content : List ℕ) →
     0 < some_of old.layout → old.end ≤ length content → old.next < old.end →
-    old.end < end_by old (word_at content old.next) →
+    old.end < end_by old (word content old.next) →
     records_in old.layout (bytes_left old content) ≡ None
 
 -- a walk at the end has no records before it

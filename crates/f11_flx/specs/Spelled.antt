@@ -1,8 +1,9 @@
 -- How a copy's records and attributes are written (Files-11 On-Disk Structure Level 1, file attributes; RSX-11M Utilities
 -- manual, FLX).
 use Rattle.std.specs.Prelude.{ℕ, ◌+◌, ◌*◌, ◌/◌, ◌%◌, List, [], ◌∷◌, ◌++◌, length, take, replicate, flat_map, max}
+use Rattle.f11_bytes.specs.Words.{word_bytes}
 use Rattle.f11_store.specs.File.{File, end_of}
-use Rattle.f11_store.specs.Directory.{word_bytes, with_end}
+use Rattle.f11_store.specs.Directory.{with_end}
 
 -- a variable record: its length word, its bytes, and a pad byte where the length is odd
 unfoldable pub variable_record : List ℕ → List ℕ

@@ -1,12 +1,13 @@
 //! What the attributes of a file say of its records, and those of a copy (Files-11 On-Disk Structure Level 1, file attributes).
 ghost use Rattle.std.specs.Prelude.{◌≡◌, ◌+◌, ◌*◌, ◌/◌, ◌<◌, ◌≤◌, ◌∷◌, ◌++◌, min, length, replicate, IfSome};
-ghost use Rattle.f11_store.specs.File.{word_at, long_at, stated_end};
-ghost use Rattle.f11_store.specs.Directory.{word_bytes as bytes_of_word, long_bytes as bytes_of_long, with_end};
+ghost use Rattle.f11_bytes.specs.Words.{word_bytes as bytes_of_word, long_bytes as bytes_of_long};
+ghost use Rattle.f11_store.specs.File.{stated_end};
+ghost use Rattle.f11_store.specs.Directory.{with_end};
 ghost use Rattle.f11_flx.specs.Records.{layout_of, some_of};
 ghost use Rattle.f11_flx.specs.Spelled.{text_attributes as attributes_of_text, image_attributes as attributes_of_image};
 
 use crate::layout::Layout;
-use byteorder::{ByteOrder, LittleEndian};
+use f11_bytes::{read_long, read_word};
 
 /// The most blocks that a file has: those of the largest volume.
 pub const MOST_BLOCKS: u32 = 516_096;
@@ -32,7 +33,7 @@ pub fn layout(attr: &[u8; 32]) -> Option<Layout>
     ensures layout { result ≡ layout_of attr.now }
     ensures some { IfSome result (λ layout. 0 < some_of layout) }
 {
-    let size = word(attr, SIZE);
+    let size = read_word(attr, SIZE);
     if attr[ATTRIBUTES] >> 3 & 1 == 1 {
         None
     } else if attr[TYPE] == 2 {
@@ -51,11 +52,11 @@ pub fn end(attr: &[u8; 32], allocation: u32) -> u32
     ensures { result ≡ min (stated_end attr.now) (512 * allocation) }
 {
     let most = 512 * allocation;
-    let block = u64::from(long(attr, END_BLOCK));
+    let block = u64::from(read_long(attr, END_BLOCK));
     if block == 0 {
         0
     } else {
-        let stated = (block - 1) * 512 + u64::from(word(attr, END_BYTE));
+        let stated = (block - 1) * 512 + u64::from(read_word(attr, END_BYTE));
         stated.min(u64::from(most)) as u32
     }
 }
@@ -112,20 +113,4 @@ fn long_bytes(long: u32) -> [u8; 4]
     let [a, b] = word_bytes((long / 65536) as u16);
     let [c, d] = word_bytes((long % 65536) as u16);
     [a, b, c, d]
-}
-
-/// The word at byte `at`, low byte first.
-fn word(attr: &[u8; 32], at: usize) -> u16
-    requires { at + 2 ≤ 32 }
-    ensures { result ≡ word_at attr.now at }
-{
-    LittleEndian::read_u16(&attr[at..])
-}
-
-/// The two words at byte `at`, high word first.
-fn long(attr: &[u8; 32], at: usize) -> u32
-    requires { at + 4 ≤ 32 }
-    ensures { result ≡ long_at attr.now at }
-{
-    u32::from(word(attr, at)) * 65536 + u32::from(word(attr, at + 2))
 }

@@ -2,7 +2,7 @@
 ghost use Rattle.std.specs.Prelude.{◌≡◌, ◌+◌, ◌<◌, ◌≤◌, length, slice_range, option_to_list};
 ghost use Rattle.f11_flx.specs.Puts.{PutsAt};
 
-use f11_dev::Block;
+use f11_bytes::Block;
 
 /// Puts a byte into a block, if there is one: the place behind it.
 pub fn put(block: &mut Block, at: usize, byte: Option<u8>) -> usize

@@ -8,7 +8,7 @@ ghost use Rattle.f11_flx.specs.Stage.{given_in, is_pending, text_so_far, with_cr
 use crate::put::put;
 use crate::stage::Stage;
 use arrayvec::ArrayVec;
-use f11_dev::{BLOCK_SIZE, Block};
+use f11_bytes::{BLOCK_SIZE, Block};
 use std::error::Error;
 use std::fmt;
 

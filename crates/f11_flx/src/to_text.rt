@@ -9,7 +9,7 @@ use crate::layout::Layout;
 use crate::place::Place;
 use crate::put::put;
 use crate::records::BadRecord;
-use f11_dev::{BLOCK_SIZE, Block};
+use f11_bytes::{BLOCK_SIZE, Block};
 
 /// The text of a file's records, each of them and then CR LF (RSX-11M Utilities manual, FLX), made from the file's bytes in
 /// whatever pieces they come.
