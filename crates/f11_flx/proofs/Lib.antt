@@ -1,5 +1,7 @@
 pub mod ConvertLemmas
+pub mod CopyLemmas
 pub mod CrLemmas
+pub mod EndLemmas
 pub mod GiveLemmas
 pub mod LineLemmas
 pub mod PutLemmas

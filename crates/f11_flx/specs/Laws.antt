@@ -1,12 +1,16 @@
 -- Laws of the conversions: what becomes of records and lines on the way and back (profile).
-use Rattle.std.specs.Prelude.{◌≡◌, ℕ, ◌+◌, ◌<◌, ◌≤◌, false, List, [], ◌∷◌, ◌++◌, length, slice_range, Some, None, option_map, All}
+use Rattle.std.specs.Prelude.{◌≡◌, ℕ, ◌+◌, ◌*◌, ◌<◌, ◌≤◌, false, List, [], ◌∷◌, ◌++◌, length, slice_range, Some, None, option_map, All}
 use Rattle.std.specs.List.{concat}
 use Rattle.f11_bytes.specs.Words.{word}
-use Rattle.f11_store.specs.File.{File, length_of}
+use Rattle.f11_store.specs.File.{File, length_of, stated_end}
 use Rattle.f11_flx.specs.Lines.{without_zeros, has_crlf, lines_of, text_of, filled}
 use Rattle.f11_flx.specs.Records.{layout_of, some_of, records_in, records_of}
-use Rattle.f11_flx.specs.Spelled.{variable_records}
+use Rattle.f11_flx.specs.Spelled.{image_attributes, text_attributes, variable_records}
+use Rattle.f11_flx.specs.ToText.{ends_record, rest_of, text_left}
+use Rattle.f11_flx.specs.ToRecords.{bytes_to_come, gives, is_too_long, longest_given, longest_with, open_of}
 use Rattle.f11_flx.specs.Walk.{Walk, bytes_left, end_by, place_of, walk_from_start, TakesRecord}
+use Rattle.f11_flx.specs.declared.to_text.ToText.{ToText}
+use Rattle.f11_flx.specs.declared.to_records.ToRecords.{ToRecords}
 use Rattle.f11_flx.specs.declared.layout.Layout.{Layout}
 use Rattle.f11_flx.specs.declared.layout.Layout.TheVariants.{Variable}
 
@@ -56,3 +60,29 @@ abbrev pub StartHasAll : Type 0
 StartHasAll =
     (file : File) (layout : Layout) → layout_of file.attr ≡ Some layout →
     records_of file ≡ records_in layout (bytes_left (walk_from_start layout file.attr (length_of file)) (concat file.blocks))
+
+-- a file that is read to its end has no more text to come
+abbrev pub TextEnds : Type 0
+TextEnds = (s : ToText) (bytes : List ℕ) → rest_of s ≡ 0 → ends_record s ≡ false → text_left s bytes ≡ Some []
+
+-- a text that is read to its end and whose last line is ended has no more records to come, and what was found of its lines
+-- holds of all of them
+pub record HasNoMore (s : ToRecords) : Type 0 where
+  pub bytes : bytes_to_come s [] ≡ []
+  pub longest : longest_with s [] ≡ longest_given s
+  pub long : is_too_long s [] ≡ false
+
+abbrev pub RecordsEnd : Type 0
+RecordsEnd = (s : ToRecords) → open_of s ≡ 0 → gives s ≡ false → HasNoMore s
+
+-- a file with the attributes and the bytes of a copied text has its lines as records
+abbrev pub CopyHasLines : Type 0
+CopyHasLines =
+    (lines : List (List ℕ)) (file : File) (longest : ℕ) →
+    file.attr ≡ text_attributes longest (length_of file) (length (variable_records lines)) →
+    concat file.blocks ≡ filled (variable_records lines) → length (concat file.blocks) ≡ 512 * length_of file →
+    records_of file ≡ Some lines
+
+-- the attributes of an image say that the file ends with its last block
+abbrev pub ImageEndsWithBlocks : Type 0
+ImageEndsWithBlocks = (blocks : ℕ) → stated_end (image_attributes blocks) ≡ 512 * blocks

@@ -22,8 +22,12 @@ abbrev pub is_too_long : ToRecords → List ℕ → Bool
 is_too_long s bytes = has_long_line (lines_left s bytes)
 
 -- bytes are to come for which no more of the text is read
-abbrev pub is_giving : ToRecords → Bool
-is_giving s = is_given s.stage
+abbrev pub gives : ToRecords → Bool
+gives s = is_given s.stage
+
+-- the length of the longest line whose record was given whole
+abbrev pub longest_given : ToRecords → ℕ
+longest_given s = s.longest
 
 -- how many bytes were read of a line that isn't ended
 abbrev pub open_of : ToRecords → ℕ
@@ -45,7 +49,7 @@ pub record ConvertsText (old new : ToRecords) (source : List ℕ) (used : ℕ) (
 
 -- it stopped since the target is full, or since all bytes of the source were read and none is to come without more of them
 abbrev pub StopsText : ToRecords → List ℕ → ℕ → ℕ → Type 0
-StopsText s source used to = (to ≡ 512) ⊎ ((is_giving s ≡ false) × (used ≡ length source))
+StopsText s source used to = (to ≡ 512) ⊎ ((gives s ≡ false) × (used ≡ length source))
 
 -- the text has no more bytes, and its last line is ended
 pub record EndsText (old new : ToRecords) : Type 0 where

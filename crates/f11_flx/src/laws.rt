@@ -21,3 +21,15 @@ pub fn walks()
     ensures refused { laws.RefusedIsBad }
     ensures end { laws.EndHasNone }
 {}
+
+/// When a conversion is done: [`ToText`](crate::ToText) and [`ToRecords`](crate::ToRecords) have nothing more to give.
+pub fn ends()
+    ensures text { laws.TextEnds }
+    ensures records { laws.RecordsEnd }
+{}
+
+/// What a copy says of itself: its attributes fit its bytes.
+pub fn copies()
+    ensures text { laws.CopyHasLines }
+    ensures image { laws.ImageEndsWithBlocks }
+{}

@@ -42,8 +42,8 @@ pub struct ToRecords {
     /// The line, without a CR that may end it.
     line: ArrayVec<u8, LONGEST_LINE>,
     stage: Stage,
-    /// The length of the longest line so far.
-    longest: usize,
+    /// The length of the longest line whose record was given whole.
+    longest: u16,
     ghost whole: { has_crlf (text_so_far line.items stage) ≡ false },
     ghost ended: { ends_with_cr (text_so_far line.items stage) ≡ is_pending stage },
     ghost given: { given_in stage < 2 + length line.items + length line.items % 2 },
@@ -53,7 +53,7 @@ impl ToRecords {
     ghost use Rattle.std.specs.Prelude.{List, ℕ, drop, true};
     ghost use Rattle.f11_flx.specs.Lines.{lines_of, without_zeros, has_long_line};
     ghost use Rattle.f11_flx.specs.Spelled.{longest_of, variable_records};
-    ghost use Rattle.f11_flx.specs.ToRecords.{bytes_to_come, is_too_long, longest_with, open_of, is_giving, GoesOn, ConvertsText, EndsText, StopsText, HasLongLine, StepsText, ReadsText};
+    ghost use Rattle.f11_flx.specs.ToRecords.{bytes_to_come, is_too_long, longest_with, open_of, gives, longest_given, GoesOn, ConvertsText, EndsText, StopsText, HasLongLine, StepsText, ReadsText};
 
     /// A conversion of which nothing was read.
     #[tactic(auto, unfolding(crate::specs::Lines::has_crlf))]
@@ -128,6 +128,20 @@ impl ToRecords {
         Ok(())
     }
 
+    /// Whether bytes are to come for which no more of the text is read.
+    pub fn is_giving(&self) -> bool
+        ensures { result ≡ gives self.now }
+    {
+        matches!(self.stage, Stage::Giving(_))
+    }
+
+    /// The length of the longest line whose record was given whole.
+    pub fn longest(&self) -> u16
+        ensures { result ≡ longest_given self.now }
+    {
+        self.longest
+    }
+
     /// Gives the next byte of the line's record, or else reads the source's next byte: how many of its bytes are then read,
     /// and the byte that was given, if one was. `None` where neither can be done.
     fn step(
@@ -139,7 +153,7 @@ impl ToRecords {
         ensures steps { IfOk result (λ answer. IfSome answer (λ step.
             StepsText self.old self.new source.now used step.0 step.1)) }
         ensures stops { IfOk result (λ answer. IfNone answer
-            ((is_giving self.old ≡ false) × (used ≡ length source.now))) }
+            ((gives self.old ≡ false) × (used ≡ length source.now))) }
         ensures stays { IfOk result (λ answer. IfNone answer (self.new ≡ self.old)) }
         ensures bad { OnErr result (HasLongLine self.old (drop used source.now)) }
     {
@@ -169,7 +183,7 @@ impl ToRecords {
         if given + 1 < 2 + length + length % 2 {
             self.stage = Stage::Giving(given + 1);
         } else {
-            self.longest = self.longest.max(length);
+            self.longest = self.longest.max(length as u16);
             self.line.clear();
             self.stage = Stage::Reading(false);
         }

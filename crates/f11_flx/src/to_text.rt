@@ -103,6 +103,13 @@ impl ToText {
         Ok(Some((used + 1, given)))
     }
 
+    /// How many bytes of the file are still to come.
+    pub fn rest(&self) -> u32
+        ensures { result ≡ rest_of self.now }
+    {
+        self.rest
+    }
+
     /// CR or LF, where one of them is to come.
     fn end_record(&mut self) -> Option<u8>
         ensures ends { IfSome result (λ byte. EndsRecord self.old self.new byte) }
