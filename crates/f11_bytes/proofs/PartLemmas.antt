@@ -3,6 +3,7 @@ use Rattle.std.proofs.Common.{◌≡◌, ℕ, zero, suc, ◌+◌, ◌-◌, ◌*�
 use Rattle.std.specs.List.{flat_map}
 use Rattle.std.specs.Prelude.{slice_index, slice_range}
 use Rattle.std.proofs.lemmas.List.{take_more, length-take, length-take-le, length-drop, length-append, take-append-drop, drop-drop, get_or-take, get_or-drop, get_or_append_left, get_or-append_right, take_at, drop_at}
+use Rattle.std.proofs.lemmas.Grind.{same_number_lists}
 use Rattle.std.proofs.lemmas.Slice.{drop-append-drop}
 use Rattle.std.proofs.lemmas.List.Concat.{flat_map-append}
 use Rattle.std.proofs.lemmas.List.Edits.{sets, sets-eq}
@@ -110,3 +111,25 @@ with_bytes-more b ws at k room within =
 
     joined : flat_map word_bytes (take (k + 1) ws) ≡ so_far ++ word_bytes w
     joined = ap (flat_map word_bytes) (take_more ws k 0 within) ∙ flat_map-append word_bytes (take k ws) (w ∷ [])
+
+-- a byte of a part
+pub slice_index-slice_range : (b : List ℕ) (from to i : ℕ) → from + i < to → slice_index (slice_range b from to) i ≡ slice_index b (from + i)
+slice_index-slice_range b from to i within = get_or-take (to - from) (drop from b) i 0 (omega arith) ∙ get_or-drop from b i 0
+
+-- how many bytes a part has
+pub length-slice_range : (b : List ℕ) (from to : ℕ) → to ≤ length b → length (slice_range b from to) ≡ to - from
+length-slice_range b from to within = omega (arith, length-take (to - from) (drop from b), length-drop from b)
+
+-- a part whose bytes stay
+pub slice_range-same : (a b : List ℕ) (from to : ℕ) → length a ≡ length b → ((i : ℕ) → from ≤ i → i < to → slice_index a i ≡ slice_index b i) → slice_range a from to ≡ slice_range b from to
+slice_range-same a b from to size same =
+    let long : length (slice_range a from to) ≡ length (slice_range b from to) =
+    omega (arith, size, length-take (to - from) (drop from a), length-drop from a, length-take (to - from) (drop from b), length-drop from b) in
+    same_number_lists (slice_range a from to) (slice_range b from to) long
+    (λ k below.
+    let within : from + k < to = omega (arith, below, length-take (to - from) (drop from a)) in
+    slice_index-slice_range a from to k within ∙ same (from + k) (omega arith) within ∙ sym (slice_index-slice_range b from to k within))
+
+-- a part that has all its bytes stands in the others
+pub slice_range-within : (b : List ℕ) (from to : ℕ) → from < to → length (slice_range b from to) ≡ to - from → to ≤ length b
+slice_range-within b from to some size = omega (arith, length-take (to - from) (drop from b), length-drop from b)

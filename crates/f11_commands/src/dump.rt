@@ -15,9 +15,6 @@ use f11_rad50::Name;
 use f11_store::{FileId, Uic};
 use std::io::{self, Write};
 
-/// H.CKSM, a word of a header: its check word (Files-11 On-Disk Structure Level 1, "File Header").
-const CHECK_WORD: usize = 510;
-
 /// The fields of a header that its line shows.
 #[derive(Clone, Copy)]
 struct Fields {
@@ -51,7 +48,7 @@ impl Fields {
             protection: header.protection(),
             characteristics: header.characteristics(),
             link: map.link(),
-            sum: read_word(block, CHECK_WORD),
+            sum: header.check_word(),
         }
     }
 }
@@ -113,6 +110,7 @@ fn write_fields<W: Write>(writer: &mut W, n: u16, fields: &Fields) -> io::Result
 }
 
 /// Writes the line of the name in a valid header of segment 0, and nothing in any other.
+#[tactic(auto, using(f11_header::proofs::HeaderFacts::ident_within))]
 fn write_name<W: Write>(writer: &mut W, block: &Block) -> io::Result<()>
     requires { IsHeader block.now (file_number block.now) }
     ensures { OnOk result ((part : List ℕ) × IsNamePart block.now part

@@ -1,2 +1,4 @@
-pub mod BlankLemmas
 pub mod AreaLemmas
+pub mod HeaderFacts
+pub mod FieldLemmas
+pub mod BlankLemmas

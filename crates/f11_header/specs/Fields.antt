@@ -1,6 +1,8 @@
 -- The fields of a file header (Files-11 On-Disk Structure Level 1, "File Header").
-use Rattle.std.specs.Prelude.{ℕ, ◌+◌, ◌-◌, ◌*◌, ◌/◌, min, List, slice_index, slice_range}
+use Rattle.std.specs.Prelude.{ℕ, ◌+◌, ◌*◌, ◌==◌, if◌then◌else◌, List, slice_index, slice_range}
 use Rattle.f11_bytes.specs.Words.{word}
+use Rattle.f11_header.specs.MapFields.{segment}
+use Rattle.f11_store.specs.declared.callers.Uic.{Uic}
 
 -- H.IDOF and H.MPOF: where the ident area and the map area begin, in words
 abbrev pub ident_offset : List ℕ → ℕ
@@ -27,6 +29,9 @@ owner_member b = slice_index b 8
 abbrev pub owner_group : List ℕ → ℕ
 owner_group b = slice_index b 9
 
+abbrev pub owner : List ℕ → Uic
+owner b = record { group = owner_group b; member = owner_member b }
+
 -- H.FPRO: the protection word
 abbrev pub protection : List ℕ → ℕ
 protection b = word b 10
@@ -43,37 +48,41 @@ attributes b = slice_range b 14 46
 abbrev pub check_word : List ℕ → ℕ
 check_word b = word b 510
 
--- the ident area: 23 words from H.IDOF on
-abbrev pub ident_area : List ℕ → List ℕ
-ident_area b = slice_range b (2 * ident_offset b) (2 * ident_offset b + 46)
-
 -- the map area: from H.MPOF up to the check word
 abbrev pub map_area : List ℕ → List ℕ
 map_area b = slice_range b (2 * map_offset b) 510
 
--- the byte at which the map area begins, and a byte of that area
-abbrev pub map_byte : List ℕ → ℕ → ℕ
-map_byte b i = slice_index b (2 * map_offset b + i)
+-- the words of an ident area, which the first header of a file has, the one of segment 0
+abbrev pub ident_words : ℕ → ℕ
+ident_words segment = if segment == 0 then 23 else 0
 
--- M.ESQN: the segment number, 0 in the first header of a file
-abbrev pub segment : List ℕ → ℕ
-segment b = map_byte b 0
+-- the word behind the ident area, which begins at H.IDOF
+abbrev pub ident_end : List ℕ → ℕ
+ident_end b = ident_offset b + ident_words (segment (map_area b))
 
--- M.CTSZ and M.LBSZ: the sizes of a retrieval pointer's count and LBN
-abbrev pub count_size : List ℕ → ℕ
-count_size b = map_byte b 6
+-- the ident area, which is empty in an extension header
+abbrev pub ident_area : List ℕ → List ℕ
+ident_area b = slice_range b (2 * ident_offset b) (2 * ident_end b)
 
-abbrev pub lbn_size : List ℕ → ℕ
-lbn_size b = map_byte b 7
+-- what a header says
+pub record HeaderFields : Type 0 where
+  pub number : ℕ
+  pub sequence : ℕ
+  pub owner : Uic
+  pub protection : ℕ
+  pub characteristics : ℕ
+  pub attributes : List ℕ
+  pub ident : List ℕ
+  pub map : List ℕ
 
--- M.USE: how many words of retrieval pointers are in use
-abbrev pub words_in_use : List ℕ → ℕ
-words_in_use b = map_byte b 8
-
--- M.MAX: how many words of retrieval pointers there may be
-abbrev pub most_words : List ℕ → ℕ
-most_words b = map_byte b 9
-
--- the places for retrieval pointers: what M.MAX allows, and what fits before the check word
-abbrev pub places : List ℕ → ℕ
-places b = min (most_words b) (250 - map_offset b) / 2
+abbrev pub header_fields : List ℕ → HeaderFields
+header_fields b = record {
+  number = file_number b;
+  sequence = file_sequence b;
+  owner = owner b;
+  protection = protection b;
+  characteristics = characteristics b;
+  attributes = attributes b;
+  ident = ident_area b;
+  map = map_area b;
+}

@@ -12,5 +12,5 @@ abbrev pub written_block : HeaderMut → List ℕ
 written_block h = h.block.now
 
 -- the name of the loan of that block
-abbrev pub lent_name : HeaderMut → ℕ
-lent_name h = h.block.ghost_name
+abbrev pub block_loan : HeaderMut → ℕ
+block_loan h = h.block.ghost_name

@@ -1,7 +1,9 @@
+pub mod MapFields
 pub mod Fields
 pub mod Header
 pub mod HeaderFault
 pub mod Writing
+pub mod Laws
 pub mod Lent
 pub mod Lending
 pub use Rattle.f11_bytes.specs.Block

@@ -30,20 +30,5 @@ pub const ATTRIBUTES: usize = 14;
 /// H.CKSM, a word: the sum of the words before it.
 pub const CHECK_WORD: usize = 510;
 
-/// M.ESQN, a byte of the map area: the segment number.
-pub const SEGMENT: usize = 0;
-
-/// M.CTSZ, a byte of the map area: the size of a pointer's count.
-pub const COUNT_SIZE: usize = 6;
-
-/// M.LBSZ, a byte of the map area: the size of a pointer's LBN.
-pub const LBN_SIZE: usize = 7;
-
-/// M.USE, a byte of the map area: the words of pointers in use.
-pub const IN_USE: usize = 8;
-
-/// M.MAX, a byte of the map area: the words that there may be.
-pub const MOST: usize = 9;
-
 /// The bytes of an ident area.
 pub const IDENT_BYTES: usize = 46;

@@ -5,6 +5,7 @@ use crate::fields::{
     ATTRIBUTES, CHARACTERISTICS, CHECK_WORD, IDENT_BYTES, IDENT_OFFSET, MAP_OFFSET, NUMBER, OWNER,
     PROTECTION, SEQUENCE,
 };
+use crate::map_fields::SEGMENT;
 use f11_bytes::{Block, read_word};
 use f11_store::{FileId, Uic};
 
@@ -16,7 +17,8 @@ pub struct Header<'a> {
 
 impl<'a> Header<'a> {
     ghost use Rattle.f11_header.specs.Lent.{header_block};
-    ghost use Rattle.f11_header.specs.Fields.{ident_offset, map_offset, ident_area, map_area, file_number, file_sequence, owner_member, owner_group, protection, characteristics, attributes, segment};
+    ghost use Rattle.f11_header.specs.Fields.{ident_offset, map_offset, ident_area, map_area, file_number, file_sequence, owner, protection, characteristics, attributes, check_word};
+    ghost use Rattle.f11_header.specs.MapFields.{segment};
 
     /// The header in a block.
     pub fn new(block: &'a Block) -> Header<'a>
@@ -43,10 +45,7 @@ impl<'a> Header<'a> {
 
     /// The owner (H.FOWN).
     pub fn owner(&self) -> Uic
-        ensures { result ≡ record {
-          group = owner_group (header_block self.now);
-          member = owner_member (header_block self.now);
-        } }
+        ensures { result ≡ owner (header_block self.now) }
     {
         Uic {
             group: self.block[OWNER + 1],
@@ -80,9 +79,25 @@ impl<'a> Header<'a> {
         attributes
     }
 
+    /// The check word (H.CKSM).
+    pub fn check_word(&self) -> u16
+        ensures { result ≡ check_word (header_block self.now) }
+    {
+        let block = self.block;
+        read_word(block, CHECK_WORD)
+    }
+
+    /// The segment number (M.ESQN), 0 in the first header of a file.
+    pub fn segment(&self) -> u8
+        requires { map_offset (header_block self.now) ≤ 250 }
+        ensures { result ≡ segment (map_area (header_block self.now)) }
+    {
+        self.map()[SEGMENT]
+    }
+
     /// The ident area, 46 bytes, which the first header of a file has, and an extension header hasn't.
     pub fn ident(&self) -> &'a [u8]
-        requires first { segment (header_block self.now) ≡ 0 }
+        requires first { segment (map_area (header_block self.now)) ≡ 0 }
         requires within { 2 * ident_offset (header_block self.now) + 46 ≤ 510 }
         ensures area { result.now ≡ ident_area (header_block self.now) }
         ensures len { length result.now ≡ 46 }

@@ -8,10 +8,12 @@
 mod fields;
 mod header;
 mod header_mut;
+pub mod laws;
+mod lifecycle;
+pub mod map_fields;
 mod validity;
-mod whole;
 
 pub use header::Header;
 pub use header_mut::HeaderMut;
+pub use lifecycle::{blank, kill};
 pub use validity::{HeaderFault, check};
-pub use whole::{blank, kill};

@@ -1,3 +1,4 @@
 pub mod MapLemmas
 pub mod RunLemmas
 pub mod PointerLemmas
+pub mod InHandLemmas

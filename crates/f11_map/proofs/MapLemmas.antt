@@ -1,13 +1,14 @@
 -- Facts about retrieval pointers and the blocks that they name.
-use Rattle.std.proofs.Common.{◌≡◌, ℕ, zero, suc, ◌+◌, ◌-◌, ◌*◌, ◌/◌, ◌%◌, ◌<◌, ◌≤◌, min, List, [], ◌∷◌, ◌++◌, length, get_or, take, drop, Some, refl, sym, ap, ◌∙◌, arith, add-one, drop-cons, append_assoc}
+use Rattle.std.proofs.Common.{◌≡◌, ℕ, zero, suc, ◌+◌, ◌-◌, ◌*◌, ◌/◌, ◌<◌, ◌≤◌, List, [], ◌∷◌, ◌++◌, length, get_or, take, drop, IsTrue, Some, refl, sym, ap, ◌∙◌, arith, add-one, drop-cons, append_assoc}
 use Rattle.std.specs.List.{slice_get, range_with_len}
 use Rattle.std.proofs.lemmas.List.{length-append, take_more}
 use Rattle.std.proofs.lemmas.List.FromFn.{length-map-range_with_len, get_or-map-range_with_len, length-range_with_len, get_or-range_with_len}
 use Rattle.std.proofs.lemmas.Option.{slice_get-get_or, get_or_from_slice_get, slice_get_within}
-use Rattle.f11_map.specs.MapArea.{run_at, runs_of, blocks_in, words_in_use, most_words, places, IsMapArea}
-use Rattle.f11_header.specs.Fields.{map_offset, map_area, map_byte}
-use Rattle.f11_header.specs.Header.{IsHeader}
-use Rattle.f11_header.proofs.AreaLemmas.{slice_index-map_area}
+use Rattle.f11_header.specs.Fields.{map_offset, map_area}
+use Rattle.f11_header.specs.MapFields.{words_in_use, places, IsMapArea}
+use Rattle.f11_header.specs.Header.{holds_header}
+use Rattle.f11_header.proofs.HeaderFacts.{PointerFacts, pointer_facts, HeaderFacts, header_facts}
+use Rattle.f11_map.specs.MapArea.{run_at, runs_of, blocks_in}
 
 -- two words a pointer
 pub length-runs_of : (m : List ℕ) → length (runs_of m) ≡ words_in_use m / 2
@@ -16,11 +17,11 @@ length-runs_of m = length-map-range_with_len (run_at m) 0 (words_in_use m / 2)
 
 -- there are no more pointers than places
 pub length-runs_of-le : (m : List ℕ) → IsMapArea m → length (runs_of m) ≤ places m
-length-runs_of-le m area = omega (arith, length-runs_of m, area.within, area.even)
+length-runs_of-le m area = let facts : PointerFacts m = pointer_facts m area.pointers in omega (arith, length-runs_of m, facts.within, facts.even)
 
 -- each pointer stands in the area
 pub pointer_within : (m : List ℕ) (i : ℕ) → IsMapArea m → i < length (runs_of m) → 14 + 4 * i ≤ length m
-pointer_within m i area below = let w = area.within in let f = area.fields in let e = area.even in omega (arith, length-runs_of m)
+pointer_within m i area below = let facts : PointerFacts m = pointer_facts m area.pointers in omega (arith, length-runs_of m, facts.within, facts.even, area.fields)
 
 -- pointer i
 pub slice_get-runs_of : (m : List ℕ) (i : ℕ) → i < length (runs_of m) → slice_get (runs_of m) i ≡ Some (run_at m i)
@@ -67,19 +68,8 @@ block_here rs i left run at within =
     ap (λ (bs : List ℕ). slice_get bs left) (blocks_in-drop rs i run at) ∙ slice_get-append_front (range_with_len run.0 run.1) (blocks_in (drop (i + 1) rs)) left some
     ∙ slice_get-get_or (range_with_len run.0 run.1) left 0 some ∙ ap Some (get_or-range_with_len run.0 run.1 left 0 within)
 
--- the map area of a valid header is one
-pub IsMapArea-map_area : (b : List ℕ) (n : ℕ) → length (map_area b) ≡ 510 - 2 * map_offset b → IsHeader b n → IsMapArea (map_area b)
-IsMapArea-map_area b n size header =
-    let within : map_offset b ≤ 250 = header.map_within in
-    let in_use : words_in_use (map_area b) ≡ map_byte b 8 = slice_index-map_area b 8 (omega arith) in
-    let most : most_words (map_area b) ≡ map_byte b 9 = slice_index-map_area b 9 (omega arith) in
-    let room : (length (map_area b) - 10) / 2 ≡ 250 - map_offset b = omega (arith, size, within) in
-    let same : places (map_area b) ≡ min (map_byte b 9) (250 - map_offset b) / 2 = ap (λ (w : ℕ). min w ((length (map_area b) - 10) / 2) / 2) most ∙ ap (λ (r : ℕ). min (map_byte b 9) r / 2) room in
-    record {
-      in_block = omega (arith, size);
-      fields = omega (arith, size, within);
-      count_is = slice_index-map_area b 6 (omega arith) ∙ header.count_is;
-      lbn_is = slice_index-map_area b 7 (omega arith) ∙ header.lbn_is;
-      even = ap (λ (w : ℕ). w % 2) in_use ∙ header.even;
-      within = omega (arith, in_use, same, header.use_within);
-    }
+-- the map area of a header is one
+pub IsMapArea-map_area : (b : List ℕ) → length (map_area b) ≡ 510 - 2 * map_offset b → IsTrue (holds_header b) → IsMapArea (map_area b)
+IsMapArea-map_area b size holds =
+    let facts : HeaderFacts b = header_facts b holds in
+    record { in_block = omega (arith, size); fields = omega (arith, size, facts.map_within); pointers = facts.pointers }

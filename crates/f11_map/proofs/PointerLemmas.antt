@@ -1,16 +1,18 @@
 -- Facts about the bytes of a map area that are written.
-use Rattle.std.proofs.Common.{◌≡◌, ◌≢◌, ◌⊎◌, inl, inr, ⊎_elim, ℕ, ◌+◌, ◌-◌, ◌*◌, ◌/◌, ◌%◌, ◌<◌, ◌≤◌, min, List, [], ◌∷◌, ◌++◌, length, take, map, refl, sym, ap, ◌∙◌, arith}
+use Rattle.std.proofs.Common.{◌≡◌, ◌≢◌, ◌⊎◌, inl, inr, ⊎_elim, ℕ, ◌+◌, ◌-◌, ◌*◌, ◌/◌, ◌%◌, ◌<◌, ◌≤◌, min, List, [], ◌∷◌, ◌++◌, length, take, drop, map, refl, sym, ap, ◌∙◌, arith}
 use Rattle.std.specs.Prelude.{slice_index}
 use Rattle.std.specs.List.{range_with_len}
 use Rattle.std.proofs.Math.ListN.{set}
 use Rattle.std.proofs.lemmas.Grind.{same_number_lists}
-use Rattle.std.proofs.lemmas.List.{length-set, length-take, get_or-take, get_or-set_same, get_or-set_other, take_all}
+use Rattle.std.proofs.lemmas.List.{length-set, length-take, length-drop, get_or-take, get_or-drop, get_or-set_same, get_or-set_other, take_all}
 use Rattle.std.proofs.lemmas.List.FromFn.{fill_by_all, get_or-map-range_with_len, map-range_with_len_more}
 use Rattle.f11_bytes.specs.Words.{word, with_word}
-use Rattle.f11_bytes.proofs.WordLemmas.{slice_index-with_word, word-with_word}
-use Rattle.f11_header.proofs.AreaLemmas.{IsHeader-with_map}
-use Rattle.f11_map.specs.MapArea.{IsMapArea, run_at, runs_of, words_in_use, most_words, places}
-use Rattle.f11_map.specs.MapWriting.{with_run, with_words_in_use, WritesPointers, StaysHeader}
+use Rattle.f11_bytes.proofs.WordLemmas.{length-with_word, slice_index-with_word, word-with_word, word-with_word_apart}
+use Rattle.f11_header.specs.MapFields.{IsMapArea, words_in_use, most_words, places}
+use Rattle.f11_header.proofs.HeaderFacts.{PointerFacts, pointer_facts, holds_pointers-from}
+use Rattle.f11_map.specs.MapArea.{run_at, runs_of}
+use Rattle.f11_map.specs.MapWriting.{with_run, with_words_in_use, WritesPointers, WritesLink}
+use Rattle.f11_store.specs.declared.files.FileId.{FileId}
 use Rattle.f11_map.proofs.MapLemmas.{length-runs_of}
 
 -- the size of an area with another pointer
@@ -127,48 +129,51 @@ runs_of-last old i run room some few =
     ∙ ap (λ (front : List (ℕ × ℕ)). front ++ run_at new i ∷ []) (runs_front old new i few (λ k from to. writes.others k (λ is. omega arith) (inl to)))
     ∙ ap (λ (x : ℕ × ℕ). take i (runs_of old) ++ x ∷ []) last
 
--- what else stays
-pub WritesPointers-from : (old new : List ℕ) (i n : ℕ) → Rewrites old new i n → 8 ≤ length old → WritesPointers old new
-WritesPointers-from old new i n writes long =
-    let size : length new ≡ length old = writes.size in
-    let count : length (runs_of new) ≡ n = omega (arith, length-runs_of new, writes.in_use) in
-    record {
-      size = size;
-      front = same_number_lists (take 8 new) (take 8 old) (omega (arith, length-take 8 new, length-take 8 old))
-          (λ k below. let few : k < 8 = omega (arith, length-take 8 new) in get_or-take 8 new k 0 few ∙ writes.others k (λ is. omega arith) (inl (omega arith)) ∙ sym (get_or-take 8 old k 0 few));
-      most = writes.others 9 (λ is. omega arith) (inl (omega arith));
-      behind = λ k past. writes.others k (λ is. omega arith) (inr (omega arith));
-    }
-
 -- the places are as many
 places-same : (old new : List ℕ) → length new ≡ length old → most_words new ≡ most_words old → places new ≡ places old
 places-same old new size most = ap (λ (w : ℕ). min w ((length new - 10) / 2) / 2) most ∙ ap (λ (l : ℕ). min (most_words old) ((l - 10) / 2) / 2) size
 
 -- it is still a map area
-pub IsMapArea-from : (old new : List ℕ) (i n : ℕ) → Rewrites old new i n → IsMapArea old → n ≤ places old → IsMapArea new
+IsMapArea-from : (old new : List ℕ) (i n : ℕ) → Rewrites old new i n → IsMapArea old → n ≤ places old → IsMapArea new
 IsMapArea-from old new i n writes area few =
     let size : length new ≡ length old = writes.size in
+    let facts : PointerFacts old = pointer_facts old area.pointers in
     let same : places new ≡ places old = places-same old new size (writes.others 9 (λ is. omega arith) (inl (omega arith))) in
     record {
       in_block = omega (arith, area.in_block);
       fields = omega (arith, area.fields);
-      count_is = writes.others 6 (λ is. omega arith) (inl (omega arith)) ∙ area.count_is;
-      lbn_is = writes.others 7 (λ is. omega arith) (inl (omega arith)) ∙ area.lbn_is;
-      even = omega (arith, writes.in_use);
-      within = omega (arith, writes.in_use, same);
+      pointers = holds_pointers-from new (record {
+        count_is = writes.others 6 (λ is. omega arith) (inl (omega arith)) ∙ facts.count_is;
+        lbn_is = writes.others 7 (λ is. omega arith) (inl (omega arith)) ∙ facts.lbn_is;
+        even = omega (arith, writes.in_use);
+        within = omega (arith, writes.in_use, same);
+      });
     }
 
--- a header with the new area
-pub StaysHeader-from : (old new : List ℕ) → length new ≡ length old → slice_index new 0 ≡ slice_index old 0 → slice_index new 6 ≡ slice_index old 6
-    → slice_index new 7 ≡ slice_index old 7 → IsMapArea new → StaysHeader old new
-StaysHeader-from old new size number count lbn area = λ b n long is header.
-    IsHeader-with_map b new n long (size ∙ sym (ap length is)) (number ∙ sym (ap (λ (m : List ℕ). slice_index m 0) is)) (count ∙ sym (ap (λ (m : List ℕ). slice_index m 6) is))
-    (lbn ∙ sym (ap (λ (m : List ℕ). slice_index m 7) is)) area.even area.within header
+-- what else stays
+pub WritesPointers-from : (old new : List ℕ) (i n : ℕ) → Rewrites old new i n → IsMapArea old → n ≤ places old → WritesPointers old new
+WritesPointers-from old new i n writes area few =
+    let size : length new ≡ length old = writes.size in
+    let count : length (runs_of new) ≡ n = omega (arith, length-runs_of new, writes.in_use) in
+    let byte : (k : ℕ) → k < 8 → slice_index new k ≡ slice_index old k = λ k front. writes.others k (λ is. omega arith) (inl (omega arith)) in
+    record {
+      valid = IsMapArea-from old new i n writes area few;
+      size = size;
+      front = same_number_lists (take 8 new) (take 8 old) (omega (arith, length-take 8 new, length-take 8 old))
+          (λ k below. let front : k < 8 = omega (arith, length-take 8 new) in get_or-take 8 new k 0 front ∙ writes.others k (λ is. omega arith) (inl (omega arith)) ∙ sym (get_or-take 8 old k 0 front));
+      segment_stays = byte 0 (omega arith);
+      link_stays = λ k. record {
+        number = byte 2 (omega arith) k + 256 * byte 3 (omega arith) k;
+        sequence = byte 4 (omega arith) k + 256 * byte 5 (omega arith) k;
+        volume = byte 1 (omega arith) k;
+      };
+      most = writes.others 9 (λ is. omega arith) (inl (omega arith));
+      behind = λ k past. writes.others k (λ is. omega arith) (inr (omega arith));
+    }
 
-pub StaysHeader-rewritten : (old new : List ℕ) (i n : ℕ) → Rewrites old new i n → IsMapArea new → StaysHeader old new
-StaysHeader-rewritten old new i n writes area =
-    let front : (k : ℕ) → k < 8 → slice_index new k ≡ slice_index old k = λ k few. writes.others k (λ is. omega arith) (inl (omega arith)) in
-    StaysHeader-from old new writes.size (front 0 (omega arith)) (front 6 (omega arith)) (front 7 (omega arith)) area
+-- nothing is written
+pub WritesPointers-same : (m : List ℕ) → IsMapArea m → WritesPointers m m
+WritesPointers-same m area = record { valid = area; size = refl; front = refl; segment_stays = refl; link_stays = refl; most = refl; behind = λ i past. refl }
 
 -- an area with another link
 abbrev with_link : List ℕ → ℕ → ℕ → ℕ → List ℕ
@@ -187,19 +192,44 @@ runs_of-with_link m volume number sequence =
     runs_of-same m (with_link m volume number sequence) (slice_index-with_link m volume number sequence 8 (inr (omega arith)))
     (λ k from. slice_index-with_link m volume number sequence k (inr (omega arith)))
 
--- a header with this link in its map area
-pub StaysHeader-with_link : (m : List ℕ) (volume number sequence : ℕ) → IsMapArea m → StaysHeader m (with_link m volume number sequence)
-StaysHeader-with_link m volume number sequence area =
+-- it is still a map area
+IsMapArea-with_link : (m : List ℕ) (volume number sequence : ℕ) → IsMapArea m → IsMapArea (with_link m volume number sequence)
+IsMapArea-with_link m volume number sequence area =
     let new : List ℕ = with_link m volume number sequence in
+    let facts : PointerFacts m = pointer_facts m area.pointers in
     let long : length new ≡ length m = grind (arith, length-set) in
     let byte : (k : ℕ) → k ≡ 0 ⊎ 6 ≤ k → slice_index new k ≡ slice_index m k = slice_index-with_link m volume number sequence in
     let in_use : words_in_use new ≡ words_in_use m = byte 8 (inr (omega arith)) in
     let same : places new ≡ places m = places-same m new long (byte 9 (inr (omega arith))) in
-    StaysHeader-from m new long (byte 0 (inl refl)) (byte 6 (inr (omega arith))) (byte 7 (inr (omega arith))) (record {
+    record {
       in_block = omega (arith, area.in_block);
       fields = omega (arith, area.fields);
-      count_is = byte 6 (inr (omega arith)) ∙ area.count_is;
-      lbn_is = byte 7 (inr (omega arith)) ∙ area.lbn_is;
-      even = ap (λ (words : ℕ). words % 2) in_use ∙ area.even;
-      within = omega (arith, area.within);
-    })
+      pointers = holds_pointers-from new (record {
+        count_is = byte 6 (inr (omega arith)) ∙ facts.count_is;
+        lbn_is = byte 7 (inr (omega arith)) ∙ facts.lbn_is;
+        even = ap (λ (words : ℕ). words % 2) in_use ∙ facts.even;
+        within = omega (arith, facts.within);
+      });
+    }
+
+-- the link that is written, and what stays
+pub WritesLink-with_link : (m : List ℕ) (id : FileId) → IsMapArea m → WritesLink m (with_link m 0 id.number id.sequence) id
+WritesLink-with_link m id area =
+    let once : List ℕ = set m 1 0 in
+    let twice : List ℕ = with_word once 2 id.number in
+    let new : List ℕ = with_link m 0 id.number id.sequence in
+    let long : length new ≡ length m = grind (arith, length-set) in
+    let byte : (k : ℕ) → k ≡ 0 ⊎ 6 ≤ k → slice_index new k ≡ slice_index m k = slice_index-with_link m 0 id.number id.sequence in
+    let number : word new 2 ≡ id.number = word-with_word_apart twice 4 id.sequence 2 (inl (omega arith)) ∙ word-with_word once 2 id.number (omega (arith, area.fields, length-set m 1 0)) in
+    let sequence : word new 4 ≡ id.sequence = word-with_word twice 4 id.sequence (omega (arith, area.fields, length-with_word once 2 id.number, length-set m 1 0)) in
+    let volume : slice_index new 1 ≡ 0 =
+    slice_index-with_word twice 4 id.sequence 1 (λ is. omega arith) (λ is. omega arith)
+    ∙ slice_index-with_word once 2 id.number 1 (λ is. omega arith) (λ is. omega arith) ∙ get_or-set_same m 1 0 0 (omega (arith, area.fields)) in
+    record {
+      valid = IsMapArea-with_link m 0 id.number id.sequence area;
+      size = long;
+      link_is = λ k. record { number = number k; sequence = sequence k; volume = volume k };
+      segment_stays = byte 0 (inl refl);
+      rest = same_number_lists (drop 6 new) (drop 6 m) (omega (arith, length-drop 6 new, length-drop 6 m, long))
+          (λ k below. get_or-drop 6 new k 0 ∙ byte (6 + k) (inr (omega arith)) ∙ sym (get_or-drop 6 m k 0));
+    }

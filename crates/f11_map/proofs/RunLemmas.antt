@@ -7,8 +7,9 @@ use Rattle.std.proofs.lemmas.List.{append-nil, length-append, take_all, drop_all
 use Rattle.std.proofs.lemmas.List.Elements.{All-map}
 use Rattle.std.proofs.lemmas.List.FromFn.{length-range_with_len, take-map-range_with_len}
 use Rattle.std.proofs.lemmas.Option.{same_Some, get_or_from_slice_get}
-use Rattle.f11_map.specs.MapArea.{run_at, runs_of, words_in_use, blocks_in, LiesIn}
-use Rattle.f11_map.specs.MapWriting.{joins, joins_last, appended, cut_to}
+use Rattle.f11_header.specs.MapFields.{words_in_use}
+use Rattle.f11_map.specs.MapArea.{run_at, runs_of, blocks_in, LiesIn}
+use Rattle.f11_map.specs.MapWriting.{joins, joins_last, with_blocks, cut_to}
 use Rattle.f11_map.proofs.MapLemmas.{blocks_in-append, slice_get-append_back, block_here}
 
 -- the block that lies in a pointer
@@ -35,19 +36,19 @@ pub joins-fits : (run : ℕ × ℕ) (lbn count : ℕ) → joins run lbn count �
 joins-fits run lbn count joined = leb-true (run.1 + count) 256 (and_parts (eqb (run.0 + run.1) lbn) (leb (run.1 + count) 256) joined).1
 
 -- blocks that join the last pointer
-pub appended-joined : (runs : List (ℕ × ℕ)) (i lbn count : ℕ) (run : ℕ × ℕ) → i + 1 ≡ length runs → slice_get runs i ≡ Some run → joins_last runs lbn count ≡ true
-    → appended runs lbn count ≡ take i runs ++ (run.0, run.1 + count) ∷ []
-appended-joined [] i lbn count run is at joined = absurd (omega arith)
-appended-joined (r ∷ []) zero lbn count run is at joined = cond-true (joins r lbn count) _ _ joined ∙ ap (λ (x : ℕ × ℕ). (x.0, x.1 + count) ∷ []) (same_Some r run at)
-appended-joined (r ∷ []) (suc i) lbn count run is at joined = absurd (omega arith)
-appended-joined (r ∷ s ∷ runs) zero lbn count run is at joined = absurd (omega arith)
-appended-joined (r ∷ s ∷ runs) (suc i) lbn count run is at joined = ap (λ (rest : List (ℕ × ℕ)). r ∷ rest) (appended-joined (s ∷ runs) i lbn count run (omega arith) at joined)
+pub with_blocks-joined : (runs : List (ℕ × ℕ)) (i lbn count : ℕ) (run : ℕ × ℕ) → i + 1 ≡ length runs → slice_get runs i ≡ Some run → joins_last runs lbn count ≡ true
+    → with_blocks runs lbn count ≡ take i runs ++ (run.0, run.1 + count) ∷ []
+with_blocks-joined [] i lbn count run is at joined = absurd (omega arith)
+with_blocks-joined (r ∷ []) zero lbn count run is at joined = cond-true (joins r lbn count) _ _ joined ∙ ap (λ (x : ℕ × ℕ). (x.0, x.1 + count) ∷ []) (same_Some r run at)
+with_blocks-joined (r ∷ []) (suc i) lbn count run is at joined = absurd (omega arith)
+with_blocks-joined (r ∷ s ∷ runs) zero lbn count run is at joined = absurd (omega arith)
+with_blocks-joined (r ∷ s ∷ runs) (suc i) lbn count run is at joined = ap (λ (rest : List (ℕ × ℕ)). r ∷ rest) (with_blocks-joined (s ∷ runs) i lbn count run (omega arith) at joined)
 
 -- blocks that don't
-pub appended-apart : (runs : List (ℕ × ℕ)) (lbn count : ℕ) → joins_last runs lbn count ≡ false → appended runs lbn count ≡ runs ++ (lbn, count) ∷ []
-appended-apart [] lbn count apart = refl
-appended-apart (r ∷ []) lbn count apart = cond-false (joins r lbn count) _ _ apart
-appended-apart (r ∷ s ∷ runs) lbn count apart = ap (λ (rest : List (ℕ × ℕ)). r ∷ rest) (appended-apart (s ∷ runs) lbn count apart)
+pub with_blocks-apart : (runs : List (ℕ × ℕ)) (lbn count : ℕ) → joins_last runs lbn count ≡ false → with_blocks runs lbn count ≡ runs ++ (lbn, count) ∷ []
+with_blocks-apart [] lbn count apart = refl
+with_blocks-apart (r ∷ []) lbn count apart = cond-false (joins r lbn count) _ _ apart
+with_blocks-apart (r ∷ s ∷ runs) lbn count apart = ap (λ (rest : List (ℕ × ℕ)). r ∷ rest) (with_blocks-apart (s ∷ runs) lbn count apart)
 
 -- two runs of blocks, one behind the other
 range_with_len-append : (from few more : ℕ) → range_with_len from (few + more) ≡ range_with_len from few ++ range_with_len (from + few) more
@@ -58,9 +59,9 @@ range_with_len-append from (suc few) more =
     rw (counts, next) (ap (λ (rest : List ℕ). from ∷ rest) (range_with_len-append (from + 1) few more))
 
 -- the blocks of the pointers with more blocks
-pub blocks_in-appended : (runs : List (ℕ × ℕ)) (lbn count : ℕ) → blocks_in (appended runs lbn count) ≡ blocks_in runs ++ range_with_len lbn count
-blocks_in-appended [] lbn count = append-nil (range_with_len lbn count)
-blocks_in-appended (r ∷ []) lbn count = ⊎_elim
+pub blocks_in-with_blocks : (runs : List (ℕ × ℕ)) (lbn count : ℕ) → blocks_in (with_blocks runs lbn count) ≡ blocks_in runs ++ range_with_len lbn count
+blocks_in-with_blocks [] lbn count = append-nil (range_with_len lbn count)
+blocks_in-with_blocks (r ∷ []) lbn count = ⊎_elim
     (λ (joined : joins r lbn count ≡ true).
     let next : r.0 + r.1 ≡ lbn = eqb-true (r.0 + r.1) lbn (and_parts (eqb (r.0 + r.1) lbn) (leb (r.1 + count) 256) joined).0 in
     ap blocks_in (cond-true (joins r lbn count) _ _ joined) ∙ append-nil (range_with_len r.0 (r.1 + count)) ∙ range_with_len-append r.0 r.1 count
@@ -70,8 +71,8 @@ blocks_in-appended (r ∷ []) lbn count = ⊎_elim
     ap blocks_in (cond-false (joins r lbn count) _ _ apart) ∙ blocks_in-append (r ∷ []) ((lbn, count) ∷ [])
     ∙ ap (λ (blocks : List ℕ). blocks_in (r ∷ []) ++ blocks) (append-nil (range_with_len lbn count)))
     (cases_Bool (joins r lbn count))
-blocks_in-appended (r ∷ s ∷ runs) lbn count =
-    ap (λ (blocks : List ℕ). range_with_len r.0 r.1 ++ blocks) (blocks_in-appended (s ∷ runs) lbn count)
+blocks_in-with_blocks (r ∷ s ∷ runs) lbn count =
+    ap (λ (blocks : List ℕ). range_with_len r.0 r.1 ++ blocks) (blocks_in-with_blocks (s ∷ runs) lbn count)
     ∙ sym (append_assoc (range_with_len r.0 r.1) (blocks_in (s ∷ runs)) (range_with_len lbn count))
 
 -- the first of a run of blocks

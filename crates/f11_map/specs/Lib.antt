@@ -1,9 +1,11 @@
 pub mod MapArea
 pub mod Map
 pub mod MapWriting
+pub mod InHand
 pub use Rattle.f11_bytes.specs.Block
 pub use Rattle.f11_bytes.specs.Words
 pub use Rattle.f11_header.specs.Fields
+pub use Rattle.f11_header.specs.MapFields
 pub use Rattle.f11_header.specs.Header
 pub use Rattle.f11_header.specs.Lent
 pub use Rattle.f11_header.specs.Writing

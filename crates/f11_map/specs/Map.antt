@@ -12,5 +12,5 @@ abbrev pub written_area : MapMut → List ℕ
 written_area m = m.area.now
 
 -- the name of the loan of that area
-abbrev pub lent_name : MapMut → ℕ
-lent_name m = m.area.ghost_name
+abbrev pub area_loan : MapMut → ℕ
+area_loan m = m.area.ghost_name

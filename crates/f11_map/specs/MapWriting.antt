@@ -2,10 +2,8 @@
 -- Pointers"; how pointers join: profile).
 use Rattle.std.specs.Prelude.{◌≡◌, ℕ, ◌+◌, ◌-◌, ◌*◌, ◌/◌, ◌%◌, ◌≤◌, ◌==◌, nat_le, Bool, false, ◌&&◌, if◌then◌else◌, List, [], ◌∷◌, length, take, drop, slice_index, slice_set}
 use Rattle.f11_bytes.specs.Words.{with_word}
-use Rattle.f11_header.specs.Fields.{map_area}
-use Rattle.f11_header.specs.Header.{IsHeader}
-use Rattle.f11_header.specs.Writing.{sealed, with_map}
-use Rattle.f11_map.specs.MapArea.{segment, link, runs_of, most_words}
+use Rattle.f11_header.specs.MapFields.{segment, link, most_words, IsMapArea}
+use Rattle.f11_map.specs.MapArea.{runs_of}
 use Rattle.f11_store.specs.declared.files.FileId.{FileId}
 
 -- So many blocks from an LBN on join a pointer where they follow its last block and both are 256 blocks at most.
@@ -19,10 +17,10 @@ joins_last (run ∷ []) lbn count = joins run lbn count
 joins_last (run ∷ next ∷ runs) lbn count = joins_last (next ∷ runs) lbn count
 
 -- The pointers with these blocks at the end: in the last pointer where they join it, and else in one more.
-abbrev pub appended : List (ℕ × ℕ) → ℕ → ℕ → List (ℕ × ℕ)
-appended [] lbn count = (lbn, count) ∷ []
-appended (run ∷ []) lbn count = if joins run lbn count then (run.0, run.1 + count) ∷ [] else run ∷ (lbn, count) ∷ []
-appended (run ∷ next ∷ runs) lbn count = run ∷ appended (next ∷ runs) lbn count
+abbrev pub with_blocks : List (ℕ × ℕ) → ℕ → ℕ → List (ℕ × ℕ)
+with_blocks [] lbn count = (lbn, count) ∷ []
+with_blocks (run ∷ []) lbn count = if joins run lbn count then (run.0, run.1 + count) ∷ [] else run ∷ (lbn, count) ∷ []
+with_blocks (run ∷ next ∷ runs) lbn count = run ∷ with_blocks (next ∷ runs) lbn count
 
 -- The pointers cut to the first so many blocks: a pointer that names none of them goes.
 abbrev pub cut_to : List (ℕ × ℕ) → ℕ → List (ℕ × ℕ)
@@ -38,21 +36,21 @@ with_run m i run = with_word (slice_set (slice_set m (10 + 4 * i) (run.0 / 65536
 abbrev pub with_words_in_use : List ℕ → ℕ → List ℕ
 with_words_in_use m words = slice_set m 8 words
 
--- Pointers are written: M.USE and the pointers may change, and all else stays: M.ESQN, the link and the sizes before M.USE,
+-- Pointers are written, and the area holds pointers still: M.USE and the pointers may change, and all else stays: M.ESQN, the link and the sizes before M.USE,
 -- M.MAX, and what stands behind the pointers that there are then.
 pub record WritesPointers (old new : List ℕ) : Type 0 where
+  pub valid : IsMapArea new
   pub size : length new ≡ length old
   pub front : take 8 new ≡ take 8 old
+  pub segment_stays : segment new ≡ segment old
+  pub link_stays : link new ≡ link old
   pub most : most_words new ≡ most_words old
   pub behind : (i : ℕ) → 10 + 4 * length (runs_of new) ≤ i → slice_index new i ≡ slice_index old i
 
--- A link is written: M.ERVN, M.EFNU and M.EFSQ alone may change, and M.ERVN is 0.
+-- A link is written, and the pointers stay: M.ERVN, M.EFNU and M.EFSQ alone may change, and M.ERVN is 0.
 pub record WritesLink (old new : List ℕ) (id : FileId) : Type 0 where
+  pub valid : IsMapArea new
   pub size : length new ≡ length old
   pub link_is : link new ≡ record { number = id.number; sequence = id.sequence; volume = 0 }
   pub segment_stays : segment new ≡ segment old
   pub rest : drop 6 new ≡ drop 6 old
-
--- A block that, sealed, is a valid header is still one with the new map area, once it is sealed again.
-abbrev pub StaysHeader : List ℕ → List ℕ → Type 0
-StaysHeader old new = (b : List ℕ) (n : ℕ) → length b ≡ 512 → map_area b ≡ old → IsHeader (sealed b) n → IsHeader (sealed (with_map b new)) n

@@ -1,7 +1,8 @@
 //! Retrieval pointers in the map area of a lent header: [`Map`] reads them and [`MapMut`] writes them where they stand.
+//! [`in_hand`] has the calls on a block that holds a header, which seal it again.
 #![tactic(auto)]
 
-mod fields;
+pub mod in_hand;
 mod map;
 mod map_mut;
 mod pointer;

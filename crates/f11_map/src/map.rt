@@ -1,15 +1,18 @@
 //! The retrieval pointers of a header.
-ghost use Rattle.std.specs.Prelude.{◌≡◌, ◌<◌, ◌≤◌, ◌+◌, ◌-◌, ◌^◌, length, Some, MatchOption, IfSome};
+ghost use Rattle.std.specs.Prelude.{◌≡◌, ◌<◌, ◌≤◌, ◌+◌, ◌-◌, ◌^◌, length, IsTrue, Some, MatchOption, IfSome};
 ghost use Rattle.std.specs.List.{slice_get};
 ghost use Rattle.f11_bytes.specs.Words.{word};
-ghost use Rattle.f11_header.specs.Fields.{file_number, map_area};
-ghost use Rattle.f11_header.specs.Header.{IsHeader};
-ghost use Rattle.f11_map.specs.MapArea.{IsMapArea, LiesIn, segment, link, runs_of, blocks_of, places};
+ghost use Rattle.f11_header.specs.Fields.{map_area};
+ghost use Rattle.f11_header.specs.MapFields.{IsMapArea, segment, link, places};
+ghost use Rattle.f11_header.specs.Header.{holds_header};
+ghost use Rattle.f11_map.specs.MapArea.{LiesIn, runs_of, blocks_of};
 ghost use Rattle.f11_map.specs.MapWriting.{joins_last};
 
-use crate::fields::{IN_USE, LINK_NUMBER, LINK_SEQUENCE, LINK_VOLUME, MOST, POINTERS, SEGMENT};
 use f11_bytes::read_word;
 use f11_header::Header;
+use f11_header::map_fields::{
+    IN_USE, LINK_NUMBER, LINK_SEQUENCE, LINK_VOLUME, MOST, POINTERS, SEGMENT,
+};
 use f11_store::FileId;
 
 /// The map area of a header, read where it stands.
@@ -31,9 +34,9 @@ impl<'a> Map<'a> {
         Map { area }
     }
 
-    /// The map area of a valid header, where it stands.
+    /// The map area of a header that is valid, or valid but for its check word, where it stands.
     pub fn of(header: &Header<'a>) -> Map<'a>
-        requires { IsHeader (header_block header.now) (file_number (header_block header.now)) }
+        requires { IsTrue (holds_header (header_block header.now)) }
         ensures { area_of result ≡ map_area (header_block header.now) }
     {
         Map::new(header.map())

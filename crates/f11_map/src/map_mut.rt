@@ -1,8 +1,9 @@
 //! The retrieval pointers of a header, written where they stand.
 ghost use Rattle.std.specs.Prelude.{◌≡◌, ◌↔◌, ◌<◌, ◌≤◌, ◌^◌, ◌++◌, false, length, take, IsOk, IsErr};
 ghost use Rattle.std.specs.List.{range_with_len};
-ghost use Rattle.f11_map.specs.MapArea.{IsMapArea, runs_of, blocks_of, places};
-ghost use Rattle.f11_map.specs.MapWriting.{joins_last, appended, cut_to, WritesPointers, WritesLink, StaysHeader};
+ghost use Rattle.f11_header.specs.MapFields.{IsMapArea, places};
+ghost use Rattle.f11_map.specs.MapArea.{runs_of, blocks_of};
+ghost use Rattle.f11_map.specs.MapWriting.{joins_last, with_blocks, cut_to, WritesPointers, WritesLink};
 
 use crate::map::Map;
 use crate::pointer::{keep, put_last, put_link};
@@ -26,7 +27,8 @@ impl fmt::Display for MapFull {
 
 impl Error for MapFull {}
 
-/// The map area of a header, written where it stands. A valid header is valid again once it is sealed.
+/// The map area of a header, written where it stands. It holds pointers after each call, so a header is valid again once it
+/// is sealed.
 #[derive(Drop)]
 pub struct MapMut<'a> {
     area: &'a mut [u8],
@@ -34,13 +36,13 @@ pub struct MapMut<'a> {
 }
 
 impl<'a> MapMut<'a> {
-    ghost use Rattle.f11_map.specs.Map.{area_of, written_area, lent_name};
+    ghost use Rattle.f11_map.specs.Map.{area_of, written_area, area_loan};
 
     /// The map area of a valid header.
     pub fn new(area: &'a mut [u8]) -> MapMut<'a>
         requires { IsMapArea area.old }
         ensures area { written_area result ≡ area.old }
-        ensures same_reference { lent_name result ≡ area.entry.ghost_name }
+        ensures same_reference { area_loan result ≡ area.entry.ghost_name }
     {
         MapMut { area }
     }
@@ -61,14 +63,13 @@ impl<'a> MapMut<'a> {
     pub fn append(&mut self, lbn: u32, count: u32) -> Result<(), MapFull>
         requires lbn { lbn < 2 ^ 24 }
         requires count { (0 < count) × (count ≤ 256) }
-        ensures pointers { IsOk result → runs_of (written_area self.new) ≡ appended (runs_of (written_area self.old)) lbn count }
+        ensures pointers { IsOk result → runs_of (written_area self.new) ≡ with_blocks (runs_of (written_area self.old)) lbn count }
         ensures blocks { IsOk result → blocks_of (written_area self.new) ≡ blocks_of (written_area self.old) ++ range_with_len lbn count }
         ensures full { IsErr result ↔ ((places (written_area self.old) ≡ length (runs_of (written_area self.old)))
             × (joins_last (runs_of (written_area self.old)) lbn count ≡ false)) }
         ensures unchanged { IsErr result → written_area self.new ≡ written_area self.old }
         ensures rest { WritesPointers (written_area self.old) (written_area self.new) }
-        ensures header { StaysHeader (written_area self.old) (written_area self.new) }
-        ensures same_reference { lent_name self.new ≡ lent_name self.old }
+        ensures same_reference { area_loan self.new ≡ area_loan self.old }
     {
         let map = self.map();
         let pointers = map.runs();
@@ -90,8 +91,7 @@ impl<'a> MapMut<'a> {
         ensures pointers { runs_of (written_area self.new) ≡ cut_to (runs_of (written_area self.old)) place }
         ensures blocks { blocks_of (written_area self.new) ≡ take place (blocks_of (written_area self.old)) }
         ensures rest { WritesPointers (written_area self.old) (written_area self.new) }
-        ensures header { StaysHeader (written_area self.old) (written_area self.new) }
-        ensures same_reference { lent_name self.new ≡ lent_name self.old }
+        ensures same_reference { area_loan self.new ≡ area_loan self.old }
     {
         let map = self.map();
         let Some((i, left)) = map.find(place) else {
@@ -110,8 +110,7 @@ impl<'a> MapMut<'a> {
     pub fn set_link(&mut self, id: FileId)
         ensures link { WritesLink (written_area self.old) (written_area self.new) id }
         ensures pointers { runs_of (written_area self.new) ≡ runs_of (written_area self.old) }
-        ensures header { StaysHeader (written_area self.old) (written_area self.new) }
-        ensures same_reference { lent_name self.new ≡ lent_name self.old }
+        ensures same_reference { area_loan self.new ≡ area_loan self.old }
     {
         put_link(self.area, id);
     }

@@ -1,11 +1,12 @@
 //! Bytes of a map area that are written.
 ghost use Rattle.std.specs.Prelude.{◌≡◌, ◌+◌, ◌*◌, ◌<◌, ◌≤◌, ◌^◌, ◌++◌, [], ◌∷◌, length, take};
 ghost use Rattle.f11_bytes.specs.Words.{with_word};
-ghost use Rattle.f11_map.specs.MapArea.{IsMapArea, runs_of, places};
-ghost use Rattle.f11_map.specs.MapWriting.{with_run, with_words_in_use, WritesPointers, WritesLink, StaysHeader};
+ghost use Rattle.f11_header.specs.MapFields.{IsMapArea, places};
+ghost use Rattle.f11_map.specs.MapArea.{runs_of};
+ghost use Rattle.f11_map.specs.MapWriting.{with_run, with_words_in_use, WritesPointers, WritesLink};
 
-use crate::fields::{IN_USE, LINK_NUMBER, LINK_SEQUENCE, LINK_VOLUME, POINTERS};
 use f11_bytes::write_word;
+use f11_header::map_fields::{IN_USE, LINK_NUMBER, LINK_SEQUENCE, LINK_VOLUME, POINTERS};
 use f11_store::FileId;
 
 /// Makes pointer `i` the last one, and lets it name `count` blocks, 1 to 256, from LBN `lbn` on, below 16,777,216.
@@ -15,10 +16,8 @@ pub fn put_last(area: &mut [u8], i: usize, lbn: u32, count: u32)
     requires place { i < places area.old }
     requires lbn { lbn < 2 ^ 24 }
     requires count { (0 < count) × (count ≤ 256) }
-    ensures is_map { IsMapArea area.new }
     ensures pointers { runs_of area.new ≡ take i (runs_of area.old) ++ (lbn, count) ∷ [] }
     ensures rest { WritesPointers area.old area.new }
-    ensures header { StaysHeader area.old area.new }
 {
     put_run(area, i, lbn, count);
     put_words_in_use(area, i + 1);
@@ -29,10 +28,8 @@ pub fn keep(area: &mut [u8], pointers: usize)
     requires is_map { IsMapArea area.old }
     requires pointers { pointers ≤ length (runs_of area.old) }
     requires few { pointers ≤ 127 }
-    ensures is_map { IsMapArea area.new }
     ensures pointers { runs_of area.new ≡ take pointers (runs_of area.old) }
     ensures rest { WritesPointers area.old area.new }
-    ensures header { StaysHeader area.old area.new }
 {
     put_words_in_use(area, pointers);
 }
@@ -40,10 +37,8 @@ pub fn keep(area: &mut [u8], pointers: usize)
 /// Writes the next header of the file (M.EFNU, M.EFSQ), and relative volume 0 (M.ERVN).
 pub fn put_link(area: &mut [u8], id: FileId)
     requires { IsMapArea area.old }
-    ensures is_map { IsMapArea area.new }
     ensures link { WritesLink area.old area.new id }
     ensures pointers { runs_of area.new ≡ runs_of area.old }
-    ensures header { StaysHeader area.old area.new }
 {
     area[LINK_VOLUME] = 0;
     write_word(area, LINK_NUMBER, id.number);

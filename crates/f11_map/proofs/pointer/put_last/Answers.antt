@@ -1,5 +1,5 @@
 use Rattle.std.proofs.Common.{◌+◌, ◌*◌, ◌≤◌, length, arith}
-use Rattle.f11_map.proofs.PointerLemmas.{Rewrites-last, runs_of-last, WritesPointers-from, IsMapArea-from, StaysHeader-rewritten}
+use Rattle.f11_map.proofs.PointerLemmas.{Rewrites-last, runs_of-last, WritesPointers-from}
 use Rattle.f11_map.proofs.pointer.put_last.Goals as goal
 
 pub returns-clause-pointers : goal.returns-clause-pointers
@@ -9,11 +9,5 @@ returns-clause-pointers c =
 pub returns-clause-rest : goal.returns-clause-rest
 returns-clause-rest c =
     let room : 14 + 4 * c.args.i ≤ length c.args.area.now = omega arith in
-    rw (c.put_words_in_use.ensures, c.put_run.ensures) (WritesPointers-from c.args.area.now _ c.args.i (c.args.i + 1) (Rewrites-last c.args.area.now c.args.i (c.args.lbn, c.args.count) room) (omega arith))
-
-pub returns-clause-header : goal.returns-clause-header
-returns-clause-header c =
-    let room : 14 + 4 * c.args.i ≤ length c.args.area.now = omega arith in
     let writes = Rewrites-last c.args.area.now c.args.i (c.args.lbn, c.args.count) room in
-    rw (c.put_words_in_use.ensures, c.put_run.ensures)
-    (StaysHeader-rewritten c.args.area.now _ c.args.i (c.args.i + 1) writes (IsMapArea-from c.args.area.now _ c.args.i (c.args.i + 1) writes c.requires.is_map (omega arith)))
+    rw (c.put_words_in_use.ensures, c.put_run.ensures) (WritesPointers-from c.args.area.now _ c.args.i (c.args.i + 1) writes c.requires.is_map (omega arith))

@@ -5,8 +5,8 @@ use Rattle.f11_map.specs.MapArea.{runs_of, blocks_in, places}
 use Rattle.f11_map.specs.MapWriting.{joins, joins_last}
 use Rattle.f11_map.specs.Map.{written_area}
 use Rattle.f11_map.proofs.MapLemmas.{length-runs_of-le}
-use Rattle.f11_map.proofs.RunLemmas.{joins_last-at, joins-fits, appended-joined, appended-apart, blocks_in-appended}
-use Rattle.f11_map.proofs.PointerLemmas.{StaysHeader-from}
+use Rattle.f11_map.proofs.RunLemmas.{joins_last-at, joins-fits, with_blocks-joined, with_blocks-apart, blocks_in-with_blocks}
+use Rattle.f11_map.proofs.PointerLemmas.{WritesPointers-same}
 use Rattle.f11_map.proofs.map_mut.MapMut.append.Goals as goal
 
 pub put_last-requires-clause-place : goal.put_last-requires-clause-place
@@ -34,11 +34,11 @@ returns-then-joins_last-clause-pointers c = λ ok.
     let count : c.runs-pointers.result ≡ length (runs_of m) = rw c.map-map.ensures at c.runs-pointers.ensures.count in
     let within = slice_get_within (runs_of m) (c.runs-pointers.result - 1) run at in
     let joined : joins_last (runs_of m) c.args.lbn c.args.count ≡ true = sym (rw c.map-map.ensures at c.joins_last.ensures) ∙ c.if-joins_last.true in
-    c.put_last.ensures.pointers ∙ sym (appended-joined (runs_of m) (c.runs-pointers.result - 1) c.args.lbn c.args.count run (omega arith) at joined)
+    c.put_last.ensures.pointers ∙ sym (with_blocks-joined (runs_of m) (c.runs-pointers.result - 1) c.args.lbn c.args.count run (omega arith) at joined)
 
 pub returns-then-joins_last-clause-blocks : goal.returns-then-joins_last-clause-blocks
 returns-then-joins_last-clause-blocks c = λ ok.
-    ap blocks_in (returns-then-joins_last-clause-pointers c ok) ∙ blocks_in-appended (runs_of (written_area c.args.self.now)) c.args.lbn c.args.count
+    ap blocks_in (returns-then-joins_last-clause-pointers c ok) ∙ blocks_in-with_blocks (runs_of (written_area c.args.self.now)) c.args.lbn c.args.count
 
 pub returns-then-places_left-eq0-clause-full : goal.returns-then-places_left-eq0-clause-full
 returns-then-places_left-eq0-clause-full c =
@@ -47,8 +47,8 @@ returns-then-places_left-eq0-clause-full c =
     let apart : joins_last (runs_of m) c.args.lbn c.args.count ≡ false = sym (rw c.map-map.ensures at c.joins_last.ensures) ∙ c.if-joins_last.false in
     (λ full. (omega (arith, length-runs_of-le m c.args.self.now.is_map), apart), λ full. refl)
 
-pub returns-then-places_left-eq0-clause-header : goal.returns-then-places_left-eq0-clause-header
-returns-then-places_left-eq0-clause-header c = StaysHeader-from (written_area c.args.self.now) (written_area c.args.self.now) refl refl refl refl c.args.self.now.is_map
+pub returns-then-places_left-eq0-clause-rest : goal.returns-then-places_left-eq0-clause-rest
+returns-then-places_left-eq0-clause-rest c = WritesPointers-same (written_area c.args.self.now) c.args.self.now.is_map
 
 pub returns-clause-pointers : goal.returns-clause-pointers
 returns-clause-pointers c = λ ok.
@@ -56,8 +56,8 @@ returns-clause-pointers c = λ ok.
     let apart : joins_last (runs_of m) c.args.lbn c.args.count ≡ false = sym (rw c.map-map.ensures at c.joins_last.ensures) ∙ c.if-joins_last.false in
     let count : c.runs-pointers.result ≡ length (runs_of m) = rw c.map-map.ensures at c.runs-pointers.ensures.count in
     c.put_last-2.ensures.pointers ∙ ap (λ runs. runs ++ (c.args.lbn, c.args.count) ∷ []) (take_all c.runs-pointers.result (runs_of m) (omega arith))
-    ∙ sym (appended-apart (runs_of m) c.args.lbn c.args.count apart)
+    ∙ sym (with_blocks-apart (runs_of m) c.args.lbn c.args.count apart)
 
 pub returns-clause-blocks : goal.returns-clause-blocks
 returns-clause-blocks c = λ ok.
-    ap blocks_in (returns-clause-pointers c ok) ∙ blocks_in-appended (runs_of (written_area c.args.self.now)) c.args.lbn c.args.count
+    ap blocks_in (returns-clause-pointers c ok) ∙ blocks_in-with_blocks (runs_of (written_area c.args.self.now)) c.args.lbn c.args.count

@@ -1,10 +1,10 @@
-use Rattle.std.proofs.Common.{refl, sym, ap, ◌∙◌, arith}
+use Rattle.std.proofs.Common.{sym, ap, ◌∙◌, arith}
 use Rattle.std.proofs.lemmas.Option.{get_or_from_slice_get}
 use Rattle.f11_map.specs.MapArea.{runs_of, blocks_in}
 use Rattle.f11_map.specs.Map.{area_of, written_area}
 use Rattle.f11_map.proofs.MapLemmas.{length-runs_of-le}
 use Rattle.f11_map.proofs.RunLemmas.{AreSome-runs_of, cut_to-all, cut_to-between, cut_to-inside, blocks_in-cut_to}
-use Rattle.f11_map.proofs.PointerLemmas.{StaysHeader-from}
+use Rattle.f11_map.proofs.PointerLemmas.{WritesPointers-same}
 use Rattle.f11_map.proofs.map_mut.MapMut.cut.Goals as goal
 
 pub returns-in_default-clause-pointers : goal.returns-in_default-clause-pointers
@@ -12,8 +12,8 @@ returns-in_default-clause-pointers c =
     let m = written_area c.args.self.now in
     sym (cut_to-all (runs_of m) c.args.place (AreSome-runs_of m) (rw c.map-map.ensures at c.in_default.ensures.found))
 
-pub returns-in_default-clause-header : goal.returns-in_default-clause-header
-returns-in_default-clause-header c = StaysHeader-from (written_area c.args.self.now) (written_area c.args.self.now) refl refl refl refl c.args.self.now.is_map
+pub returns-in_default-clause-rest : goal.returns-in_default-clause-rest
+returns-in_default-clause-rest c = WritesPointers-same (written_area c.args.self.now) c.args.self.now.is_map
 
 pub put_last-requires-clause-place : goal.put_last-requires-clause-place
 put_last-requires-clause-place c =
