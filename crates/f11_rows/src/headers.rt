@@ -1,8 +1,11 @@
 //! File headers over a lent block.
+ghost use Rattle.std.specs.Prelude.{◌≡◌, ◌≢◌};
+ghost use Rattle.f11_header.specs.Header.{IsHeader, header_in, header_with};
+
 use crate::fixtures::{A_TXT, SYSTEM, ZEROS, blank_of, file};
 use f11_bytes::{Block, read_word, write_word};
-use f11_header::{Header, HeaderFault, HeaderMut, check, kill};
-use f11_store::Uic;
+use f11_header::{Header, HeaderFault, HeaderMut, blank, check, kill};
+use f11_store::{FileId, Uic};
 use std::process::Abort;
 
 /// Header 4 of a fresh volume of 400 blocks and 16 slots: the master file directory, in block 21.
@@ -95,6 +98,43 @@ fn fields_are_written(rt: HostRuntime) {
     assert_eq!(rt; (block[12], block[13]), (0o200, 0o200));
     assert_eq!(rt; Header::new(&block).id(), file(9, 513));
     assert_eq!(rt; Header::new(&block).owner(), owner);
+}
+
+/// Sets the protection of header `n`, which stays a valid header `n` and says all else as before.
+fn protect(block: &mut Block, n: u16, protection: u16)
+    requires { IsHeader block.old n }
+    ensures header { IsHeader block.new n }
+    ensures fields { header_in block.new
+        ≡ header_with (λ h. record h { protection = protection }) block.old }
+{
+    let mut header = HeaderMut::new(block);
+    header.set_protection(protection);
+    header.seal();
+}
+
+/// Makes a block the first header of a new file with these attributes and this ident area.
+fn make(block: &mut Block, id: FileId, attr: &[u8; 32], ident: &[u8; 46])
+    requires number { id.number ≢ 0 }
+    requires sequence { id.sequence ≢ 0 }
+    ensures { IsHeader block.new id.number }
+{
+    blank(block, id, SYSTEM, 0, 0);
+    let mut header = HeaderMut::new(block);
+    header.set_ident(ident);
+    header.set_attributes(attr);
+    header.seal();
+}
+
+#[test]
+fn headers_stay_valid(rt: HostRuntime) {
+    let mut block = ZEROS;
+    make(&mut block, file(6, 2), &[1; 32], &[2; 46]);
+    assert_eq!(rt; check(&block, 6), Ok(()));
+    protect(&mut block, 6, 0o360);
+    assert_eq!(rt; check(&block, 6), Ok(()));
+    let header = Header::new(&block);
+    assert_eq!(rt; (header.protection(), header.id()), (0o360, file(6, 2)));
+    assert_eq!(rt; (header.attributes()[31], header.segment()), (1, 0));
 }
 
 /// What `check` says of a header with these bytes in place of its own, once it is sealed, and of one whose check word is

@@ -1,16 +1,14 @@
 //! Retrieval pointers in a lent header.
-ghost use Rattle.std.specs.Prelude.{◌≡◌, ◌<◌, ◌≤◌, ◌^◌, ◌++◌, length, IsOk, IsErr};
+ghost use Rattle.std.specs.Prelude.{◌≡◌, ◌<◌, ◌≤◌, ◌^◌, ◌++◌, IsOk, IsTrue, OnOk};
 ghost use Rattle.std.specs.List.{range_with_len};
 ghost use Rattle.f11_header.specs.Fields.{map_area};
 ghost use Rattle.f11_header.specs.Header.{IsHeader};
-ghost use Rattle.f11_header.specs.Writing.{sealed};
 ghost use Rattle.f11_map.specs.MapArea.{IsMapArea, blocks_of};
-ghost use Rattle.f11_map.specs.MapWriting.{StaysHeader};
 
 use crate::fixtures::{SYSTEM, blank_of, file};
 use f11_bytes::{Block, write_word, zeros};
 use f11_header::{Header, HeaderMut, blank, check};
-use f11_map::{Map, MapFull, MapMut};
+use f11_map::{Map, MapFull, MapMut, in_hand};
 use f11_store::FileId;
 use std::process::Abort;
 
@@ -129,32 +127,27 @@ fn a_full_map_takes_blocks_that_join(rt: HostRuntime) {
     );
 }
 
-/// Adds blocks to those that a map area names.
-fn append_to(area: &mut [u8], lbn: u32, count: u32) -> Result<(), MapFull>
-    requires is_map { IsMapArea area.old }
+/// Adds blocks to those that header 6 names, and then cuts them off again: it stays a valid header 6.
+fn append_and_cut(block: &mut Block, lbn: u32, count: u32, place: u32) -> Result<(), MapFull>
+    requires header { IsHeader block.old 6 }
     requires lbn { lbn < 2 ^ 24 }
     requires count { (0 < count) × (count ≤ 256) }
-    ensures size { length area.new ≡ length area.old }
-    ensures header { StaysHeader area.old area.new }
-    ensures blocks { IsOk result → blocks_of area.new ≡ blocks_of area.old ++ range_with_len lbn count }
-    ensures unchanged { IsErr result → area.new ≡ area.old }
+    ensures header { IsHeader block.new 6 }
 {
-    MapMut::new(area).append(lbn, count)
+    in_hand::append(block, lbn, count)?;
+    in_hand::cut(block, place);
+    Ok(())
 }
 
-/// Adds blocks to those of header 6, and seals it: then it is a valid header 6 again, and names them too.
+/// Adds blocks to those that header 6 names: it is a valid header 6 still, and names them too.
 fn append(block: &mut Block, lbn: u32, count: u32) -> Result<(), MapFull>
     requires header { IsHeader block.old 6 }
     requires lbn { lbn < 2 ^ 24 }
     requires count { (0 < count) × (count ≤ 256) }
     ensures header { IsHeader block.new 6 }
-    ensures blocks { IsOk result → blocks_of (map_area block.new) ≡ blocks_of (map_area block.old) ++ range_with_len lbn count }
-    ensures unchanged { IsErr result → block.new ≡ sealed block.old }
+    ensures blocks { OnOk result (blocks_of (map_area block.new) ≡ blocks_of (map_area block.old) ++ range_with_len lbn count) }
 {
-    let mut header = HeaderMut::new(block);
-    let answer = append_to(header.map_mut(), lbn, count);
-    header.seal();
-    answer
+    in_hand::append(block, lbn, count)
 }
 
 #[test]
@@ -173,6 +166,14 @@ fn a_full_header_stays_as_it_is(rt: HostRuntime) {
     let map = Map::of(&Header::new(&block));
     assert_eq!(rt; (map.places_left(), map.len_blocks()), (0, 357));
     assert_eq!(rt; map.lbn_of(356), Some(1457));
+    assert_eq!(rt; append_and_cut(&mut block, 5, 3, 0), Err(MapFull));
+    in_hand::cut(&mut block, 100);
+    assert_eq!(rt; append_and_cut(&mut block, 5, 3, 101), Ok(()));
+    in_hand::set_link(&mut block, file(7, 1));
+    assert_eq!(rt; check(&block, 6), Ok(()));
+    let map = Map::of(&Header::new(&block));
+    assert_eq!(rt; (map.len_blocks(), map.lbn_of(100)), (101, Some(5)));
+    assert_eq!(rt; map.link(), file(7, 1));
 }
 
 #[test]

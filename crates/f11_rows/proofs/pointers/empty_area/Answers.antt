@@ -4,20 +4,13 @@ use Rattle.f11_bytes.specs.Block.{zero_block}
 use Rattle.f11_store.specs.declared.callers.Uic.{Uic}
 use Rattle.f11_store.specs.declared.files.FileId.{FileId}
 use Rattle.f11_header.specs.Writing.{blank_header}
-use Rattle.f11_map.specs.MapArea.{IsMapArea}
+use Rattle.f11_header.specs.MapFields.{IsMapArea, holds_pointers}
 use Rattle.f11_rows.proofs.pointers.empty_area.Goals as goal
 
 -- the map area of an empty header
 IsMapArea-blank_header : (id : FileId) (owner : Uic) (protection segment : ℕ) → IsMapArea (slice_range (blank_header id owner protection segment) 92 510)
-unfolding zero_block
-IsMapArea-blank_header id owner protection segment = record {
-  in_block = omega arith;
-  fields = omega arith;
-  count_is = refl;
-  lbn_is = refl;
-  even = refl;
-  within = omega arith;
-}
+unfolding zero_block holds_pointers
+IsMapArea-blank_header id owner protection segment = record { in_block = omega arith; fields = omega arith; pointers = refl }
 
 pub returns : goal.returns
 returns c =
