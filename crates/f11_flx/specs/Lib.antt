@@ -8,5 +8,6 @@ pub mod ToText
 pub mod Stage
 pub mod ToRecords
 pub mod Walk
+pub mod Worked
 pub use Rattle.f11_store.specs.File
 pub use Rattle.f11_store.specs.Directory

@@ -87,7 +87,8 @@ pub fn text_attributes(longest: u16, allocation: u32, end: u32) -> [u8; 32]
 /// The attributes with this record type, these record attributes, this record size, allocation and end.
 #[tactic(auto, unfolding(f11_store::specs::Directory::with_end))]
 fn attributes(kind: u8, carriage: u8, size: u16, allocation: u32, end: u32) -> [u8; 32]
-    ensures { result ≡ with_end (kind ∷ carriage ∷ (bytes_of_word size ++ replicate 28 0)) allocation end }
+    ensures { result ≡ with_end (kind ∷ carriage ∷ (bytes_of_word size ++ replicate 28 0))
+        allocation end }
 {
     let [size_low, size_high] = word_bytes(size);
     let [a, b, c, d] = long_bytes(allocation);

@@ -246,7 +246,8 @@ fn bytes_with(cr: bool, byte: u8) -> usize
 
 /// Puts a byte behind a line and the CR that may end it, and leaves a CR pending.
 fn extend(line: &mut ArrayVec<u8, LONGEST_LINE>, cr: bool, byte: u8)
-    requires { length line.old.items + (if cr then 1 else 0) + (if byte == 13 then 0 else 1) ≤ 2048 }
+    requires { length line.old.items + (if cr then 1 else 0) + (if byte == 13 then 0 else 1)
+        ≤ 2048 }
     ensures { with_cr line.new.items (byte == 13) ≡ with_cr line.old.items cr ++ byte ∷ [] }
 {
     keep_cr(line, cr);

@@ -38,7 +38,8 @@ impl ToText {
     pub fn new(attr: &[u8; 32], allocation: u32) -> Result<ToText, BadRecord>
         requires { allocation ≤ 516096 }
         ensures starts { IfOk result (λ text. (file : File) → file.attr ≡ attr.now
-            → length_of file ≡ allocation → text_left text (concat file.blocks) ≡ converted_text file) }
+            → length_of file ≡ allocation
+            → text_left text (concat file.blocks) ≡ converted_text file) }
         ensures bad { IsErr result ↔ (layout_of attr.now ≡ None) }
     {
         let Some(layout) = layout(attr) else {
@@ -191,7 +192,8 @@ fn first(layout: Layout, byte: u8, rest: u32) -> Next
 
 /// What is behind the high byte of a length word.
 fn sized(low: u8, byte: u8, rest: u32) -> Next
-    ensures reads { IfOk result (λ next. ReadsByte Layout.Variable (Place.High low) next.0 byte rest next.1) }
+    ensures reads { IfOk result (λ next.
+        ReadsByte Layout.Variable (Place.High low) next.0 byte rest next.1) }
     ensures bad { OnErr result (RefusesByte Layout.Variable (Place.High low) byte rest) }
 {
     let size = u16::from(byte) * 256 + u16::from(low);
