@@ -4,3 +4,4 @@ pub mod Words
 pub mod Texts
 pub mod Places
 pub mod SystemFiles
+pub mod Spelled

@@ -1,7 +1,10 @@
 -- The name of a file: its parts, its five words and its text (Files-11 On-Disk Structure Level 1,
 -- file names). A name is seen as the list of its words.
-use Rattle.std.specs.Prelude.{◌≡◌, ℕ, ◌+◌, ◌<◌, ◌≤◌, Bool, ◌&&◌, ◌||◌, List, [], ◌∷◌, ◌++◌, map, length, drop, ◌==◌, nat_le, slice_index}
-use Rattle.std.specs.List.{before_first, AllPass}
+use Rattle.std.specs.Prelude.{◌≡◌, ℕ, ◌+◌, ◌<◌, ◌≤◌, Bool, ◌&&◌, ◌||◌, false, List, [], ◌∷◌, ◌++◌, map, length, take, drop, ◌==◌, nat_le, nat_lt, slice_index, position, Option, Some, None, option_map, if◌then◌else◌}
+use Rattle.std.specs.Char.{is_digit}
+use Rattle.std.specs.Option.{option_and_then, option_map_or}
+use Rattle.std.specs.Str.{bytes_eq}
+use Rattle.std.specs.List.{before_first, AllPass, list_all}
 use Rattle.std.specs.Int.Digits.{digits_of}
 use Rattle.std.specs.Str.Parse.{AllDigits, digits_value}
 use Rattle.f11_rad50.specs.Radix50.{radix50, characters_of}
@@ -63,6 +66,37 @@ pub record IsVersion (digits : List ℕ) : Type 0 where
   pub octal_digits : AllDigits 8 digits
   pub some_digit : 0 < length digits
   pub five_digits : length digits ≤ 5
+
+-- What stands before and after the first such character, where there is one.
+abbrev pub cut_at : ℕ → List ℕ → Option (List ℕ × List ℕ)
+cut_at c text = option_map (λ i. (take i text, drop (i + 1) text)) (position (λ x. x == c) text)
+
+-- The test of the parts of a text: a proper name and type, and a version in one to five octal digits.
+unfoldable pub are_parts : List ℕ → List ℕ → List ℕ → Bool
+are_parts name type digits =
+    (list_all is_name_character name && nat_le (length name) 9)
+    && ((list_all is_name_character type && nat_le (length type) 3)
+    && (nat_lt 0 (length name + length type)
+    && ((list_all (λ d. is_digit d 8) digits && (nat_lt 0 (length digits) && nat_le (length digits) 5))
+    && (nat_lt 0 (digits_value 8 digits) && nat_lt (digits_value 8 digits) 32768))))
+
+-- The words of parts that pass the test.
+abbrev pub words_of_parts : List ℕ → List ℕ → List ℕ → Option (List ℕ)
+words_of_parts name type digits =
+    if are_parts name type digits then Some (words_of name type (digits_value 8 digits)) else None
+
+-- The words of the parts behind the dot, which a semicolon separates, with the name before it.
+abbrev pub words_behind : List ℕ → Option (List ℕ × List ℕ) → Option (List ℕ)
+words_behind name None = None
+words_behind name (Some parts) = words_of_parts name parts.0 parts.1
+
+-- The same words as a function of the text: those of the name that it spells, if it spells one.
+unfoldable pub words_spelled : List ℕ → Option (List ℕ)
+words_spelled text = option_and_then (λ parts. words_behind parts.0 (cut_at 59 parts.1)) (cut_at 46 text)
+
+-- Whether five words are a name: what spells them spells a name.
+abbrev pub is_name : List ℕ → Bool
+is_name words = option_map_or (λ found. bytes_eq found words) (words_spelled (name_text words)) false
 
 -- A text spells the name with these words: a proper name and type with a dot between them, a
 -- semicolon, and the version in octal (profile).

@@ -1,6 +1,7 @@
-ghost use Rattle.std.specs.Prelude.{◌≡◌, ◌↔◌, ℕ, ◌≤◌, List, ◌++◌, length, drop, IsTrue, IfOk, IfSome, SomeIff, string_bytes, slice_index_or};
+ghost use Rattle.std.specs.Prelude.{◌≡◌, ◌↔◌, ℕ, ◌≤◌, List, ◌++◌, length, drop, IsTrue, IfOk, IfSome, SomeIff, string_bytes, slice_index_or, if◌then◌else◌};
+ghost use Rattle.std.specs.Result.{result_ok};
 ghost use Rattle.f11_rad50.specs.Radix50.{characters_of, radix50};
-ghost use Rattle.f11_rad50.specs.Name.{IsProper, words_of, unpadded, name_of, type_of, IsName, name_text, Spells};
+ghost use Rattle.f11_rad50.specs.Name.{IsProper, words_of, unpadded, name_of, type_of, IsName, name_text, Spells, is_name, words_spelled};
 
 use crate::errors::BadName;
 use crate::{pieces, radix50};
@@ -98,6 +99,9 @@ impl Name {
 
         // So the answer is `BadName` exactly where the text spells no name.
         ensures every { (words : List ℕ) → Spells text.now words → result ≡ Ok words }
+
+        // The same as one equation.
+        ensures exact { result_ok result ≡ words_spelled text.now }
     {
         Name::read(text).ok_or(BadName)
     }
@@ -113,6 +117,9 @@ impl Name {
             → IsProper name kind version
             → words_of name kind version ≡ words
             → result ≡ Some words }
+
+        // The same as one equation.
+        ensures exact { result ≡ (if is_name words then Some words else None) }
     {
         let characters = name_characters(&words);
         let kind = type_characters(&words);
