@@ -1,0 +1,3 @@
+-- Lemmas of the script language.
+pub mod WordLemmas
+pub mod DigitLemmas

@@ -1,0 +1,7 @@
+-- The definitions of the script language.
+pub mod Reading
+pub mod Fields
+pub mod Verbs
+pub mod Requests
+pub mod Lines
+pub mod Answers

@@ -1,0 +1,72 @@
+//! The areas of a header that a line's words stand for.
+
+ghost use Rattle.std.specs.Prelude.{◌≡◌};
+ghost use Rattle.f11_store.specs.Directory.{long_bytes, word_bytes};
+ghost use Rattle.f11_script.specs.Requests as specs;
+
+use f11_rad50::Name;
+
+/// The type `DIR` in Radix-50.
+const DIRECTORY: u16 = 6778;
+
+/// The bytes of a word, the low one first.
+fn word_bytes(word: u16) -> [u8; 2]
+    ensures { result ≡ word_bytes word }
+{
+    [(word % 256) as u8, (word / 256) as u8]
+}
+
+/// The bytes of a number of two words, the high one first.
+fn long_bytes(number: u32) -> [u8; 4]
+    ensures { result ≡ long_bytes number }
+{
+    let [a, b] = word_bytes((number / 65536) as u16);
+    let [c, d] = word_bytes((number % 65536) as u16);
+    [a, b, c, d]
+}
+
+/// An ident area with a name, and zeros behind it
+/// (Files-11 On-Disk Structure Level 1, ident area).
+#[tactic(auto, unfolding(crate::specs::Requests::ident_with))]
+pub(crate) fn ident_with(name: Name) -> [u8; 46]
+    ensures { result ≡ specs.ident_with name }
+{
+    let words = name.words();
+    let [a, b] = word_bytes(words[0]);
+    let [c, d] = word_bytes(words[1]);
+    let [e, f] = word_bytes(words[2]);
+    let [g, h] = word_bytes(words[3]);
+    let [i, j] = word_bytes(words[4]);
+    [
+        a, b, c, d, e, f, g, h, i, j, 0, 0, 0, 0, 0, 0, 0, 0, 0, 0, 0, 0, 0, 0, 0, 0, 0, 0, 0, 0,
+        0, 0, 0, 0, 0, 0, 0, 0, 0, 0, 0, 0, 0, 0, 0, 0,
+    ]
+}
+
+/// User attributes: record type, record attributes, record size, F.HIBK, F.EFBK and F.FFBY, and zeros behind them
+/// (Files-11 On-Disk Structure Level 1, file attributes).
+#[tactic(auto, unfolding(crate::specs::Requests::attr_bytes))]
+pub(crate) fn attr_bytes(rtyp: u8, ratt: u8, rsiz: u16, hibk: u32, efbk: u32, ffby: u16) -> [u8; 32]
+    ensures { result ≡ specs.attr_bytes rtyp ratt rsiz hibk efbk ffby }
+{
+    let [a, b] = word_bytes(rsiz);
+    let [c, d, e, f] = long_bytes(hibk);
+    let [g, h, i, j] = long_bytes(efbk);
+    let [k, l] = word_bytes(ffby);
+    [
+        rtyp, ratt, a, b, c, d, e, f, g, h, i, j, k, l, 0, 0, 0, 0, 0, 0, 0, 0, 0, 0, 0, 0, 0, 0,
+        0, 0, 0, 0,
+    ]
+}
+
+/// The attributes of a new file: those of a directory where the name's type is `DIR`, and zeros (profile).
+#[tactic(auto, unfolding(crate::specs::Requests::attr_for))]
+pub(crate) fn attr_for(name: Name) -> [u8; 32]
+    ensures { result ≡ specs.attr_for name }
+{
+    if name.words()[3] == DIRECTORY {
+        attr_bytes(1, 0, 16, 0, 0, 0)
+    } else {
+        attr_bytes(0, 0, 0, 0, 0, 0)
+    }
+}

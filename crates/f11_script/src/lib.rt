@@ -1,0 +1,13 @@
+//! The language of scripts for a Files-11 ODS-1 volume: what a line asks, and how it is answered.
+//!
+//! Stands on `f11_rad50` (names), `f11_store` (requests), `arrayvec` (texts of fixed capacity) and `thiserror`.
+#![tactic(auto)]
+
+mod areas;
+mod fields;
+mod parse;
+mod requests;
+mod verb;
+mod words;
+
+pub use parse::Parsed;

@@ -1,0 +1,264 @@
+//! What each verb asks with the words behind it.
+
+ghost use Rattle.std.specs.Prelude.{◌≡◌};
+
+use crate::verb::Verb;
+use crate::words::Words;
+use crate::{areas, fields};
+use f11_store::{Change, FileId, Mode, Request};
+
+impl<'a> Words<'a> {
+    ghost use Rattle.f11_script.specs.Fields.{byte_of, id_of, mode_of, number_of, octal_byte_of, protection_of, word_of};
+    ghost use Rattle.f11_script.specs.Fields.{filled_block};
+    ghost use Rattle.f11_script.specs.Reading.{Gives, argument, words_left};
+    ghost use Rattle.f11_script.specs.Requests.{asks, asks_with, attr_asks, close_asks, access_asks, create_asks, delete_asks, enter_asks, extend_asks, fill_asks, find_asks, grow_asks, hex_of, protect_asks, read_asks, release_asks, remove_asks, set_attr_asks, space_asks, truncate_asks, write_asks};
+
+    fn number(self) -> Option<(u32, Words<'a>)>
+        ensures { Gives (λ next. (next.0, words_left next.1)) result (argument number_of (words_left self.entry)) }
+    {
+        let (word, rest) = self.next()?;
+        Some((fields::number(word)?, rest))
+    }
+
+    fn word(self) -> Option<(u16, Words<'a>)>
+        ensures { Gives (λ next. (next.0, words_left next.1)) result (argument word_of (words_left self.entry)) }
+    {
+        let (word, rest) = self.next()?;
+        Some((fields::word(word)?, rest))
+    }
+
+    fn byte(self) -> Option<(u8, Words<'a>)>
+        ensures { Gives (λ next. (next.0, words_left next.1)) result (argument byte_of (words_left self.entry)) }
+    {
+        let (word, rest) = self.next()?;
+        Some((fields::byte(word)?, rest))
+    }
+
+    fn protection(self) -> Option<(u16, Words<'a>)>
+        ensures { Gives (λ next. (next.0, words_left next.1)) result (argument protection_of (words_left self.entry)) }
+    {
+        let (word, rest) = self.next()?;
+        Some((fields::protection(word)?, rest))
+    }
+
+    fn octal_byte(self) -> Option<(u8, Words<'a>)>
+        ensures { Gives (λ next. (next.0, words_left next.1)) result (argument octal_byte_of (words_left self.entry)) }
+    {
+        let (word, rest) = self.next()?;
+        Some((fields::octal_byte(word)?, rest))
+    }
+
+    fn id(self) -> Option<(FileId, Words<'a>)>
+        ensures { Gives (λ next. (next.0, words_left next.1)) result (argument id_of (words_left self.entry)) }
+    {
+        let (word, rest) = self.next()?;
+        Some((fields::id(word)?, rest))
+    }
+
+    fn mode(self) -> Option<(Mode, Words<'a>)>
+        ensures { Gives (λ next. (next.0, words_left next.1)) result (argument mode_of (words_left self.entry)) }
+    {
+        let (word, rest) = self.next()?;
+        Some((fields::mode(word)?, rest))
+    }
+
+    fn hex(self) -> Option<(&'a [u8], Words<'a>)>
+        ensures { Gives (λ next. (next.0.now, words_left next.1)) result (argument hex_of (words_left self.entry)) }
+    {
+        let (word, rest) = self.next()?;
+        Some((fields::hex(word)?, rest))
+    }
+
+    // `EXTEND lun n`
+    #[tactic(auto, unfolding(crate::specs::Requests::extend_asks))]
+    fn extend(self) -> Option<Request>
+        ensures { Gives asks result (extend_asks (words_left self.entry)) }
+    {
+        let (word, words) = self.next()?;
+        let lun = fields::lun(word)?;
+        let (n, words) = words.number()?;
+        words.is_empty().then_some(Request::Extend(lun, n))
+    }
+
+    // `TRUNCATE lun n`
+    #[tactic(auto, unfolding(crate::specs::Requests::truncate_asks))]
+    fn truncate(self) -> Option<Request>
+        ensures { Gives asks result (truncate_asks (words_left self.entry)) }
+    {
+        let (word, words) = self.next()?;
+        let lun = fields::lun(word)?;
+        let (n, words) = words.number()?;
+        words.is_empty().then_some(Request::Truncate(lun, n))
+    }
+
+    // `DELETE f`
+    #[tactic(auto, unfolding(crate::specs::Requests::delete_asks))]
+    fn delete(self) -> Option<Request>
+        ensures { Gives asks result (delete_asks (words_left self.entry)) }
+    {
+        let (file, words) = self.id()?;
+        words.is_empty().then_some(Request::Delete(file))
+    }
+
+    // `GROW n`
+    #[tactic(auto, unfolding(crate::specs::Requests::grow_asks))]
+    fn grow(self) -> Option<Request>
+        ensures { Gives asks result (grow_asks (words_left self.entry)) }
+    {
+        let (n, words) = self.number()?;
+        words.is_empty().then_some(Request::GrowIndex(n))
+    }
+
+    // `ACCESS f mode lun`
+    #[tactic(auto, unfolding(crate::specs::Requests::access_asks))]
+    fn access(self) -> Option<Request>
+        ensures { Gives asks result (access_asks (words_left self.entry)) }
+    {
+        let (file, words) = self.id()?;
+        let (mode, words) = words.mode()?;
+        let (word, words) = words.next()?;
+        let lun = fields::lun(word)?;
+        words.is_empty().then_some(Request::Access(file, mode, lun))
+    }
+
+    // `CLOSE lun`
+    #[tactic(auto, unfolding(crate::specs::Requests::close_asks))]
+    fn close(self) -> Option<Request>
+        ensures { Gives asks result (close_asks (words_left self.entry)) }
+    {
+        let (word, words) = self.next()?;
+        let lun = fields::lun(word)?;
+        words.is_empty().then_some(Request::Deaccess(lun))
+    }
+
+    // `RELEASE`
+    #[tactic(auto, unfolding(crate::specs::Requests::release_asks))]
+    fn release(self) -> Option<Request>
+        ensures { Gives asks result (release_asks (words_left self.entry)) }
+    {
+        self.is_empty().then_some(Request::Release)
+    }
+
+    // `READ lun vbn`
+    #[tactic(auto, unfolding(crate::specs::Requests::read_asks))]
+    fn read(self) -> Option<Request>
+        ensures { Gives asks result (read_asks (words_left self.entry)) }
+    {
+        let (word, words) = self.next()?;
+        let lun = fields::lun(word)?;
+        let (vbn, words) = words.number()?;
+        words.is_empty().then_some(Request::ReadBlock(lun, vbn))
+    }
+
+    // `FIND d name`
+    #[tactic(auto, unfolding(crate::specs::Requests::find_asks))]
+    fn find(self) -> Option<Request>
+        ensures { Gives asks result (find_asks (words_left self.entry)) }
+    {
+        let (directory, words) = self.id()?;
+        let (word, words) = words.next()?;
+        let name = fields::name(word)?;
+        words.is_empty().then_some(Request::Find(directory, name))
+    }
+
+    // `ENTER d name f`
+    #[tactic(auto, unfolding(crate::specs::Requests::enter_asks))]
+    fn enter(self) -> Option<Request>
+        ensures { Gives asks result (enter_asks (words_left self.entry)) }
+    {
+        let (directory, words) = self.id()?;
+        let (word, words) = words.next()?;
+        let name = fields::name(word)?;
+        let (file, words) = words.id()?;
+        words
+            .is_empty()
+            .then_some(Request::Enter(directory, name, file))
+    }
+
+    // `REMOVE d name`
+    #[tactic(auto, unfolding(crate::specs::Requests::remove_asks))]
+    fn remove(self) -> Option<Request>
+        ensures { Gives asks result (remove_asks (words_left self.entry)) }
+    {
+        let (directory, words) = self.id()?;
+        let (word, words) = words.next()?;
+        let name = fields::name(word)?;
+        words.is_empty().then_some(Request::Remove(directory, name))
+    }
+
+    // `ATTR f`
+    #[tactic(auto, unfolding(crate::specs::Requests::attr_asks))]
+    fn attr(self) -> Option<Request>
+        ensures { Gives asks result (attr_asks (words_left self.entry)) }
+    {
+        let (file, words) = self.id()?;
+        words.is_empty().then_some(Request::ReadAttr(file))
+    }
+
+    // `PROTECT f word`
+    #[tactic(auto, unfolding(crate::specs::Requests::protect_asks))]
+    fn protect(self) -> Option<Request>
+        ensures { Gives asks result (protect_asks (words_left self.entry)) }
+    {
+        let (file, words) = self.id()?;
+        let (word, words) = words.protection()?;
+        words
+            .is_empty()
+            .then_some(Request::WriteAttr(file, Change::Protect(word)))
+    }
+
+    // `SPACE`
+    #[tactic(auto, unfolding(crate::specs::Requests::space_asks))]
+    fn space(self) -> Option<Request>
+        ensures { Gives asks result (space_asks (words_left self.entry)) }
+    {
+        self.is_empty().then_some(Request::Space)
+    }
+
+    // `CREATE name word`
+    #[tactic(auto, unfolding(crate::specs::Requests::create_asks))]
+    fn create(self) -> Option<Request>
+        ensures { Gives asks result (create_asks (words_left self.entry)) }
+    {
+        let (word, words) = self.next()?;
+        let name = fields::name(word)?;
+        let (protection, words) = words.protection()?;
+        words.is_empty().then_some(Request::Create {
+            protection,
+            ident: areas::ident_with(name),
+            attr: areas::attr_for(name),
+        })
+    }
+
+    // `SETATTR f rtyp ratt rsiz hibk efbk ffby`
+    #[tactic(auto, unfolding(crate::specs::Requests::set_attr_asks))]
+    fn set_attr(self) -> Option<Request>
+        ensures { Gives asks result (set_attr_asks (words_left self.entry)) }
+    {
+        let (file, words) = self.id()?;
+        let (rtyp, words) = words.byte()?;
+        let (ratt, words) = words.byte()?;
+        let (rsiz, words) = words.word()?;
+        let (hibk, words) = words.number()?;
+        let (efbk, words) = words.number()?;
+        let (ffby, words) = words.word()?;
+        let attr = areas::attr_bytes(rtyp, ratt, rsiz, hibk, efbk, ffby);
+        words
+            .is_empty()
+            .then_some(Request::WriteAttr(file, Change::Attr(attr)))
+    }
+
+    // `FILL lun vbn octal`: the request, and the byte of its block.
+    #[tactic(auto, unfolding(crate::specs::Requests::fill_asks))]
+    fn fill(self) -> Option<(Request, u8)>
+        ensures { Gives (λ fill. asks_with fill.0 (filled_block fill.1)) result (fill_asks (words_left self.entry)) }
+    {
+        let (word, words) = self.next()?;
+        let lun = fields::lun(word)?;
+        let (vbn, words) = words.number()?;
+        let (byte, words) = words.octal_byte()?;
+        words
+            .is_empty()
+            .then_some((Request::WriteBlock(lun, vbn), byte))
+    }
+}
