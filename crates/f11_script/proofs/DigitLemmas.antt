@@ -1,15 +1,16 @@
 -- Digits that are read one after another.
-use Rattle.std.proofs.Common.{◌≡◌, ℕ, ◌+◌, ◌*◌, ◌<◌, ◌≤◌, ◌&&◌, Bool, true, false, List, length, take, get_or, nat_lt, nat_le, Option, Some, None, IsSome, IfSome, ◌↔◌, if◌then◌else◌, refl, sym, ◌∙◌, ap, subst, arith}
+use Rattle.std.proofs.Common.{◌≡◌, ℕ, ◌+◌, ◌*◌, ◌<◌, ◌≤◌, ◌&&◌, Bool, true, false, List, length, take, get_or, nat_le, Option, Some, None, IsSome, IfSome, ◌↔◌, if◌then◌else◌, refl, sym, ◌∙◌, ap, arith}
 use Rattle.std.specs.Char.{digit_value, is_digit}
 use Rattle.std.specs.List.{list_all}
 use Rattle.std.specs.Str.Parse.{digits_value}
-use Rattle.std.proofs.lemmas.Bool.{le-ltb, lt-ltb, le-leb}
+use Rattle.std.proofs.lemmas.Bool.{le-ltb, lt-ltb, le-leb, ltb-true}
 use Rattle.std.proofs.lemmas.Bool.Decides.{nat_tests}
 use Rattle.std.proofs.lemmas.Int.Digits.{digits_value_more}
 use Rattle.std.proofs.lemmas.List.Folds.{list_all_at, list_all_more}
+use Rattle.std.proofs.lemmas.List.Sums.{AllPass-from_list_all}
 use Rattle.std.proofs.lemmas.Str.Parse.{digits_value-take-le}
 use Rattle.std.proofs.lemmas.List.{take_all}
-use Rattle.f11_script.specs.Fields.{value_up_to, numeral}
+use Rattle.f11_script.specs.Fields.{value_up_to, is_hex, AreHexDigits}
 
 -- all digits so far, and one more
 pub digits_so_far : (radix : ℕ) (text : List ℕ) (i d : ℕ) → i < length text → digit_value (get_or text i 0) ≡ d → d < radix →
@@ -60,3 +61,13 @@ all_read radix most text i value end is all small =
 pub made_of : (r : Option ℕ) (n : ℕ) (P : Type 0) → (IsSome r ↔ P) → IfSome r (λ m. m ≡ n) → P → r ≡ Some n
 made_of None n P there value fits = let none = there.1 fits in absurd (cc)
 made_of (Some m) n P there value fits = ap Some value
+
+-- digits that pass the test for hex digits are such
+pub hex_digits : (text : List ℕ) → is_hex text ≡ true → AreHexDigits text
+unfolding is_hex
+hex_digits text h k within =
+    ltb-true _ _ (AllPass-from_list_all (λ c. is_digit c 16) text (second_passes _ _ h) k 0 within)
+  where
+    second_passes : (a b : Bool) → (a && b) ≡ true → b ≡ true
+    second_passes true b e = e
+    second_passes false b e = absurd (cc)

@@ -1,3 +1,5 @@
 -- Lemmas of the script language.
 pub mod WordLemmas
 pub mod DigitLemmas
+pub mod AskLemmas
+pub mod LineLemmas

@@ -1,8 +1,8 @@
 -- The single words of a line: numbers, identifications, users' codes, names, bytes (profile).
 -- A character is its code in ASCII: a comma is 44, brackets are 91 and 93.
-use Rattle.std.specs.Prelude.{ℕ, ◌+◌, ◌-◌, ◌*◌, ◌/◌, ◌%◌, ◌==◌, ◌&&◌, nat_le, nat_lt, Bool, List, [], ◌∷◌, ◌++◌, length, Option, Some, None, codes, slice_index, slice_range, replicate, if◌then◌else◌}
+use Rattle.std.specs.Prelude.{ℕ, ◌+◌, ◌-◌, ◌*◌, ◌%◌, ◌<◌, ◌==◌, ◌&&◌, nat_le, nat_lt, Bool, List, length, map, Option, Some, None, codes, slice_index, slice_range, replicate, if◌then◌else◌}
 use Rattle.std.specs.Char.{digit_value, is_digit}
-use Rattle.std.specs.List.{list_all}
+use Rattle.std.specs.List.{list_all, range_with_len}
 use Rattle.std.specs.Str.{bytes_eq}
 use Rattle.std.specs.Str.Parse.{digits_value}
 use Rattle.f11_rad50.specs.Name.{cut_at}
@@ -85,14 +85,17 @@ unfoldable pub is_hex : List ℕ → Bool
 is_hex text =
     (nat_lt 0 (length text) && (nat_le (length text) 1024 && length text % 2 == 0)) && list_all (λ c. is_digit c 16) text
 
--- the bytes that pairs of hex digits stand for
-abbrev pub hex_bytes : List ℕ → List ℕ
-hex_bytes (high ∷ low ∷ rest) = (16 * digit_value high + digit_value low) ∷ hex_bytes rest
-hex_bytes _ = []
+-- each byte of a text is a hex digit
+abbrev pub AreHexDigits : List ℕ → Type 0
+AreHexDigits text = (k : ℕ) → k < length text → digit_value (slice_index text k) < 16
 
--- a block that begins with those bytes and goes on with zeros
+-- byte k of a block in hex is that of digits 2k and 2k + 1, and zero past the last digit
+abbrev pub hex_byte : List ℕ → ℕ → ℕ
+hex_byte text k =
+    if nat_lt (2 * k + 1) (length text) then 16 * digit_value (slice_index text (2 * k)) + digit_value (slice_index text (2 * k + 1)) else 0
+
 unfoldable pub hex_block : List ℕ → List ℕ
-hex_block text = hex_bytes text ++ replicate (512 - length text / 2) 0
+hex_block text = map (hex_byte text) (range_with_len 0 512)
 
 -- a block of one byte, repeated
 unfoldable pub filled_block : ℕ → List ℕ

@@ -1,12 +1,12 @@
 -- What a line of a script is (profile).
-use Rattle.std.specs.Prelude.{ℕ, ◌==◌, ◌||◌, nat_lt, Bool, List, length, Option, Some, None, slice_index, if◌then◌else◌}
+use Rattle.std.specs.Prelude.{◌≡◌, ℕ, ◌==◌, ◌||◌, nat_lt, Bool, List, length, Option, Some, None, slice_index, if◌then◌else◌}
 use Rattle.f11_store.specs.Run.{Call}
-use Rattle.f11_script.specs.declared.parse.Parsed.{Parsed}
-use Rattle.f11_script.specs.declared.parse.Parsed.TheVariants.{Nothing, Bad, Asks}
+use Rattle.f11_script.specs.declared.line.Parsed.{Parsed}
+use Rattle.f11_script.specs.declared.line.Parsed.TheVariants.{Nothing, Bad, Asks}
 use Rattle.f11_script.specs.Reading.{◌>>=◌, words_of, argument}
 use Rattle.f11_script.specs.Fields.{task_of, uic_of}
 use Rattle.f11_script.specs.Verbs.{verb_of}
-use Rattle.f11_script.specs.Requests.{Ask, verb_asks}
+use Rattle.f11_script.specs.Requests.{verb_asks}
 
 -- a line asks nothing, is a bad line, or calls for a request
 pub data Line : Type 0 where
@@ -44,3 +44,9 @@ abbrev pub line_parsed : Parsed → List ℕ → Line
 line_parsed Nothing block = no_request
 line_parsed Bad block = bad_line
 line_parsed (Asks task uic r) block = request_line (record { task = task; caller = uic; request = r; block = block })
+
+-- a line that asks for nothing leaves the caller's block as it is
+abbrev pub KeepsBlock : Parsed → List ℕ → List ℕ → Type 0
+KeepsBlock Nothing old new = new ≡ old
+KeepsBlock Bad old new = new ≡ old
+KeepsBlock (Asks task uic r) old new = Unit {0}

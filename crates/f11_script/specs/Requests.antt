@@ -1,5 +1,5 @@
 -- What each line of the script language asks: for each verb its arguments and its request (profile).
-use Rattle.std.specs.Prelude.{ℕ, ◌==◌, List, [], ◌∷◌, ◌++◌, Option, Some, None, option_map, slice_index, replicate, if◌then◌else◌}
+use Rattle.std.specs.Prelude.{ℕ, ◌==◌, List, ◌∷◌, ◌++◌, Option, Some, None, option_map, slice_index, replicate, if◌then◌else◌}
 use Rattle.std.specs.List.{flat_map}
 use Rattle.f11_rad50.specs.Name.{words_spelled}
 use Rattle.f11_store.specs.declared.files.Change.TheVariants as change
@@ -9,7 +9,7 @@ use Rattle.f11_store.specs.Directory.{word_bytes, long_bytes}
 use Rattle.f11_script.specs.declared.verb.Verb.{Verb}
 use Rattle.f11_script.specs.declared.verb.Verb.TheVariants as verb
 use Rattle.f11_script.specs.Reading.{◌>>=◌, argument, at_end}
-use Rattle.f11_script.specs.Fields.{numeral, number_of, word_of, byte_of, lun_of, protection_of, octal_byte_of, id_of, mode_of, is_hex, hex_block, filled_block}
+use Rattle.f11_script.specs.Fields.{number_of, word_of, byte_of, lun_of, protection_of, octal_byte_of, id_of, mode_of, is_hex, hex_block, filled_block}
 
 -- a request, and what the caller's block becomes
 pub record Ask : Type 0 where

@@ -12,7 +12,7 @@ use f11_rad50::Name;
 use f11_store::{FileId, Lun, Mode, Task, Uic};
 
 /// The value of a digit or letter, 0 to 35, and 36 for any other byte.
-fn digit_value(digit: u8) -> u64
+pub(crate) fn digit_value(digit: u8) -> u64
     ensures { result ≡ digit_value digit }
 {
     match digit {
@@ -222,7 +222,8 @@ fn is_hex(text: &[u8]) -> bool
 
 /// The hex digits of one to 512 bytes.
 pub(crate) fn hex(text: &[u8]) -> Option<&[u8]>
-    ensures { Gives (λ digits. digits.now) result (hex_of text.now) }
+    ensures exact { Gives (λ digits. digits.now) result (hex_of text.now) }
+    ensures digits { IfSome result (λ digits. specs.AreHexDigits digits.now) }
 {
     if is_hex(text) { Some(text) } else { None }
 }

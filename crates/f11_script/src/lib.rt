@@ -4,10 +4,11 @@
 #![tactic(auto)]
 
 mod areas;
+mod blocks;
 mod fields;
-mod parse;
+mod line;
 mod requests;
 mod verb;
 mod words;
 
-pub use parse::Parsed;
+pub use line::{Parsed, parse};

@@ -1,17 +1,16 @@
 //! What each verb asks with the words behind it.
 
-ghost use Rattle.std.specs.Prelude.{◌≡◌};
+ghost use Rattle.std.specs.Prelude.{◌≡◌, IfNone, IfSome};
 
 use crate::verb::Verb;
 use crate::words::Words;
-use crate::{areas, fields};
+use crate::{areas, blocks, fields};
 use f11_store::{Change, FileId, Mode, Request};
 
 impl<'a> Words<'a> {
-    ghost use Rattle.f11_script.specs.Fields.{byte_of, id_of, mode_of, number_of, octal_byte_of, protection_of, word_of};
-    ghost use Rattle.f11_script.specs.Fields.{filled_block};
+    ghost use Rattle.f11_script.specs.Fields.{AreHexDigits, byte_of, id_of, mode_of, number_of, octal_byte_of, protection_of, word_of};
     ghost use Rattle.f11_script.specs.Reading.{Gives, argument, words_left};
-    ghost use Rattle.f11_script.specs.Requests.{asks, asks_with, attr_asks, close_asks, access_asks, create_asks, delete_asks, enter_asks, extend_asks, fill_asks, find_asks, grow_asks, hex_of, protect_asks, read_asks, release_asks, remove_asks, set_attr_asks, space_asks, truncate_asks, write_asks};
+    ghost use Rattle.f11_script.specs.Requests.{asks, attr_asks, close_asks, access_asks, create_asks, delete_asks, enter_asks, extend_asks, fill_asks, find_asks, grow_asks, hex_of, protect_asks, read_asks, release_asks, remove_asks, set_attr_asks, space_asks, truncate_asks, verb_asks, with_block, write_asks};
 
     fn number(self) -> Option<(u32, Words<'a>)>
         ensures { Gives (λ next. (next.0, words_left next.1)) result (argument number_of (words_left self.entry)) }
@@ -63,7 +62,8 @@ impl<'a> Words<'a> {
     }
 
     fn hex(self) -> Option<(&'a [u8], Words<'a>)>
-        ensures { Gives (λ next. (next.0.now, words_left next.1)) result (argument hex_of (words_left self.entry)) }
+        ensures exact { Gives (λ next. (next.0.now, words_left next.1)) result (argument hex_of (words_left self.entry)) }
+        ensures digits { IfSome result (λ next. AreHexDigits next.0.now) }
     {
         let (word, rest) = self.next()?;
         Some((fields::hex(word)?, rest))
@@ -248,17 +248,66 @@ impl<'a> Words<'a> {
             .then_some(Request::WriteAttr(file, Change::Attr(attr)))
     }
 
-    // `FILL lun vbn octal`: the request, and the byte of its block.
+    // `FILL lun vbn octal`
     #[tactic(auto, unfolding(crate::specs::Requests::fill_asks))]
-    fn fill(self) -> Option<(Request, u8)>
-        ensures { Gives (λ fill. asks_with fill.0 (filled_block fill.1)) result (fill_asks (words_left self.entry)) }
+    fn fill(self, block: &mut [u8; 512]) -> Option<Request>
+        ensures exact { Gives (λ r. (r, block.new)) result (with_block block.old (fill_asks (words_left self.entry))) }
+        ensures stays { IfNone result (block.new ≡ block.old) }
     {
         let (word, words) = self.next()?;
         let lun = fields::lun(word)?;
         let (vbn, words) = words.number()?;
         let (byte, words) = words.octal_byte()?;
-        words
-            .is_empty()
-            .then_some((Request::WriteBlock(lun, vbn), byte))
+        if !words.is_empty() {
+            return None;
+        }
+        blocks::put_byte(block, byte);
+        Some(Request::WriteBlock(lun, vbn))
+    }
+
+    // `WRITE lun vbn hex`
+    #[tactic(auto, unfolding(crate::specs::Requests::write_asks))]
+    fn write(self, block: &mut [u8; 512]) -> Option<Request>
+        ensures exact { Gives (λ r. (r, block.new)) result (with_block block.old (write_asks (words_left self.entry))) }
+        ensures stays { IfNone result (block.new ≡ block.old) }
+    {
+        let (word, words) = self.next()?;
+        let lun = fields::lun(word)?;
+        let (vbn, words) = words.number()?;
+        let (digits, words) = words.hex()?;
+        if !words.is_empty() {
+            return None;
+        }
+        blocks::put_hex(block, digits);
+        Some(Request::WriteBlock(lun, vbn))
+    }
+
+    /// The request of a verb with these words behind it; the block becomes that of `FILL` and `WRITE`.
+    #[tactic(auto, using(crate::proofs::AskLemmas::kept))]
+    pub(crate) fn request(self, verb: Verb, block: &mut [u8; 512]) -> Option<Request>
+        ensures exact { Gives (λ r. (r, block.new)) result (with_block block.old (verb_asks verb (words_left self.entry))) }
+        ensures stays { IfNone result (block.new ≡ block.old) }
+    {
+        let words = self;
+        match verb {
+            Verb::Create => words.create(),
+            Verb::Extend => words.extend(),
+            Verb::Truncate => words.truncate(),
+            Verb::Delete => words.delete(),
+            Verb::Grow => words.grow(),
+            Verb::Access => words.access(),
+            Verb::Close => words.close(),
+            Verb::Release => words.release(),
+            Verb::Read => words.read(),
+            Verb::Find => words.find(),
+            Verb::Enter => words.enter(),
+            Verb::Remove => words.remove(),
+            Verb::Attr => words.attr(),
+            Verb::SetAttr => words.set_attr(),
+            Verb::Protect => words.protect(),
+            Verb::Space => words.space(),
+            Verb::Fill => words.fill(block),
+            Verb::Write => words.write(block),
+        }
     }
 }

@@ -1,4 +1,4 @@
-use Rattle.std.proofs.Common.{◌≡◌, ◌∙◌, List, ℕ, Bool, true, false, Option, Some, None, is_some, not, if◌then◌else◌, Bor, sym, ap, refl}
+use Rattle.std.proofs.Common.{◌≡◌, ◌∙◌, List, ℕ, Bool, true, false, Option, Some, None, is_some, not, if◌then◌else◌, Bor, ap, refl}
 use Rattle.std.specs.Option.{option_copied}
 use Rattle.f11_script.specs.Reading.{at_end, words_of_rest}
 use Rattle.f11_script.specs.Requests.{Ask}

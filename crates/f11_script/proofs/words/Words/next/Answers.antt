@@ -1,4 +1,4 @@
-use Rattle.std.proofs.Common.{◌≡◌, ◌∙◌, ◌+◌, ◌∷◌, Some, take, sym, ap}
+use Rattle.std.proofs.Common.{◌∙◌, ◌+◌, Some, take, sym, ap}
 use Rattle.std.proofs.lemmas.List.{take_rest}
 use Rattle.std.specs.Option.{option_copied}
 use Rattle.f11_script.specs.Reading.{next_word, words_of, words_of_rest}
