@@ -3,3 +3,5 @@ pub mod WordLemmas
 pub mod DigitLemmas
 pub mod AskLemmas
 pub mod LineLemmas
+pub mod AnswerLemmas
+pub mod OutputLemmas

@@ -3,12 +3,16 @@
 //! Stands on `f11_rad50` (names), `f11_store` (requests), `arrayvec` (texts of fixed capacity) and `thiserror`.
 #![tactic(auto)]
 
+mod answer;
 mod areas;
 mod blocks;
+mod errors;
 mod fields;
 mod line;
+mod output;
 mod requests;
 mod verb;
 mod words;
 
+pub use errors::ScriptError;
 pub use line::{Parsed, parse};
