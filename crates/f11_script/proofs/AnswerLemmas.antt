@@ -1,5 +1,5 @@
 -- Bytes that are shown in hex, up to the last one that isn't 0.
-use Rattle.std.proofs.Common.{◌≡◌, ℕ, ◌-◌, ◌+◌, ◌/◌, ◌%◌, ◌<◌, ◌≤◌, ◌==◌, Bool, true, false, List, [], ◌∷◌, ◌++◌, Option, Some, None, Result, OnOk, length, get_or, take, if◌then◌else◌, refl, ap, ◌∙◌, sym, arith, append_assoc}
+use Rattle.std.proofs.Common.{◌≡◌, ℕ, ◌-◌, ◌+◌, ◌/◌, ◌%◌, ◌<◌, ◌≤◌, ◌==◌, Bool, true, false, List, [], ◌∷◌, ◌++◌, Some, None, Result, OnOk, length, get_or, take, if◌then◌else◌, ap, ◌∙◌, sym, arith, append_assoc}
 use Rattle.arrayvec.specs.ArrayString.{ArrayString}
 use Rattle.std.specs.Fmt.{digit_glyph, WritesInCalls}
 use Rattle.std.specs.List.{flat_map}

@@ -5,3 +5,4 @@ pub mod AskLemmas
 pub mod LineLemmas
 pub mod AnswerLemmas
 pub mod OutputLemmas
+pub mod InputLemmas

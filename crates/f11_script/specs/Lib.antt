@@ -3,5 +3,6 @@ pub mod Reading
 pub mod Fields
 pub mod Verbs
 pub mod Requests
+pub mod Input
 pub mod Lines
 pub mod Answers

@@ -8,6 +8,7 @@ mod areas;
 mod blocks;
 mod errors;
 mod fields;
+mod input;
 mod line;
 mod output;
 mod requests;
@@ -15,4 +16,6 @@ mod verb;
 mod words;
 
 pub use errors::ScriptError;
+pub use input::{Line, ScriptReader};
 pub use line::{Parsed, parse};
+pub use output::{bad_line, reply};

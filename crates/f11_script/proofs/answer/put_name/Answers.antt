@@ -1,4 +1,4 @@
-use Rattle.std.proofs.Common.{◌∙◌, ◌++◌, ap, sym}
+use Rattle.std.proofs.Common.{◌∙◌, ◌++◌, ap}
 use Rattle.std.proofs.lemmas.Result.{on_ok_weaker}
 use Rattle.f11_script.proofs.AnswerLemmas.{shown_name, text_written}
 use Rattle.f11_script.proofs.answer.put_name.Goals as goal

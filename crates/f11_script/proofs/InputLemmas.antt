@@ -1,0 +1,183 @@
+-- Bytes that are read piece by piece.
+use Rattle.std.proofs.Common.{◌≡◌, ◌≢◌, ◌⊎◌, inl, inr, All, ℕ, ◌+◌, ◌<◌, ◌≤◌, List, [], ◌∷◌, ◌++◌, length, take, drop, get_or, Option, Some, None, Bool, true, false, ◌==◌, ◌-◌, if◌then◌else◌, refl, sym, ◌∙◌, ap, subst, arith, add-one, drop-cons, length-append}
+use Rattle.std.specs.Io.KnownBytes.{Consumes, Keeps, IsAtEnd}
+use Rattle.std.proofs.KnownBytes.{Consumes-nil, Consumes-trans, Consumes-kept}
+use Rattle.std.proofs.lemmas.Bool.{cases_lt, ne_eqb}
+use Rattle.std.proofs.lemmas.List.{length-take-le, get_or-take, take_all, take-append-le, length-take, append-nil}
+use Rattle.std.proofs.lemmas.List.Elements.{All-append, All-replicate}
+use Rattle.std.specs.List.{slice_split, onto_first, slice_index}
+use Rattle.std.specs.Str.Lines.{lines, lines_of_parts, strip_carriage_return}
+use Rattle.std.proofs.lemmas.List.Splits.{slice_split_at, slice_split_none}
+use Rattle.f11_script.specs.Input.{bytes_left, HasByte, IsLine, TakesLine, TakesNoLine}
+
+-- the byte at hand, and those behind it
+next_of_piece : (piece : List ℕ) (at end : ℕ) → at < end → end ≤ length piece →
+    drop at (take end piece) ≡ get_or piece at 0 ∷ drop (at + 1) (take end piece)
+next_of_piece piece at end below within =
+    drop-cons (take end piece) at 0 (omega (arith, below, length-take-le end piece within))
+    ∙ rw (get_or-take end piece at 0 below, add-one) refl
+
+pub byte_taken : (a : Option (List ℕ)) (piece : List ℕ) (at end : ℕ) (known : Option (List ℕ)) → at < end → end ≤ length piece →
+    Keeps a (bytes_left piece at end known) → Consumes a (bytes_left piece (at + 1) end known) (get_or piece at 0 ∷ [])
+byte_taken None piece at end known below within kept = tt
+byte_taken (Some xs) piece at end None below within kept = kept
+byte_taken (Some xs) piece at end (Some rest) below within kept = sym kept ∙ ap (λ t. t ++ rest) (next_of_piece piece at end below within)
+
+pub has_byte : (piece : List ℕ) (at end : ℕ) (known : Option (List ℕ)) → at < end → end ≤ length piece → HasByte (bytes_left piece at end known)
+has_byte piece at end None below within = tt
+has_byte piece at end (Some rest) below within =
+    rw (next_of_piece piece at end below within) (omega arith)
+
+-- the bytes of a line so far, and what is kept of them
+pub record Collected (old new : Option (List ℕ)) (count counted : ℕ) (line : List ℕ) : Type 0 where
+  pub bytes : List ℕ
+  pub taken : Consumes old new bytes
+  pub no_end : All (λ c. c ≢ 10) bytes
+  pub number : counted ≡ count + length bytes
+  pub kept : line ≡ take 1202 bytes
+
+pub collected_none : (a : Option (List ℕ)) (n : ℕ) → Collected a a n n []
+collected_none a n = record { bytes = []; taken = Consumes-nil a; no_end = λ k d h. absurd (omega (arith, h)); number = omega arith; kept = refl }
+
+-- what is kept of one byte more
+clip : (bytes : List ℕ) (x : ℕ) → take 1202 (take 1202 bytes ++ x ∷ []) ≡ take 1202 (bytes ++ x ∷ [])
+clip bytes x = by_length (cases_lt 1202 (length bytes))
+  where
+    by_length : (1202 < length bytes) ⊎ (length bytes ≤ 1202) → take 1202 (take 1202 bytes ++ x ∷ []) ≡ take 1202 (bytes ++ x ∷ [])
+    by_length (inr short) = ap (λ t. take 1202 (t ++ x ∷ [])) (take_all 1202 bytes short)
+    by_length (inl long) =
+        let full : length (take 1202 bytes) ≡ 1202 = length-take-le 1202 bytes (omega (arith, long)) in
+        take-append-le 1202 (take 1202 bytes) (x ∷ []) (omega (arith, full))
+        ∙ take_all 1202 (take 1202 bytes) (omega (arith, full))
+        ∙ sym (take-append-le 1202 bytes (x ∷ []) (omega (arith, long)))
+
+pub collected_more : (a b c : Option (List ℕ)) (n m k x : ℕ) (line more : List ℕ) → Collected a b n m line → Consumes b c (x ∷ []) → x ≢ 10 →
+    k ≡ m + 1 → more ≡ take 1202 (line ++ x ∷ []) → Collected a c n k more
+collected_more a b c n m k x line more h next other counted is = record {
+  bytes = h.bytes ++ x ∷ [];
+  taken = Consumes-trans a b c h.bytes (x ∷ []) h.taken next;
+  no_end = All-append (λ y. y ≢ 10) h.bytes (x ∷ []) h.no_end (All-replicate (λ y. y ≢ 10) 1 x other);
+  number = omega (arith, h.number, counted, length-append h.bytes (x ∷ []));
+  kept = is ∙ ap (λ t. take 1202 (t ++ x ∷ [])) h.kept ∙ clip h.bytes x;
+}
+
+-- a fault amid a line
+pub collected_failed : (a b c : Option (List ℕ)) (n m k : ℕ) (line : List ℕ) → Collected a b n m line → Keeps b c → k ≡ m → TakesNoLine a c n k
+collected_failed a b c n m k line h kept same = record {
+  bytes = h.bytes;
+  taken = Consumes-kept a b c h.bytes h.taken kept;
+  no_end = h.no_end;
+  number = same ∙ h.number;
+}
+
+-- what is kept of a byte, where there is room and where there is none
+pub kept_room : (line : List ℕ) (x : ℕ) → length line < 1202 → line ++ x ∷ [] ≡ take 1202 (line ++ x ∷ [])
+kept_room line x room = sym (take_all 1202 (line ++ x ∷ []) (omega (arith, room, length-append line (x ∷ []))))
+
+pub kept_full : (line : List ℕ) (x : ℕ) → length line ≡ 1202 → line ≡ take 1202 (line ++ x ∷ [])
+kept_full line x full =
+    sym (take-append-le 1202 line (x ∷ []) (omega (arith, full)) ∙ take_all 1202 line (omega (arith, full)))
+
+-- bytes without a line feed
+no_ends : (bytes : List ℕ) → All (λ c. c ≢ 10) bytes → All (λ c. (c == 10) ≡ false) bytes
+no_ends bytes h k d within = ne_eqb _ 10 (h k d within)
+
+-- a line before others
+lines-more : (line rest : List ℕ) → lines_of_parts (line ∷ slice_split (λ b. b == 10) rest) ≡ strip_carriage_return line ∷ lines rest
+lines-more line [] = refl
+lines-more line (c ∷ rest) = by_test (c == 10) (slice_split (λ b. b == 10) rest)
+  where
+    by_test : (b : Bool) (parts : List (List ℕ)) →
+        lines_of_parts (line ∷ (if b then [] ∷ parts else onto_first c parts)) ≡ strip_carriage_return line ∷ lines_of_parts (if b then [] ∷ parts else onto_first c parts)
+    by_test true parts = refl
+    by_test false [] = refl
+    by_test false (part ∷ parts) = refl
+
+lines-ended : (line rest : List ℕ) → All (λ c. c ≢ 10) line → lines (line ++ 10 ∷ rest) ≡ strip_carriage_return line ∷ lines rest
+lines-ended line rest h =
+    ap lines_of_parts (slice_split_at (λ b. b == 10) line 10 rest (no_ends line h) refl) ∙ lines-more line rest
+
+lines-last : (line : List ℕ) → 0 < length line → All (λ c. c ≢ 10) line → lines line ≡ line ∷ []
+lines-last line some h =
+    ap lines_of_parts (slice_split_none (λ b. b == 10) line (no_ends line h))
+    ∙ ap (λ b. if b then [] else line ∷ []) (ne_eqb (length line) 0 (λ e. absurd (omega (arith, some, e))))
+
+-- a line is at most one byte shorter than it was with its carriage return
+length-strip : (line : List ℕ) → (length (strip_carriage_return line) ≤ length line) × (length line ≤ length (strip_carriage_return line) + 1)
+length-strip line = by_test (slice_index line (length line - 1) == 13)
+  where
+    by_test : (b : Bool) → (length (if b then take (length line - 1) line else line) ≤ length line)
+        × (length line ≤ length (if b then take (length line - 1) line else line) + 1)
+    by_test true = let n = length-take-le (length line - 1) line (omega arith) in (omega (arith, n), omega (arith, n))
+    by_test false = (omega arith, omega arith)
+
+-- what is kept of a line, without its carriage return and with it
+kept_line : (bytes : List ℕ) → IsLine (strip_carriage_return (take 1202 bytes)) (strip_carriage_return bytes)
+kept_line bytes = by_length (cases_lt 1202 (length bytes))
+  where
+    by_length : (1202 < length bytes) ⊎ (length bytes ≤ 1202) → IsLine (strip_carriage_return (take 1202 bytes)) (strip_carriage_return bytes)
+    by_length (inr short) =
+        let same : take 1202 bytes ≡ bytes = take_all 1202 bytes short in
+        record { short = λ h. ap strip_carriage_return same; long = λ h. rw same h }
+    by_length (inl long) = record {
+      short = λ h. absurd (omega (arith, h, long, (length-strip bytes).1));
+      long = λ h. omega (arith, (length-strip (take 1202 bytes)).1, length-take-le 1202 bytes (omega (arith, long)));
+    }
+
+kept_last : (bytes : List ℕ) → IsLine (take 1202 bytes) bytes
+kept_last bytes = by_length (cases_lt 1202 (length bytes))
+  where
+    by_length : (1202 < length bytes) ⊎ (length bytes ≤ 1202) → IsLine (take 1202 bytes) bytes
+    by_length (inr short) =
+        let same : take 1202 bytes ≡ bytes = take_all 1202 bytes short in
+        record { short = λ h. same; long = λ h. rw same h }
+    by_length (inl long) = record {
+      short = λ h. absurd (omega (arith, h, long));
+      long = λ h. omega (arith, length-take-le 1202 bytes (omega (arith, long)));
+    }
+
+-- a line that ends
+pub collected_line : (a b c : Option (List ℕ)) (n m : ℕ) (line given : List ℕ) → Collected a b n m line → Consumes b c (10 ∷ []) →
+    given ≡ strip_carriage_return line → TakesLine a c given
+collected_line None b c n m line given h next is = tt
+collected_line (Some xs) None c n m line given h next is = absurd h.taken
+collected_line (Some xs) (Some ys) None n m line given h next is = absurd next
+collected_line (Some xs) (Some ys) (Some zs) n m line given h next is = (
+  strip_carriage_return h.bytes,
+  ap lines (h.taken ∙ ap (λ t. h.bytes ++ t) next) ∙ lines-ended h.bytes zs h.no_end,
+  subst (λ (g : List ℕ). IsLine g (strip_carriage_return h.bytes)) (sym (is ∙ ap strip_carriage_return h.kept)) (kept_line h.bytes),
+)
+
+-- the last line
+pub collected_last : (a b c : Option (List ℕ)) (n m : ℕ) (line : List ℕ) → Collected a b n m line → IsAtEnd b → Keeps b c → 0 < length line → TakesLine a c line
+collected_last None b c n m line h end kept some = tt
+collected_last (Some xs) None c n m line h end kept some = absurd h.taken
+collected_last (Some xs) (Some ys) None n m line h end kept some = absurd kept
+collected_last (Some xs) (Some ys) (Some zs) n m line h end kept some =
+    let all : xs ≡ h.bytes = h.taken ∙ ap (λ t. h.bytes ++ t) end ∙ append-nil h.bytes in
+    let rest : zs ≡ [] = kept ∙ end in
+    let some_bytes : 0 < length h.bytes = omega (arith, some, ap length h.kept, length-take 1202 h.bytes) in (
+      h.bytes,
+      ap lines all ∙ lines-last h.bytes some_bytes h.no_end ∙ ap (λ t. h.bytes ∷ lines t) (sym rest),
+      subst (λ (g : List ℕ). IsLine g h.bytes) (sym h.kept) (kept_last h.bytes),
+    )
+
+-- what has no element
+pub length-zero : (bytes : List ℕ) → length bytes ≡ 0 → bytes ≡ []
+length-zero [] e = refl
+length-zero (x ∷ xs) e = absurd (omega (arith, e))
+
+-- no line
+pub collected_end : (a b : Option (List ℕ)) (n m : ℕ) (line : List ℕ) → Collected a b n m line → IsAtEnd b → length line ≡ 0 → IsAtEnd a
+collected_end None b n m line h end none = tt
+collected_end (Some xs) None n m line h end none = absurd h.taken
+collected_end (Some xs) (Some ys) n m line h end none =
+    h.taken ∙ ap (λ t. h.bytes ++ t) end ∙ append-nil h.bytes ∙ length-zero h.bytes (omega (arith, none, ap length h.kept, length-take 1202 h.bytes))
+
+-- at the end the script stays as it is
+pub collected_kept : (a b c : Option (List ℕ)) (n m : ℕ) (line : List ℕ) → Collected a b n m line → IsAtEnd b → Keeps b c → length line ≡ 0 → Keeps a c
+collected_kept None b c n m line h end kept none = tt
+collected_kept (Some xs) None c n m line h end kept none = absurd h.taken
+collected_kept (Some xs) (Some ys) None n m line h end kept none = absurd kept
+collected_kept (Some xs) (Some ys) (Some zs) n m line h end kept none =
+    kept ∙ end ∙ sym (collected_end (Some xs) (Some ys) n m line h end none)

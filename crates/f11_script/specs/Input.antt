@@ -1,0 +1,58 @@
+-- The lines of a script, read from a reader (profile).
+use Rattle.std.specs.Prelude.{◌≡◌, ◌≢◌, ℕ, ◌+◌, ◌<◌, ◌≤◌, ⊤, All, List, [], ◌∷◌, length, drop, take, Option, Some, None, Result, Ok, Err, Bool, true, false}
+use Rattle.std.specs.Io.KnownBytes.{prepend_known, Consumes, Keeps, IsAtEnd}
+use Rattle.std.specs.Str.Lines.{lines}
+use Rattle.f11_script.specs.declared.input.ScriptReader.{ScriptReader}
+use Rattle.f11_script.specs.declared.errors.ScriptError.{ScriptError}
+use Rattle.f11_script.specs.declared.errors.ScriptError.TheVariants.{ReadFault, WriteFault, TooLong}
+
+-- the bytes that are still to be read: those of the piece from one place up to another, and the reader's
+abbrev pub bytes_left : List ℕ → ℕ → ℕ → Option (List ℕ) → Option (List ℕ)
+bytes_left piece at end known = prepend_known (drop at (take end piece)) known
+
+-- a line as it is handed out, which is cut short only where it is longer than any good one
+pub record IsLine (given line : List ℕ) : Type 0 where
+  pub short : length line ≤ 1200 → given ≡ line
+  pub long : 1200 < length line → 1200 < length given
+
+-- the first line of the known bytes was read
+abbrev pub TakesLine : Option (List ℕ) → Option (List ℕ) → List ℕ → Type 0
+TakesLine None new given = ⊤
+TakesLine (Some xs) None given = ⊥
+TakesLine (Some xs) (Some ys) given = (line : List ℕ) × (lines xs ≡ line ∷ lines ys) × IsLine given line
+
+-- some bytes were read, among them no line feed: no whole line is lost
+pub record TakesNoLine (old new : Option (List ℕ)) (count counted : ℕ) : Type 0 where
+  pub bytes : List ℕ
+  pub taken : Consumes old new bytes
+  pub no_end : All (λ c. c ≢ 10) bytes
+  pub number : counted ≡ count + length bytes
+
+-- a byte is known to be left
+abbrev pub HasByte : Option (List ℕ) → Type 0
+HasByte None = ⊤
+HasByte (Some xs) = 0 < length xs
+
+-- what an error of reading says: the reader failed, or so many bytes were read and one more is there
+abbrev pub IsReadError : ScriptError → ℕ → Option (List ℕ) → Type 0
+IsReadError ReadFault count left = ⊤
+IsReadError TooLong count left = (count ≡ 16777216) × HasByte left
+IsReadError WriteFault count left = ⊥
+
+-- a script's bytes that are still to be read, where the reader's are known
+abbrev pub left_of : {R : Type 0} → (R → Option (List ℕ)) → ScriptReader R → Option (List ℕ)
+left_of remaining script = bytes_left script.piece script.at script.end (remaining script.reader)
+
+-- the reader
+abbrev pub reader_of : {R : Type 0} → ScriptReader R → R
+reader_of script = script.reader
+
+-- the number of bytes that were read
+abbrev pub number_read : {R : Type 0} → ScriptReader R → ℕ
+number_read script = script.count
+
+-- what reading a line says: a line was read, no line is left, or it failed
+abbrev pub ReadsLine : Option (List ℕ) → Option (List ℕ) → ℕ → ℕ → Result Bool ScriptError → List ℕ → Type 0
+ReadsLine old new count counted (Ok true) given = TakesLine old new given
+ReadsLine old new count counted (Ok false) given = IsAtEnd old × Keeps old new × (given ≡ [])
+ReadsLine old new count counted (Err e) given = TakesNoLine old new count counted × IsReadError e counted new
