@@ -3,6 +3,7 @@ use Rattle.std.specs.Prelude.{ℕ, ◌/◌, ◌%◌, ◌==◌, false, List, [], 
 use Rattle.std.specs.Fmt.{decimal, digit_glyph}
 use Rattle.std.specs.Io.KnownBytes.{Appends}
 use Rattle.std.specs.List.{flat_map, list_all}
+use Rattle.f11_bytes.specs.Words.{word, long}
 use Rattle.f11_rad50.specs.Name.{is_name, name_text}
 use Rattle.f11_store.specs.declared.callers.Uic.{Uic}
 use Rattle.f11_store.specs.declared.files.Attr.{Attr}
@@ -12,7 +13,6 @@ use Rattle.f11_store.specs.declared.requests.Reply.{Reply}
 use Rattle.f11_store.specs.declared.requests.Reply.TheVariants as reply
 use Rattle.f11_store.specs.declared.requests.Request.{Request}
 use Rattle.f11_store.specs.declared.requests.Request.TheVariants as request
-use Rattle.f11_store.specs.File.{word_at, long_at}
 use Rattle.f11_store.specs.Refusal.{refusal_name}
 use Rattle.f11_store.specs.Text.{octal_digits, uic_text, id_text}
 
@@ -32,7 +32,7 @@ data_text block = if length (without_zeros block) == 0 then codes "-" else flat_
 -- the five words at the front of an ident area: three of the name, type, version
 -- (Files-11 On-Disk Structure Level 1, ident area)
 abbrev pub name_words : List ℕ → List ℕ
-name_words ident = word_at ident 0 ∷ word_at ident 2 ∷ word_at ident 4 ∷ word_at ident 6 ∷ word_at ident 8 ∷ []
+name_words ident = word ident 0 ∷ word ident 2 ∷ word ident 4 ∷ word ident 6 ∷ word ident 8 ∷ []
 
 -- the text of a name, and a question mark for words that are none
 abbrev pub name_or_mark : List ℕ → List ℕ
@@ -46,7 +46,7 @@ fields_text rtyp rsiz efbk ffby = codes " rtyp " ++ (decimal rtyp
 -- what is shown of user attributes: the record type, the record size, F.EFBK and F.FFBY
 -- (Files-11 On-Disk Structure Level 1, file attributes)
 abbrev pub user_attr_text : List ℕ → List ℕ
-user_attr_text attr = fields_text (slice_index attr 0) (word_at attr 2) (long_at attr 8) (word_at attr 12)
+user_attr_text attr = fields_text (slice_index attr 0) (word attr 2) (long attr 8) (word attr 12)
 
 -- an owner, a protection word and characteristics, in octal, before a name
 abbrev pub owner_text : Uic → ℕ → ℕ → List ℕ

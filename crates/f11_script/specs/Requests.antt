@@ -1,11 +1,11 @@
 -- What each line of the script language asks: for each verb its arguments and its request (profile).
 use Rattle.std.specs.Prelude.{ℕ, ◌==◌, List, ◌∷◌, ◌++◌, Option, Some, None, option_map, slice_index, replicate, if◌then◌else◌}
 use Rattle.std.specs.List.{flat_map}
+use Rattle.f11_bytes.specs.Words.{word_bytes, long_bytes}
 use Rattle.f11_rad50.specs.Name.{words_spelled}
 use Rattle.f11_store.specs.declared.files.Change.TheVariants as change
 use Rattle.f11_store.specs.declared.requests.Request.{Request}
 use Rattle.f11_store.specs.declared.requests.Request.TheVariants as request
-use Rattle.f11_store.specs.Directory.{word_bytes, long_bytes}
 use Rattle.f11_script.specs.declared.verb.Verb.{Verb}
 use Rattle.f11_script.specs.declared.verb.Verb.TheVariants as verb
 use Rattle.f11_script.specs.Reading.{◌>>=◌, argument, at_end}

@@ -4,11 +4,11 @@ ghost use Rattle.std.specs.Prelude.{◌≡◌, ◌+◌, ◌<◌, ◌++◌, [], �
 ghost use Rattle.std.specs.Fmt.{digit_glyph};
 ghost use Rattle.std.specs.List.{flat_map};
 ghost use Rattle.f11_rad50.specs.Name.{is_name};
-ghost use Rattle.f11_store.specs.File.{long_at, word_at};
 ghost use Rattle.f11_store.specs.Refusal.{refusal_name};
 ghost use Rattle.f11_script.specs.Answers as specs;
 
 use arrayvec::ArrayString;
+use f11_bytes::{read_long, read_word};
 use f11_rad50::Name;
 use f11_store::{Attr, FileId, Refusal, Reply, Request, Uic};
 use std::fmt::{self, Write};
@@ -79,32 +79,16 @@ fn put_data(text: &mut Text, block: &[u8; 512]) -> fmt::Result
     }
 }
 
-/// The word at a byte, the low one first.
-fn word_at(bytes: &[u8], at: usize) -> u16
-    requires { at + 1 < length bytes.now }
-    ensures { result ≡ word_at bytes.now at }
-{
-    u16::from(bytes[at]) + 256 * u16::from(bytes[at + 1])
-}
-
-/// The two words at a byte, the high one first.
-fn long_at(bytes: &[u8], at: usize) -> u32
-    requires { at + 3 < length bytes.now }
-    ensures { result ≡ long_at bytes.now at }
-{
-    65536 * u32::from(word_at(bytes, at)) + u32::from(word_at(bytes, at + 2))
-}
-
 /// The name in an ident area, where there is one.
 fn name_in(ident: &[u8; 46]) -> Option<Name>
     ensures { result ≡ (if is_name (specs.name_words ident.now) then Some (specs.name_words ident.now) else None) }
 {
     Name::from_words([
-        word_at(ident, 0),
-        word_at(ident, 2),
-        word_at(ident, 4),
-        word_at(ident, 6),
-        word_at(ident, 8),
+        read_word(ident, 0),
+        read_word(ident, 2),
+        read_word(ident, 4),
+        read_word(ident, 6),
+        read_word(ident, 8),
     ])
 }
 
@@ -129,9 +113,9 @@ fn put_fields(text: &mut Text, rtyp: u8, rsiz: u16, efbk: u32, ffby: u16) -> fmt
 fn put_user_attr(text: &mut Text, attr: &[u8; 32]) -> fmt::Result
     ensures { OnOk result (text.new.bytes ≡ text.old.bytes ++ specs.user_attr_text attr.now) }
 {
-    let rsiz = word_at(attr, 2);
-    let efbk = long_at(attr, 8);
-    let ffby = word_at(attr, 12);
+    let rsiz = read_word(attr, 2);
+    let efbk = read_long(attr, 8);
+    let ffby = read_word(attr, 12);
     put_fields(text, attr[0], rsiz, efbk, ffby)
 }
 

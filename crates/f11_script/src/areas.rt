@@ -1,7 +1,7 @@
 //! The areas of a header that a line's words stand for.
 
 ghost use Rattle.std.specs.Prelude.{◌≡◌};
-ghost use Rattle.f11_store.specs.Directory.{long_bytes, word_bytes};
+ghost use Rattle.f11_bytes.specs.Words.{long_bytes, word_bytes};
 ghost use Rattle.f11_script.specs.Requests as specs;
 
 use f11_rad50::Name;
