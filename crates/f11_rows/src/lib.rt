@@ -22,3 +22,7 @@ mod pointers;
 mod refused;
 #[cfg(test)]
 mod requests;
+#[cfg(test)]
+mod script;
+#[cfg(test)]
+mod texts;
