@@ -88,6 +88,7 @@ impl ToRecords {
         ensures converts { IfOk result (λ done.
             ConvertsText self.old self.new source.now done.0 target.new from done.1) }
         ensures puts { IfOk result (λ done. PutsAt target.old target.new from done.1) }
+        ensures room { IfOk result (λ done. done.1 ≤ 512) }
         ensures stops { IfOk result (λ done. StopsText self.new source.now done.0 done.1) }
         ensures bad { OnErr result (HasLongLine self.old source.now) }
     {

@@ -69,6 +69,7 @@ impl ToText {
         ensures converts { IfOk result (λ done.
             Converts self.old self.new source.now done.0 target.new from done.1) }
         ensures puts { IfOk result (λ done. PutsAt target.old target.new from done.1) }
+        ensures room { IfOk result (λ done. done.1 ≤ 512) }
         ensures stops { IfOk result (λ done. StopsAt self.new source.now done.0 done.1) }
         ensures bad { OnErr result (HasNoText self.old source.now) }
     {

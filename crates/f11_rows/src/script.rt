@@ -299,7 +299,7 @@ impl Write for Slow {
     }
 }
 
-fn slow(text: [u8; 160], interrupts: u32) -> Slow {
+fn slow_of(text: [u8; 160], interrupts: u32) -> Slow {
     Slow {
         inner: Cursor::new(text),
         interrupts,
@@ -311,7 +311,7 @@ fn slow(text: [u8; 160], interrupts: u32) -> Slow {
 fn lines_are_read_byte_by_byte(rt: HostRuntime) -> Result<(), Fail> {
     let mut text = [b'\n'; 160];
     text[..10].copy_from_slice(b"A\r\n\r\n\rB\nCC");
-    let mut script = ScriptReader::new(slow(text, 2));
+    let mut script = ScriptReader::new(slow_of(text, 2));
     let mut line = Line::new();
     for want in [b"A".as_slice(), b"", b"\rB", b"CC", b""] {
         assert!(rt; script.read_line(&mut line)?);
@@ -335,15 +335,15 @@ fn a_last_line_keeps_its_return(rt: HostRuntime) -> Result<(), Fail> {
 #[test]
 fn interrupts_have_an_end(rt: HostRuntime) -> Result<(), Fail> {
     let mut line = Line::new();
-    let mut patient = ScriptReader::new(slow([b'\n'; 160], 65536));
+    let mut patient = ScriptReader::new(slow_of([b'\n'; 160], 65536));
     assert_eq!(rt; patient.read_line(&mut line), Ok(true));
-    let mut never = ScriptReader::new(slow([b'\n'; 160], 65537));
+    let mut never = ScriptReader::new(slow_of([b'\n'; 160], 65537));
     assert_eq!(rt; never.read_line(&mut line), Err(ScriptError::ReadFault));
-    let mut writer = slow([0; 160], 3);
+    let mut writer = slow_of([0; 160], 3);
     bad_line(&mut writer)?;
     assert_eq!(rt; &writer.inner.get_ref()[..10], b"bad line\n\0".as_slice());
     assert_eq!(rt;
-        bad_line(&mut slow([0; 160], 65537)),
+        bad_line(&mut slow_of([0; 160], 65537)),
         Err(ScriptError::WriteFault)
     );
     assert_eq!(rt;
