@@ -40,7 +40,8 @@ impl<'a> HeaderMut<'a> {
         ensures* writes_back { sem 𝓛 (LendsIdent self.entry result) }
         ensures area { result.now ≡ ident_area (written_block self.old) }
         ensures len { length result.now ≡ 46 }
-        ensures header { (ident : List ℕ) → length ident ≡ 46 → IsTrue (holds_header (written_block self.old))
+        ensures header { (ident : List ℕ) → length ident ≡ 46
+            → IsTrue (holds_header (written_block self.old))
             → header_in (with_ident (written_block self.old) ident)
             ≡ header_with (λ h. record h { ident = ident }) (written_block self.old) }
     {
@@ -76,9 +77,13 @@ impl<'a> HeaderMut<'a> {
     /// Sets the file number and the file sequence number (H.FNUM, H.FSEQ).
     pub fn set_id(&mut self, id: FileId)
         ensures block { written_block self.new ≡ with_id (written_block self.old) id }
-        ensures fields { IsTrue (holds_header (written_block self.old)) → id.number ≢ 0 → id.sequence ≢ 0
+        ensures fields { IsTrue (holds_header (written_block self.old))
+            → id.number ≢ 0 → id.sequence ≢ 0
             → header_in (written_block self.new)
-            ≡ Some (record (header_fields (written_block self.old)) { number = id.number; sequence = id.sequence }) }
+            ≡ Some (record (header_fields (written_block self.old)) {
+              number = id.number;
+              sequence = id.sequence;
+            }) }
         ensures same_reference { block_loan self.new ≡ block_loan self.old }
     {
         write_word(self.block, NUMBER, id.number);
@@ -98,7 +103,8 @@ impl<'a> HeaderMut<'a> {
 
     /// Sets the protection word (H.FPRO).
     pub fn set_protection(&mut self, protection: u16)
-        ensures block { written_block self.new ≡ with_protection (written_block self.old) protection }
+        ensures block { written_block self.new
+            ≡ with_protection (written_block self.old) protection }
         ensures header { KeepsHeader (written_block self.old) (written_block self.new) }
         ensures fields { header_in (written_block self.new)
             ≡ header_with (λ h. record h { protection = protection }) (written_block self.old) }
@@ -109,7 +115,8 @@ impl<'a> HeaderMut<'a> {
 
     /// Sets the characteristics (H.UCHA in the low byte, H.SCHA in the high one).
     pub fn set_characteristics(&mut self, characteristics: u16)
-        ensures block { written_block self.new ≡ with_characteristics (written_block self.old) characteristics }
+        ensures block { written_block self.new
+            ≡ with_characteristics (written_block self.old) characteristics }
         ensures header { KeepsHeader (written_block self.old) (written_block self.new) }
         ensures fields { header_in (written_block self.new)
             ≡ header_with (λ h. record h { characteristics = characteristics }) (written_block self.old) }
@@ -120,7 +127,8 @@ impl<'a> HeaderMut<'a> {
 
     /// Sets the user attributes (H.UFAT).
     pub fn set_attributes(&mut self, attributes: &[u8; 32])
-        ensures block { written_block self.new ≡ with_attributes (written_block self.old) attributes.now }
+        ensures block { written_block self.new
+            ≡ with_attributes (written_block self.old) attributes.now }
         ensures header { KeepsHeader (written_block self.old) (written_block self.new) }
         ensures fields { header_in (written_block self.new)
             ≡ header_with (λ h. record h { attributes = attributes.now }) (written_block self.old) }

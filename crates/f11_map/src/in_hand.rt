@@ -36,7 +36,8 @@ pub fn append(block: &mut Block, lbn: u32, count: u32) -> Result<(), MapFull>
     requires lbn { lbn < 2 ^ 24 }
     requires count { (0 < count) × (count ≤ 256) }
     ensures ok { OnOk result (AppendsBlocks block.old block.new lbn count) }
-    ensures full { IsErr result ↔ ((places (map_area block.old) ≡ length (runs_of (map_area block.old)))
+    ensures full { IsErr result
+        ↔ ((places (map_area block.old) ≡ length (runs_of (map_area block.old)))
         × (joins_last (runs_of (map_area block.old)) lbn count ≡ false)) }
     ensures unchanged { IsErr result → block.new ≡ block.old }
 {
@@ -74,7 +75,8 @@ fn append_to(area: &mut [u8], lbn: u32, count: u32) -> Result<(), MapFull>
     requires lbn { lbn < 2 ^ 24 }
     requires count { (0 < count) × (count ≤ 256) }
     ensures pointers { IsOk result → runs_of area.new ≡ with_blocks (runs_of area.old) lbn count }
-    ensures blocks { IsOk result → blocks_of area.new ≡ blocks_of area.old ++ range_with_len lbn count }
+    ensures blocks { IsOk result → blocks_of area.new
+        ≡ blocks_of area.old ++ range_with_len lbn count }
     ensures full { IsErr result ↔ ((places area.old ≡ length (runs_of area.old))
         × (joins_last (runs_of area.old) lbn count ≡ false)) }
     ensures unchanged { IsErr result → area.new ≡ area.old }

@@ -63,9 +63,12 @@ impl<'a> MapMut<'a> {
     pub fn append(&mut self, lbn: u32, count: u32) -> Result<(), MapFull>
         requires lbn { lbn < 2 ^ 24 }
         requires count { (0 < count) × (count ≤ 256) }
-        ensures pointers { IsOk result → runs_of (written_area self.new) ≡ with_blocks (runs_of (written_area self.old)) lbn count }
-        ensures blocks { IsOk result → blocks_of (written_area self.new) ≡ blocks_of (written_area self.old) ++ range_with_len lbn count }
-        ensures full { IsErr result ↔ ((places (written_area self.old) ≡ length (runs_of (written_area self.old)))
+        ensures pointers { IsOk result → runs_of (written_area self.new)
+            ≡ with_blocks (runs_of (written_area self.old)) lbn count }
+        ensures blocks { IsOk result → blocks_of (written_area self.new)
+            ≡ blocks_of (written_area self.old) ++ range_with_len lbn count }
+        ensures full { IsErr result
+            ↔ ((places (written_area self.old) ≡ length (runs_of (written_area self.old)))
             × (joins_last (runs_of (written_area self.old)) lbn count ≡ false)) }
         ensures unchanged { IsErr result → written_area self.new ≡ written_area self.old }
         ensures rest { WritesPointers (written_area self.old) (written_area self.new) }
@@ -88,8 +91,10 @@ impl<'a> MapMut<'a> {
     /// Keeps the first `place` blocks of those that the pointers name, all where they are no more: pointers behind them go,
     /// and one that names some of them names no others.
     pub fn cut(&mut self, place: u32)
-        ensures pointers { runs_of (written_area self.new) ≡ cut_to (runs_of (written_area self.old)) place }
-        ensures blocks { blocks_of (written_area self.new) ≡ take place (blocks_of (written_area self.old)) }
+        ensures pointers { runs_of (written_area self.new)
+            ≡ cut_to (runs_of (written_area self.old)) place }
+        ensures blocks { blocks_of (written_area self.new)
+            ≡ take place (blocks_of (written_area self.old)) }
         ensures rest { WritesPointers (written_area self.old) (written_area self.new) }
         ensures same_reference { area_loan self.new ≡ area_loan self.old }
     {
