@@ -10,13 +10,18 @@ use std::test::Fail;
 /// The request of a line of task 3 and [1,1], and `None` for any other line.
 fn asked(line: &[u8]) -> Option<Request> {
     let mut block = ZEROS;
-    match parse(line, &mut block) {
-        Parsed::Asks {
-            task,
-            caller,
-            request,
-        } if task.number() == 3 && caller == SYSTEM => Some(request),
-        _ => None,
+    let Parsed::Asks {
+        task,
+        caller,
+        request,
+    } = parse(line, &mut block)
+    else {
+        return None;
+    };
+    if task.number() == 3 && caller == SYSTEM {
+        Some(request)
+    } else {
+        None
     }
 }
 
@@ -167,52 +172,43 @@ fn blocks_are_filled(rt: HostRuntime) {
 
 #[test]
 fn answers_are_written(rt: HostRuntime) -> Result<(), Fail> {
-    let lun = Lun::new(0).ok_or("lun")?;
-    let read = Request::ReadBlock(lun, 1);
-    let mut last = ZEROS;
-    (last[0], last[2]) = (0xab, 1);
     let far = FileId {
         number: 7,
         sequence: 1,
         volume: 2,
     };
-    for (request, answer, block, text) in [
-        (Request::Space, Ok(Reply::Done), ZEROS, b"ok\n".as_slice()),
-        (read, Ok(Reply::Done), ZEROS, b"ok data -\n"),
-        (read, Ok(Reply::Done), last, b"ok data ab0001\n"),
-        (read, Err(Refusal::EndOfFile), last, b"no EndOfFile\n"),
-        (
-            Request::Release,
-            Ok(Reply::Created(file(6, 2))),
-            ZEROS,
-            b"ok file 6,2\n",
-        ),
-        (
-            Request::Release,
-            Ok(Reply::Found(far)),
-            ZEROS,
-            b"ok file 7,1,2\n",
-        ),
-        (
-            Request::Release,
-            Ok(Reply::Length(378)),
-            ZEROS,
-            b"ok blocks 378\n",
-        ),
-        (
-            Request::Release,
-            Ok(Reply::Slots(17)),
-            ZEROS,
-            b"ok slots 17\n",
-        ),
+    for (answer, text) in [
+        (Ok(Reply::Done), b"ok\n".as_slice()),
+        (Ok(Reply::Created(file(6, 2))), b"ok file 6,2\n"),
+        (Ok(Reply::Found(far)), b"ok file 7,1,2\n"),
+        (Ok(Reply::Length(378)), b"ok blocks 378\n"),
+        (Ok(Reply::Slots(17)), b"ok slots 17\n"),
+        (Err(Refusal::EndOfFile), b"no EndOfFile\n"),
     ] {
         let mut lines = lines();
-        reply(&mut lines, &request, &answer, &block)?;
+        reply(&mut lines, &Request::Release, &answer, &ZEROS)?;
         assert_eq!(rt; text_of(&lines), text);
     }
     let mut lines = lines();
     bad_line(&mut lines)?;
     assert_eq!(rt; text_of(&lines), b"bad line\n".as_slice());
+    Ok(())
+}
+
+#[test]
+fn blocks_are_written(rt: HostRuntime) -> Result<(), Fail> {
+    let lun = Lun::new(0).ok_or("lun")?;
+    let mut last = ZEROS;
+    (last[0], last[2]) = (0xab, 1);
+    for (block, text) in [
+        (ZEROS, b"ok data -\n".as_slice()),
+        (last, b"ok data ab0001\n"),
+    ] {
+        let mut lines = lines();
+        let request = Request::ReadBlock(lun, 1);
+        reply(&mut lines, &request, &Ok(Reply::Done), &block)?;
+        assert_eq!(rt; text_of(&lines), text);
+    }
     Ok(())
 }
 
