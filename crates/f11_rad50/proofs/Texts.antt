@@ -16,7 +16,7 @@ use Rattle.f11_rad50.specs.Name.{is_name_character, name_of, type_of, version_of
 digit_value-written : (d : ℕ) → d < 8 → digit_value (48 + d) ≡ d
 digit_value-written d h = grind (arith, nat_tests)
 
-digits-written : (ds : List ℕ) → AllBelowBase 8 ds → AllDigits 8 (map (λ d. 48 + d) ds) × (map digit_value (map (λ d. 48 + d) ds) ≡ ds)
+pub digits-written : (ds : List ℕ) → AllBelowBase 8 ds → AllDigits 8 (map (λ d. 48 + d) ds) × (map digit_value (map (λ d. 48 + d) ds) ≡ ds)
 digits-written [] h = (tt, refl)
 digits-written (d ∷ ds) h =
     let e = digit_value-written d h.0 in

@@ -6,3 +6,4 @@ pub mod LineLemmas
 pub mod AnswerLemmas
 pub mod OutputLemmas
 pub mod InputLemmas
+pub mod SpellingLemmas

@@ -6,3 +6,4 @@ pub mod Requests
 pub mod Input
 pub mod Lines
 pub mod Answers
+pub mod Spelling

@@ -9,6 +9,7 @@ mod blocks;
 mod errors;
 mod fields;
 mod input;
+pub mod laws;
 mod line;
 mod output;
 mod requests;

@@ -1,0 +1,127 @@
+-- What is spelled is read.
+use Rattle.std.proofs.Common.{◌≡◌, ℕ, ◌+◌, ◌<◌, ◌≤◌, ◌==◌, ◌^◌, Bool, true, false, List, [], ◌∷◌, ◌++◌, length, map, Option, Some, None, if◌then◌else◌, refl, sym, ◌∙◌, ap, subst, arith}
+use Rattle.std.specs.Char.{digit_value, is_digit}
+use Rattle.std.specs.Fmt.{decimal}
+use Rattle.std.specs.Int.Digits.{digits_of}
+use Rattle.std.specs.List.{list_all, AllPass}
+use Rattle.std.specs.Str.Parse.{AllDigits, IsNumeral, digits_value}
+use Rattle.std.proofs.lemmas.Bool.{lt-ltb, le-leb}
+use Rattle.std.proofs.lemmas.Bool.Decides.{nat_tests}
+use Rattle.std.proofs.lemmas.Fmt.{decimal_is_IsNumeral, length-decimal-le}
+use Rattle.std.proofs.lemmas.Int.Digits.{all_below_base_digits_of, length-digits_of-le, length-digits_of_step}
+use Rattle.std.proofs.lemmas.List.{length-map}
+use Rattle.std.proofs.lemmas.List.Sums.{AllPass-from_list_all}
+use Rattle.std.proofs.lemmas.Str.Parse.{digit_from_value}
+use Rattle.f11_rad50.specs.Name.{IsName, is_name_character, name_text, octal, words_spelled}
+use Rattle.f11_rad50.proofs.Spelled.{cut_at-front, words_spelled-every}
+use Rattle.f11_rad50.proofs.Texts.{Spells-name_text, digits-written, digits_value-octal}
+use Rattle.f11_store.specs.declared.files.FileId.{FileId}
+use Rattle.f11_store.specs.declared.files.Mode.TheVariants as mode
+use Rattle.f11_script.specs.Reading.{argument}
+use Rattle.f11_script.specs.Fields.{numeral, value_up_to, id_of, mode_of}
+use Rattle.f11_script.specs.Verbs.{verb_of}
+use Rattle.f11_script.specs.Requests.{create_asks, extend_asks, truncate_asks, delete_asks, grow_asks, access_asks, close_asks, release_asks, read_asks, fill_asks, find_asks, enter_asks, remove_asks, attr_asks, set_attr_asks, protect_asks, space_asks}
+use Rattle.f11_script.specs.Spelling.{create, extend, truncate, delete, grow, access, close, release, read, fill, find, enter, remove, attr, set_attr, protect, space, octal_text, file_text, mode_text, IsId, SpelledIsRead}
+
+digits_pass : (radix : ℕ) (ds : List ℕ) → AllDigits radix ds → list_all (λ c. is_digit c radix) ds ≡ true
+digits_pass radix [] h = refl
+digits_pass radix (d ∷ ds) h = rw (lt-ltb _ _ h.0) (digits_pass radix ds h.1)
+
+numeral_of : (radix digits most n : ℕ) (ds : List ℕ) → IsNumeral radix ds → length ds ≤ digits → digits_value radix ds ≡ n → n ≤ most →
+    numeral radix digits most ds ≡ Some n
+unfolding numeral value_up_to
+numeral_of radix digits most n ds is short value small =
+    rw (lt-ltb 0 (length ds) is.0, le-leb (length ds) digits short, digits_pass radix ds is.1, value, le-leb n most small) refl
+
+-- a number in decimal
+number_read : (most n : ℕ) → most ≤ 4294967295 → n ≤ most → numeral 10 10 most (decimal n) ≡ Some n
+number_read most n bound small =
+    let below : n < 2 ^ 64 = omega (arith, bound, small) in
+    let ten : n < 10 ^ 10 = omega (arith, bound, small) in
+    let is = decimal_is_IsNumeral n below in
+    numeral_of 10 10 most n (decimal n) is.0 (length-decimal-le 10 n (omega arith) ten below) is.1 small
+
+-- a number in octal
+octal_numeral : (n : ℕ) → IsNumeral 8 (octal_text n) × (digits_value 8 (octal_text n) ≡ n)
+unfolding octal_text octal
+octal_numeral n = by_test (n == 0) refl
+  where
+    by_test : (b : Bool) → (n == 0) ≡ b →
+        IsNumeral 8 (if b then 48 ∷ [] else map (λ d. 48 + d) (digits_of 8 n)) × (digits_value 8 (if b then 48 ∷ [] else map (λ d. 48 + d) (digits_of 8 n)) ≡ n)
+    by_test true e = let zero : n ≡ 0 = grind (arith, nat_tests) in ((omega arith, (omega arith, tt)), sym zero)
+    by_test false e =
+        let some : 0 < n = grind (arith, nat_tests) in
+        ((rw (length-map, length-digits_of_step 8 n (omega arith) some) (omega arith), (digits-written (digits_of 8 n) (all_below_base_digits_of 8 n (omega arith))).0), digits_value-octal n)
+
+length-octal_text : (k n : ℕ) → 0 < k → n < 8 ^ k → length (octal_text n) ≤ k
+unfolding octal_text octal
+length-octal_text k n some below = by_test (n == 0)
+  where
+    by_test : (b : Bool) → length (if b then 48 ∷ [] else map (λ d. 48 + d) (digits_of 8 n)) ≤ k
+    by_test true = omega (arith, some)
+    by_test false = rw length-map (length-digits_of-le 8 k n (omega arith) below)
+
+word_read : (n : ℕ) → n ≤ 65535 → numeral 8 6 65535 (octal_text n) ≡ Some n
+word_read n small =
+    let is = octal_numeral n in
+    let below : n < 8 ^ 6 = omega (arith, small) in
+    numeral_of 8 6 65535 n (octal_text n) is.0 (length-octal_text 6 n (omega arith) below) is.1 small
+
+byte_read : (n : ℕ) → n ≤ 255 → numeral 8 3 255 (octal_text n) ≡ Some n
+byte_read n small =
+    let is = octal_numeral n in
+    let below : n < 8 ^ 3 = omega (arith, small) in
+    numeral_of 8 3 255 n (octal_text n) is.0 (length-octal_text 3 n (omega arith) below) is.1 small
+
+-- decimal digits may stand in a name, and a comma may not
+name_digit : (c : ℕ) → digit_value c < 10 → is_name_character c ≡ true
+unfolding is_name_character
+name_digit c h = let range = digit_from_value c h in grind (arith, nat_tests, range)
+
+name_digits : (ds : List ℕ) → AllDigits 10 ds → list_all is_name_character ds ≡ true
+name_digits [] h = refl
+name_digits (d ∷ ds) h = rw (name_digit d h.0) (name_digits ds h.1)
+
+comma_out : is_name_character 44 ≡ false
+unfolding is_name_character
+comma_out = refl
+
+same_id : (id : FileId) → IsId id → record { number = id.number; sequence = id.sequence; volume = 0 } ≡ id
+same_id id h = λ i. record { number = id.number; sequence = id.sequence; volume = sym h.volume i }
+
+id_read : (id : FileId) → IsId id → id_of (file_text id) ≡ Some id
+unfolding id_of
+id_read id h =
+    let below : id.number < 2 ^ 64 = omega (arith, h.number) in
+    let digits = (decimal_is_IsNumeral id.number below).0 in
+    let cut = cut_at-front 44 (file_text id) (decimal id.number) (decimal id.sequence)
+        (AllPass-from_list_all is_name_character (decimal id.number) (name_digits (decimal id.number) digits.1)) comma_out refl in
+    rw (cut, number_read 65535 id.number (omega arith) h.number, number_read 65535 id.sequence (omega arith) h.sequence) (ap Some (same_id id h))
+
+-- a name
+name_read : (words : List ℕ) → IsName words → words_spelled (name_text words) ≡ Some words
+name_read words n = words_spelled-every (name_text words) words (Spells-name_text words n)
+
+pub spelled_is_read : SpelledIsRead
+unfolding verb_of mode_of create_asks extend_asks truncate_asks delete_asks grow_asks access_asks close_asks release_asks read_asks fill_asks find_asks enter_asks remove_asks attr_asks set_attr_asks protect_asks space_asks
+spelled_is_read (create name word) h = rw (name_read name h.0, word_read word h.1) refl
+spelled_is_read (extend lun n) h = rw (number_read 3 lun (omega arith) h.0, number_read 4294967295 n (omega arith) h.1) refl
+spelled_is_read (truncate lun n) h = rw (number_read 3 lun (omega arith) h.0, number_read 4294967295 n (omega arith) h.1) refl
+spelled_is_read (delete f) h = rw (id_read f h) refl
+spelled_is_read (grow n) h = rw (number_read 4294967295 n (omega arith) h) refl
+spelled_is_read (access f mode.Read lun) h = rw (id_read f h.0, number_read 3 lun (omega arith) h.1) refl
+spelled_is_read (access f mode.Locked lun) h = rw (id_read f h.0, number_read 3 lun (omega arith) h.1) refl
+spelled_is_read (access f mode.Write lun) h = rw (id_read f h.0, number_read 3 lun (omega arith) h.1) refl
+spelled_is_read (close lun) h = rw (number_read 3 lun (omega arith) h) refl
+spelled_is_read release h = refl
+spelled_is_read (read lun vbn) h = rw (number_read 3 lun (omega arith) h.0, number_read 4294967295 vbn (omega arith) h.1) refl
+spelled_is_read (fill lun vbn byte) h = rw (number_read 3 lun (omega arith) h.0, number_read 4294967295 vbn (omega arith) h.1, byte_read byte h.2) refl
+spelled_is_read (find d name) h = rw (id_read d h.0, name_read name h.1) refl
+spelled_is_read (enter d name f) h = rw (id_read d h.0, name_read name h.1, id_read f h.2) refl
+spelled_is_read (remove d name) h = rw (id_read d h.0, name_read name h.1) refl
+spelled_is_read (attr f) h = rw (id_read f h) refl
+spelled_is_read (set_attr f rtyp ratt rsiz hibk efbk ffby) h =
+    rw (id_read f h.0, number_read 255 rtyp (omega arith) h.1, number_read 255 ratt (omega arith) h.2, number_read 65535 rsiz (omega arith) h.3,
+    number_read 4294967295 hibk (omega arith) h.4, number_read 4294967295 efbk (omega arith) h.5, number_read 65535 ffby (omega arith) h.6) refl
+spelled_is_read (protect f word) h = rw (id_read f h.0, word_read word h.1) refl
+spelled_is_read space h = refl
