@@ -7,11 +7,8 @@ use Rattle.f11_header.specs.Fields.{file_number, file_sequence, owner_group, own
 use Rattle.f11_header.specs.Header.{IsDead, IsHeader}
 use Rattle.f11_map.specs.MapArea.{link, runs_of, segment}
 use Rattle.f11_rad50.specs.Name.{IsName, name_text}
+use Rattle.f11_store.specs.Text.{octal_digits, uic_text, id_text}
 use Rattle.f11_commands.specs.declared.dump.Fields.{Fields}
-
--- a number in octal, without leading zeros; 0 is `0`
-abbrev pub octal_digits : ℕ → List ℕ
-octal_digits n = digits 8 false n
 
 -- the fields of a header that its line shows; the next header of the file is that of the link
 abbrev pub fields_of : List ℕ → Fields
@@ -28,10 +25,10 @@ fields_of b = record {
 -- the line of the fields of header n: owner, protection word and characteristics in octal, all else in decimal
 abbrev pub fields_line : ℕ → Fields → List ℕ
 fields_line n fields = concat (codes "header " ∷ decimal n
-    ∷ codes " file " ∷ decimal fields.id.number ∷ codes "," ∷ decimal fields.id.sequence
+    ∷ codes " file " ∷ id_text fields.id
     ∷ codes " segment " ∷ decimal fields.segment
-    ∷ codes " owner [" ∷ octal_digits fields.owner.group ∷ codes "," ∷ octal_digits fields.owner.member
-    ∷ codes "] prot " ∷ octal_digits fields.protection
+    ∷ codes " owner " ∷ uic_text fields.owner
+    ∷ codes " prot " ∷ octal_digits fields.protection
     ∷ codes " char " ∷ octal_digits fields.characteristics
     ∷ codes " link " ∷ decimal fields.link.number ∷ codes "," ∷ decimal fields.link.sequence
     ∷ codes " sum " ∷ decimal fields.sum

@@ -9,7 +9,7 @@ ghost use Rattle.f11_commands.specs.Dump.{IsDump, IsHeaderText, IsNamePart, fiel
 
 use crate::outcome::{Answer, Failure};
 use f11_bytes::{Block, read_word};
-use f11_header::{Header, HeaderFault, check};
+use f11_header::{Header, check};
 use f11_map::Map;
 use f11_rad50::Name;
 use f11_store::{FileId, Uic};
@@ -70,8 +70,7 @@ pub fn dump_header<W: Write>(writer: &mut W, block: &Block, n: u16) -> Result<An
 {
     match check(block, n) {
         Ok(()) => write_header(writer, block, n)?,
-        Err(HeaderFault::Dead) => writeln!(writer, "header {n} dead")?,
-        Err(HeaderFault::Bad) => writeln!(writer, "header {n} bad")?,
+        Err(fault) => writeln!(writer, "header {n} {fault}")?,
     }
     Ok(Answer::Done)
 }
@@ -104,8 +103,8 @@ fn write_fields<W: Write>(writer: &mut W, n: u16, fields: &Fields) -> io::Result
     } = *fields;
     writeln!(
         writer,
-        "header {n} file {},{} segment {segment} owner [{:o},{:o}] prot {protection:o} char {characteristics:o} link {},{} sum {sum} good",
-        id.number, id.sequence, owner.group, owner.member, link.number, link.sequence
+        "header {n} file {id} segment {segment} owner {owner} prot {protection:o} char {characteristics:o} link {},{} sum {sum} good",
+        link.number, link.sequence
     )
 }
 
@@ -130,11 +129,7 @@ fn write_name<W: Write>(writer: &mut W, block: &Block) -> io::Result<()>
 fn write_name_line<W: Write>(writer: &mut W, name: &Name) -> io::Result<()>
     ensures { OnOk result (Appends (W.contents writer.old) (W.contents writer.new) (name_line name.now)) }
 {
-    let mut text = [0; 19];
-    let length = name.spell(&mut text);
-    writer.write_all(b"name ")?;
-    writer.write_all(&text[..length])?;
-    writer.write_all(b"\n")
+    writeln!(writer, "name {name}")
 }
 
 /// The five words at the front of an ident area.

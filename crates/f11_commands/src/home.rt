@@ -35,11 +35,11 @@ pub fn print_home<D: Device, W: Write>(device: &mut D, writer: &mut W) -> Result
             write_home(&home, writer)?;
             Ok(Answer::Done)
         }
-        Err(HomeFault::NoHome) => {
-            writeln!(writer, "fault F1 no home block")?;
+        Err(HomeFault::DeviceFault) => Err(Failure::DeviceFault),
+        Err(fault @ HomeFault::NoHome) => {
+            writeln!(writer, "fault F1 {fault}")?;
             Ok(Answer::Fault)
         }
-        Err(HomeFault::DeviceFault) => Err(Failure::DeviceFault),
     }
 }
 

@@ -44,7 +44,7 @@ pub fn clear(block: &mut Block, i: usize)
     put_words(block, i, &[0; 8]);
 }
 
-// Puts eight words in the place of record `i`.
+/// Puts eight words in the place of record `i`.
 fn put_words(block: &mut Block, i: usize, words: &[u16; 8])
     requires { i < 32 }
     ensures bytes { block.new ≡ with_bytes block.old (16 * i) (flat_map word_bytes words.now) }

@@ -73,7 +73,7 @@ pub fn first_empty(block: &Block, upto: usize) -> Option<usize>
     None
 }
 
-// Record `i` of a block.
+/// Record `i` of a block.
 fn record_at(block: &Block, i: usize) -> Record
     requires { i < 32 }
     ensures { result ≡ record_of_bytes (record_in block.now i) }
@@ -94,7 +94,7 @@ fn record_at(block: &Block, i: usize) -> Record
     }
 }
 
-// The word at byte `at` of record `i` of a block.
+/// The word at byte `at` of record `i` of a block.
 fn word_of(block: &Block, i: usize, at: usize) -> u16
     requires record { i < 32 }
     requires byte { at ≤ 14 }

@@ -30,14 +30,14 @@ impl Model for Name {
     ghost inverse = { λ ws. record { words = ws } };
 }
 
-// The character of a part at a place, and a space past the end.
+/// The character of a part at a place, and a space past the end.
 fn character_at(part: &[u8], at: usize) -> u8
     ensures { result ≡ slice_index_or part.now at 32 }
 {
     part.get(at).copied().unwrap_or(b' ')
 }
 
-// The word of three characters of a part from a place on.
+/// The word of three characters of a part from a place on.
 #[tactic(auto, unfolding(crate::specs::Radix50::radix50))]
 fn word_at(part: &[u8], at: usize) -> u16
     requires { at ≤ 6 }
@@ -50,7 +50,7 @@ fn word_at(part: &[u8], at: usize) -> u16
     ])
 }
 
-// Whether the parts are those of a name.
+/// Whether the parts are those of a name.
 fn is_proper(name: &[u8], kind: &[u8], version: u16) -> bool
     ensures { IsTrue result ↔ IsProper name.now kind.now version }
 {
@@ -61,7 +61,7 @@ fn is_proper(name: &[u8], kind: &[u8], version: u16) -> bool
 }
 
 impl Name {
-    // The name with these parts.
+    /// The name with these parts.
     fn of_parts(name: &[u8], kind: &[u8], version: u16) -> Option<Name>
         ensures { SomeIff result
             (IsProper name.now kind.now version)
@@ -81,7 +81,7 @@ impl Name {
         })
     }
 
-    // The name that a text spells.
+    /// The name that a text spells.
     fn read(text: &[u8]) -> Option<Name>
         ensures spelled { IfSome result (λ name. Spells text.now name) }
         ensures every { (words : List ℕ) → Spells text.now words → result ≡ Some words }
@@ -181,7 +181,7 @@ impl fmt::Display for Name {
     }
 }
 
-// The nine characters of the name, padded with spaces.
+/// The nine characters of the name, padded with spaces.
 #[tactic(auto, unfolding(crate::specs::Name::name_of))]
 fn name_characters(words: &[u16; 5]) -> [u8; 9]
     ensures { unpadded result ≡ name_of words.now }
@@ -192,7 +192,7 @@ fn name_characters(words: &[u16; 5]) -> [u8; 9]
     [a, b, c, d, e, f, g, h, i]
 }
 
-// The three characters of the type, padded with spaces.
+/// The three characters of the type, padded with spaces.
 #[tactic(auto, unfolding(crate::specs::Name::type_of))]
 fn type_characters(words: &[u16; 5]) -> [u8; 3]
     ensures { unpadded result ≡ type_of words.now }

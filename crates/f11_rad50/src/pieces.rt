@@ -1,4 +1,4 @@
-// Pieces of a text: what stands before and after a separator, a version, and bytes put into a buffer.
+//! Pieces of a text: what stands before and after a separator, a version, and bytes put into a buffer.
 ghost use Rattle.std.specs.Prelude.{◌≡◌, ◌≢◌, ℕ, ◌+◌, ◌<◌, ◌==◌, ◌≤◌, ◌↔◌, List, ◌∷◌, ◌++◌, length, take, drop, All, IsTrue, IfSome, IsSomeAnd, SomeIff, position};
 ghost use Rattle.std.specs.List.{AllPass};
 ghost use Rattle.std.specs.Str.Parse.{digits_value};
@@ -7,14 +7,14 @@ ghost use Rattle.f11_rad50.specs.Name.{is_name_character, unpadded, octal, IsVer
 
 use f11_bytes::{octal_value, put_bytes};
 
-// The place of the first such byte.
+/// The place of the first such byte.
 fn position_of(text: &[u8], byte: u8) -> Option<usize>
     ensures { result ≡ position (λ c. c == byte) text.now }
 {
     text.iter().position(|c| *c == byte)
 }
 
-// What stands before and after the first separator.
+/// What stands before and after the first separator.
 pub(crate) fn split_at_first(text: &[u8], separator: u8) -> Option<(&[u8], &[u8])>
     ensures parts { IfSome result (λ r. text.now ≡ r.0.now ++ (separator ∷ r.1.now)) }
     ensures first { (front back : List ℕ)
@@ -26,7 +26,7 @@ pub(crate) fn split_at_first(text: &[u8], separator: u8) -> Option<(&[u8], &[u8]
     Some((&text[..at], &text[at + 1..]))
 }
 
-// What stands before the first space.
+/// What stands before the first space.
 pub(crate) fn unpadded(characters: &[u8]) -> &[u8]
     ensures { result.now ≡ unpadded characters.now }
 {
@@ -36,7 +36,7 @@ pub(crate) fn unpadded(characters: &[u8]) -> &[u8]
     }
 }
 
-// Whether a byte may stand in a name.
+/// Whether a byte may stand in a name.
 #[tactic(auto, unfolding(crate::specs::Name::is_name_character))]
 fn is_name_character(character: u8) -> bool
     ensures { result ≡ is_name_character character }
@@ -44,7 +44,7 @@ fn is_name_character(character: u8) -> bool
     matches!(character, b'A'..=b'Z' | b'0'..=b'9' | b'$')
 }
 
-// Whether there are at most so many characters, each of which may stand in a name.
+/// Whether there are at most so many characters, each of which may stand in a name.
 pub(crate) fn is_part(characters: &[u8], most: usize) -> bool
     ensures { IsTrue result
         ↔ (AllPass is_name_character characters.now × (length characters.now ≤ most)) }
@@ -52,10 +52,10 @@ pub(crate) fn is_part(characters: &[u8], most: usize) -> bool
     characters.len() <= most && characters.iter().all(|c| is_name_character(*c))
 }
 
-// The most octal digits of a version.
+/// The most octal digits of a version.
 const VERSION_DIGITS: usize = 5;
 
-// The version in one to five octal digits.
+/// The version in one to five octal digits.
 pub(crate) fn read_version(digits: &[u8]) -> Option<u16>
     ensures { SomeIff result (IsVersion digits.now) (digits_value 8 digits.now) }
 {
@@ -65,7 +65,7 @@ pub(crate) fn read_version(digits: &[u8]) -> Option<u16>
     octal_value(digits, 0o77777)
 }
 
-// Puts a piece into a buffer at a place, and gives the place after it.
+/// Puts a piece into a buffer at a place, and gives the place after it.
 pub(crate) fn put(into: &mut [u8; 19], at: usize, piece: &[u8]) -> usize
     requires { at + length piece.now ≤ 19 }
     ensures { IsPut into.old into.new piece.now at result }
@@ -74,7 +74,7 @@ pub(crate) fn put(into: &mut [u8; 19], at: usize, piece: &[u8]) -> usize
     at + piece.len()
 }
 
-// Puts a number in octal into a buffer at a place, and gives the place after it; 0 has no digits.
+/// Puts a number in octal into a buffer at a place, and gives the place after it; 0 has no digits.
 pub(crate) fn put_octal(into: &mut [u8; 19], at: usize, number: u16) -> usize
     requires { at + length (octal number) ≤ 19 }
     ensures { IsPut into.old into.new (octal number) at result }

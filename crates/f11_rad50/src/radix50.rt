@@ -3,13 +3,13 @@ ghost use Rattle.f11_rad50.specs.Radix50.{code_of, character_of, radix50, charac
 
 use crate::errors::BadCharacter;
 
-// The code that is no character's.
+/// The code that is no character's.
 const UNUSED: u16 = 29;
 
-// A byte that is no character of the set.
+/// A byte that is no character of the set.
 const NONE: u8 = 0;
 
-// The code of a character, and 29 for any other byte.
+/// The code of a character, and 29 for any other byte.
 #[tactic(auto, unfolding(crate::specs::Radix50::code_of))]
 fn code_of(character: u8) -> u16
     ensures { result ≡ code_of character }
@@ -24,7 +24,7 @@ fn code_of(character: u8) -> u16
     }
 }
 
-// The character of a code, and a zero byte for 29 and above 39.
+/// The character of a code, and a zero byte for 29 and above 39.
 #[tactic(auto, unfolding(crate::specs::Radix50::character_of))]
 fn character_of(code: u16) -> u8
     ensures { result ≡ character_of code }
@@ -39,21 +39,21 @@ fn character_of(code: u16) -> u8
     }
 }
 
-// Whether a byte is a character of the set.
+/// Whether a byte is a character of the set.
 fn is_character(character: u8) -> bool
     ensures { IsTrue result ↔ IsCharacter character }
 {
     code_of(character) != UNUSED
 }
 
-// Whether each of three bytes is a character of the set.
+/// Whether each of three bytes is a character of the set.
 fn are_characters(characters: &[u8; 3]) -> bool
     ensures { IsTrue result ↔ All IsCharacter characters.now }
 {
     characters.iter().all(|c| is_character(*c))
 }
 
-// The value of three characters, the first one highest.
+/// The value of three characters, the first one highest.
 #[tactic(auto, using(crate::proofs::Codes::bounds), unfolding(crate::specs::Radix50::radix50))]
 pub(crate) fn value_of(characters: [u8; 3]) -> u16
     ensures { result ≡ radix50 characters }
@@ -62,7 +62,7 @@ pub(crate) fn value_of(characters: [u8; 3]) -> u16
     (code_of(first) * 40 + code_of(second)) * 40 + code_of(third)
 }
 
-// The three characters of a word.
+/// The three characters of a word.
 #[tactic(auto, unfolding(crate::specs::Radix50::characters_of))]
 pub(crate) fn characters_of(word: u16) -> [u8; 3]
     ensures { result ≡ characters_of word }

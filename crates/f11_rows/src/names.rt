@@ -55,7 +55,7 @@ fn words_of_no_name(rt: HostRuntime) {
     }
 }
 
-// `spell` writes the text at the front, and leaves the rest of the buffer.
+/// `spell` writes the text at the front, and leaves the rest of the buffer.
 #[test]
 fn spelling(rt: HostRuntime) -> Result<(), Fail> {
     let mut buffer = [b'#'; 19];

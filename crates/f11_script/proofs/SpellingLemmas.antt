@@ -95,7 +95,7 @@ id_read id h =
     let below : id.number < 2 ^ 64 = omega (arith, h.number) in
     let digits = (decimal_is_IsNumeral id.number below).0 in
     let cut = cut_at-front 44 (file_text id) (decimal id.number) (decimal id.sequence)
-        (AllPass-from_list_all is_name_character (decimal id.number) (name_digits (decimal id.number) digits.1)) comma_out refl in
+    (AllPass-from_list_all is_name_character (decimal id.number) (name_digits (decimal id.number) digits.1)) comma_out refl in
     rw (cut, number_read 65535 id.number (omega arith) h.number, number_read 65535 id.sequence (omega arith) h.sequence) (ap Some (same_id id h))
 
 -- a name
@@ -121,7 +121,14 @@ spelled_is_read (enter d name f) h = rw (id_read d h.0, name_read name h.1, id_r
 spelled_is_read (remove d name) h = rw (id_read d h.0, name_read name h.1) refl
 spelled_is_read (attr f) h = rw (id_read f h) refl
 spelled_is_read (set_attr f rtyp ratt rsiz hibk efbk ffby) h =
-    rw (id_read f h.0, number_read 255 rtyp (omega arith) h.1, number_read 255 ratt (omega arith) h.2, number_read 65535 rsiz (omega arith) h.3,
-    number_read 4294967295 hibk (omega arith) h.4, number_read 4294967295 efbk (omega arith) h.5, number_read 65535 ffby (omega arith) h.6) refl
+    rw (
+      id_read f h.0,
+      number_read 255 rtyp (omega arith) h.1,
+      number_read 255 ratt (omega arith) h.2,
+      number_read 65535 rsiz (omega arith) h.3,
+      number_read 4294967295 hibk (omega arith) h.4,
+      number_read 4294967295 efbk (omega arith) h.5,
+      number_read 65535 ffby (omega arith) h.6,
+    ) refl
 spelled_is_read (protect f word) h = rw (id_read f h.0, word_read word h.1) refl
 spelled_is_read space h = refl

@@ -70,7 +70,7 @@ impl Flags for Rights {
     }
 }
 
-// Whether the caller is of the class.
+/// Whether the caller is of the class.
 fn is_of(caller: Uic, owner: Uic, class: Class) -> bool
     ensures { result ≡ specs.is_of caller owner class }
 {
@@ -82,7 +82,7 @@ fn is_of(caller: Uic, owner: Uic, class: Class) -> bool
     }
 }
 
-// Whether the protection word denies the class the right.
+/// Whether the protection word denies the class the right.
 fn denies(word: u16, class: Class, right: Right) -> bool
     ensures { result ≡ specs.denies word class right }
 {
@@ -101,7 +101,7 @@ pub fn may(caller: Uic, owner: Uic, word: u16, right: Right) -> bool
     grants(Class::System) || grants(Class::Owner) || grants(Class::Group) || grants(Class::World)
 }
 
-// The right, or none.
+/// The right, or none.
 fn right_if(granted: bool, right: Rights) -> Rights
     ensures { bits_of result ≡ (if granted then bits_of right else 0) }
 {

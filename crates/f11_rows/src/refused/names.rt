@@ -3,7 +3,7 @@ use f11_rad50::{Name, NoMemory, decode, encode};
 use std::alloc::{AllocError, Global};
 use std::test::Fail;
 
-// The characters of Radix-50, each with its code.
+/// The characters of Radix-50, each with its code.
 const CHARACTERS: &[u8; 39] = b" ABCDEFGHIJKLMNOPQRSTUVWXYZ$.0123456789";
 
 fn empty_table(alloc: Global) -> Result<Vec<Option<[u8; 3]>>, AllocError> {
@@ -13,7 +13,7 @@ fn empty_table(alloc: Global) -> Result<Vec<Option<[u8; 3]>>, AllocError> {
     }
 }
 
-// Every word is the value of the three characters that `encode` makes it of, and of no others.
+/// Every word is the value of the three characters that `encode` makes it of, and of no others.
 #[test]
 fn every_word(rt: HostRuntime) -> Result<(), Fail> {
     let mut table = empty_table(rt.alloc())?;
@@ -33,7 +33,7 @@ fn every_word(rt: HostRuntime) -> Result<(), Fail> {
     Ok(())
 }
 
-// A text and its five words.
+/// A text and its five words.
 const NAMES: [(&str, [u16; 5]); 7] = [
     ("INDEXF.SYS;1", [14964, 8966, 0, 31419, 1]),
     ("BITMAP.SYS;1", [3580, 20856, 0, 31419, 1]),
@@ -56,7 +56,7 @@ fn names(rt: HostRuntime) -> Result<(), Fail> {
     Ok(())
 }
 
-// The text of a name, asked for again where memory was refused once.
+/// The text of a name, asked for again where memory was refused once.
 fn text_of(alloc: Global, name: &Name) -> Result<String, NoMemory> {
     match name.text(alloc) {
         Ok(text) => Ok(text),
