@@ -7,3 +7,4 @@ pub mod AnswerLemmas
 pub mod OutputLemmas
 pub mod InputLemmas
 pub mod SpellingLemmas
+pub mod JoinedLemmas

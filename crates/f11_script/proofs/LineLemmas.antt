@@ -1,8 +1,9 @@
 -- What a line is, case by case.
-use Rattle.std.proofs.Common.{◌≡◌, ℕ, ◌<◌, ◌≤◌, true, false, List, length, Option, Some, None, option_map, refl, sym, ◌∙◌, ap}
-use Rattle.std.proofs.lemmas.Bool.{lt-ltb, le-ltb}
+use Rattle.std.proofs.Common.{◌≡◌, ◌⊎◌, inl, inr, ℕ, ◌<◌, ◌≤◌, true, false, List, length, Option, Some, None, option_map, refl, sym, ◌∙◌, ap}
+use Rattle.std.proofs.lemmas.Bool.{lt-ltb, le-ltb, cases_lt}
 use Rattle.f11_store.specs.Run.{Call}
 use Rattle.f11_script.specs.Reading.{words_of}
+use Rattle.f11_script.specs.Input.{CutLineIsAlike}
 use Rattle.f11_script.specs.Lines.{Line, no_request, bad_line, request_line, call_of, is_comment, line_of_call, line_of}
 
 pub too_long : (line block : List ℕ) → 1200 < length line → bad_line ≡ line_of line block
@@ -35,3 +36,11 @@ no_call line block words short plain same none =
     by_call : (c : Option Call) → option_map request_line c ≡ None → bad_line ≡ line_of_call c
     by_call None e = refl
     by_call (Some x) e = absurd (cc)
+
+-- a line that was cut short is bad either way
+pub cut_line_is_alike : CutLineIsAlike
+cut_line_is_alike given line block h = by_length (cases_lt 1200 (length line))
+  where
+    by_length : (1200 < length line) ⊎ (length line ≤ 1200) → line_of given block ≡ line_of line block
+    by_length (inl long) = sym (too_long given block (h.long long)) ∙ too_long line block long
+    by_length (inr short) = ap (λ l. line_of l block) (h.short short)

@@ -1,27 +1,31 @@
 -- What is spelled is read.
-use Rattle.std.proofs.Common.{◌≡◌, ℕ, ◌+◌, ◌<◌, ◌≤◌, ◌==◌, ◌^◌, Bool, true, false, List, [], ◌∷◌, ◌++◌, length, map, Option, Some, None, if◌then◌else◌, refl, sym, ◌∙◌, ap, subst, arith}
+use Rattle.std.proofs.Common.{◌≡◌, ℕ, ◌+◌, ◌<◌, ◌≤◌, ◌==◌, ◌^◌, Bool, true, false, List, [], ◌∷◌, ◌++◌, length, take, get_or, map, nat_le, ◌-◌, Option, Some, None, if◌then◌else◌, refl, sym, ◌∙◌, ap, arith, length-append}
 use Rattle.std.specs.Char.{digit_value, is_digit}
 use Rattle.std.specs.Fmt.{decimal}
 use Rattle.std.specs.Int.Digits.{digits_of}
-use Rattle.std.specs.List.{list_all, AllPass}
+use Rattle.std.specs.List.{list_all}
 use Rattle.std.specs.Str.Parse.{AllDigits, IsNumeral, digits_value}
 use Rattle.std.proofs.lemmas.Bool.{lt-ltb, le-leb}
 use Rattle.std.proofs.lemmas.Bool.Decides.{nat_tests}
 use Rattle.std.proofs.lemmas.Fmt.{decimal_is_IsNumeral, length-decimal-le}
 use Rattle.std.proofs.lemmas.Int.Digits.{all_below_base_digits_of, length-digits_of-le, length-digits_of_step}
-use Rattle.std.proofs.lemmas.List.{length-map}
+use Rattle.std.proofs.Math.Seq.{take-append_seam}
+use Rattle.std.proofs.lemmas.List.{length-map, get_or-append-add}
 use Rattle.std.proofs.lemmas.List.Sums.{AllPass-from_list_all}
 use Rattle.std.proofs.lemmas.Str.Parse.{digit_from_value}
 use Rattle.f11_rad50.specs.Name.{IsName, is_name_character, name_text, octal, words_spelled}
 use Rattle.f11_rad50.proofs.Spelled.{cut_at-front, words_spelled-every}
 use Rattle.f11_rad50.proofs.Texts.{Spells-name_text, digits-written, digits_value-octal}
+use Rattle.f11_store.specs.declared.callers.Uic.{Uic}
 use Rattle.f11_store.specs.declared.files.FileId.{FileId}
 use Rattle.f11_store.specs.declared.files.Mode.TheVariants as mode
-use Rattle.f11_script.specs.Reading.{argument}
-use Rattle.f11_script.specs.Fields.{numeral, value_up_to, id_of, mode_of}
+use Rattle.f11_script.specs.declared.verb.Verb.{Verb}
+use Rattle.f11_script.specs.Reading.{◌>>=◌, argument}
+use Rattle.f11_script.specs.Fields.{numeral, value_up_to, id_of, mode_of, bracketed, uic_of}
+use Rattle.f11_script.specs.Lines.{call_of}
 use Rattle.f11_script.specs.Verbs.{verb_of}
-use Rattle.f11_script.specs.Requests.{create_asks, extend_asks, truncate_asks, delete_asks, grow_asks, access_asks, close_asks, release_asks, read_asks, fill_asks, find_asks, enter_asks, remove_asks, attr_asks, set_attr_asks, protect_asks, space_asks}
-use Rattle.f11_script.specs.Spelling.{create, extend, truncate, delete, grow, access, close, release, read, fill, find, enter, remove, attr, set_attr, protect, space, octal_text, file_text, mode_text, IsId, SpelledIsRead}
+use Rattle.f11_script.specs.Requests.{create_asks, extend_asks, truncate_asks, delete_asks, grow_asks, access_asks, close_asks, release_asks, read_asks, fill_asks, write_asks, find_asks, enter_asks, remove_asks, attr_asks, set_attr_asks, protect_asks, space_asks, Ask, verb_asks}
+use Rattle.f11_script.specs.Spelling.{create, extend, truncate, delete, grow, access, close, release, read, fill, find, enter, remove, attr, write, set_attr, protect, space, octal_text, file_text, code_text, Sentence, sentence_words, sentence_asks, IsInRange, IsId, line_words, line_call}
 
 digits_pass : (radix : ℕ) (ds : List ℕ) → AllDigits radix ds → list_all (λ c. is_digit c radix) ds ≡ true
 digits_pass radix [] h = refl
@@ -42,7 +46,7 @@ number_read most n bound small =
     numeral_of 10 10 most n (decimal n) is.0 (length-decimal-le 10 n (omega arith) ten below) is.1 small
 
 -- a number in octal
-octal_numeral : (n : ℕ) → IsNumeral 8 (octal_text n) × (digits_value 8 (octal_text n) ≡ n)
+pub octal_numeral : (n : ℕ) → IsNumeral 8 (octal_text n) × (digits_value 8 (octal_text n) ≡ n)
 unfolding octal_text octal
 octal_numeral n = by_test (n == 0) refl
   where
@@ -74,13 +78,17 @@ byte_read n small =
     numeral_of 8 3 255 n (octal_text n) is.0 (length-octal_text 3 n (omega arith) below) is.1 small
 
 -- decimal digits may stand in a name, and a comma may not
-name_digit : (c : ℕ) → digit_value c < 10 → is_name_character c ≡ true
+pub name_digit : (c : ℕ) → digit_value c < 10 → is_name_character c ≡ true
 unfolding is_name_character
 name_digit c h = let range = digit_from_value c h in grind (arith, nat_tests, range)
 
 name_digits : (ds : List ℕ) → AllDigits 10 ds → list_all is_name_character ds ≡ true
 name_digits [] h = refl
 name_digits (d ∷ ds) h = rw (name_digit d h.0) (name_digits ds h.1)
+
+name_octal_digits : (ds : List ℕ) → AllDigits 8 ds → list_all is_name_character ds ≡ true
+name_octal_digits [] h = refl
+name_octal_digits (d ∷ ds) h = rw (name_digit d (omega (arith, h.0))) (name_octal_digits ds h.1)
 
 comma_out : is_name_character 44 ≡ false
 unfolding is_name_character
@@ -102,25 +110,32 @@ id_read id h =
 name_read : (words : List ℕ) → IsName words → words_spelled (name_text words) ≡ Some words
 name_read words n = words_spelled-every (name_text words) words (Spells-name_text words n)
 
-pub spelled_is_read : SpelledIsRead
-unfolding verb_of mode_of create_asks extend_asks truncate_asks delete_asks grow_asks access_asks close_asks release_asks read_asks fill_asks find_asks enter_asks remove_asks attr_asks set_attr_asks protect_asks space_asks
-spelled_is_read (create name word) h = rw (name_read name h.0, word_read word h.1) refl
-spelled_is_read (extend lun n) h = rw (number_read 3 lun (omega arith) h.0, number_read 4294967295 n (omega arith) h.1) refl
-spelled_is_read (truncate lun n) h = rw (number_read 3 lun (omega arith) h.0, number_read 4294967295 n (omega arith) h.1) refl
-spelled_is_read (delete f) h = rw (id_read f h) refl
-spelled_is_read (grow n) h = rw (number_read 4294967295 n (omega arith) h) refl
-spelled_is_read (access f mode.Read lun) h = rw (id_read f h.0, number_read 3 lun (omega arith) h.1) refl
-spelled_is_read (access f mode.Locked lun) h = rw (id_read f h.0, number_read 3 lun (omega arith) h.1) refl
-spelled_is_read (access f mode.Write lun) h = rw (id_read f h.0, number_read 3 lun (omega arith) h.1) refl
-spelled_is_read (close lun) h = rw (number_read 3 lun (omega arith) h) refl
-spelled_is_read release h = refl
-spelled_is_read (read lun vbn) h = rw (number_read 3 lun (omega arith) h.0, number_read 4294967295 vbn (omega arith) h.1) refl
-spelled_is_read (fill lun vbn byte) h = rw (number_read 3 lun (omega arith) h.0, number_read 4294967295 vbn (omega arith) h.1, byte_read byte h.2) refl
-spelled_is_read (find d name) h = rw (id_read d h.0, name_read name h.1) refl
-spelled_is_read (enter d name f) h = rw (id_read d h.0, name_read name h.1, id_read f h.2) refl
-spelled_is_read (remove d name) h = rw (id_read d h.0, name_read name h.1) refl
-spelled_is_read (attr f) h = rw (id_read f h) refl
-spelled_is_read (set_attr f rtyp ratt rsiz hibk efbk ffby) h =
+-- the request of a verb and its arguments
+abbrev words_ask : List (List ℕ) → Option Ask
+words_ask words = do
+  next ← argument verb_of words
+  verb_asks next.0 next.1
+
+sentence_read : (s : Sentence) → IsInRange s → words_ask (sentence_words s) ≡ Some (sentence_asks s)
+unfolding verb_of mode_of create_asks extend_asks truncate_asks delete_asks grow_asks access_asks close_asks release_asks read_asks fill_asks write_asks find_asks enter_asks remove_asks attr_asks set_attr_asks protect_asks space_asks
+sentence_read (create name word) h = rw (name_read name h.0, word_read word h.1) refl
+sentence_read (extend lun n) h = rw (number_read 3 lun (omega arith) h.0, number_read 4294967295 n (omega arith) h.1) refl
+sentence_read (truncate lun n) h = rw (number_read 3 lun (omega arith) h.0, number_read 4294967295 n (omega arith) h.1) refl
+sentence_read (delete f) h = rw (id_read f h) refl
+sentence_read (grow n) h = rw (number_read 4294967295 n (omega arith) h) refl
+sentence_read (access f mode.Read lun) h = rw (id_read f h.0, number_read 3 lun (omega arith) h.1) refl
+sentence_read (access f mode.Locked lun) h = rw (id_read f h.0, number_read 3 lun (omega arith) h.1) refl
+sentence_read (access f mode.Write lun) h = rw (id_read f h.0, number_read 3 lun (omega arith) h.1) refl
+sentence_read (close lun) h = rw (number_read 3 lun (omega arith) h) refl
+sentence_read release h = refl
+sentence_read (read lun vbn) h = rw (number_read 3 lun (omega arith) h.0, number_read 4294967295 vbn (omega arith) h.1) refl
+sentence_read (fill lun vbn byte) h = rw (number_read 3 lun (omega arith) h.0, number_read 4294967295 vbn (omega arith) h.1, byte_read byte h.2) refl
+sentence_read (write lun vbn hex) h = rw (number_read 3 lun (omega arith) h.0, number_read 4294967295 vbn (omega arith) h.1, h.2) refl
+sentence_read (find d name) h = rw (id_read d h.0, name_read name h.1) refl
+sentence_read (enter d name f) h = rw (id_read d h.0, name_read name h.1, id_read f h.2) refl
+sentence_read (remove d name) h = rw (id_read d h.0, name_read name h.1) refl
+sentence_read (attr f) h = rw (id_read f h) refl
+sentence_read (set_attr f rtyp ratt rsiz hibk efbk ffby) h =
     rw (
       id_read f h.0,
       number_read 255 rtyp (omega arith) h.1,
@@ -130,5 +145,51 @@ spelled_is_read (set_attr f rtyp ratt rsiz hibk efbk ffby) h =
       number_read 4294967295 efbk (omega arith) h.5,
       number_read 65535 ffby (omega arith) h.6,
     ) refl
-spelled_is_read (protect f word) h = rw (id_read f h.0, word_read word h.1) refl
-spelled_is_read space h = refl
+sentence_read (protect f word) h = rw (id_read f h.0, word_read word h.1) refl
+sentence_read space h = refl
+
+-- the last byte, and what stands before it
+at_last : (xs : List ℕ) (y n : ℕ) → n ≡ length xs → get_or (xs ++ y ∷ []) n 0 ≡ y
+at_last xs y n e =
+    ap (λ k. get_or (xs ++ y ∷ []) k 0) (let k : n ≡ length xs + 0 = omega (arith, e) in k) ∙ get_or-append-add xs (y ∷ []) 0 0
+
+before_last : (xs : List ℕ) (y n : ℕ) → n ≡ length xs → take n (xs ++ y ∷ []) ≡ xs
+before_last xs y n e = ap (λ k. take k (xs ++ y ∷ [])) e ∙ take-append_seam xs (y ∷ [])
+
+-- what stands between brackets
+bracketed-inside : (inside : List ℕ) → bracketed (91 ∷ inside ++ 93 ∷ []) ≡ Some inside
+unfolding bracketed
+bracketed-inside inside =
+    let long : length (91 ∷ inside ++ 93 ∷ []) ≡ length inside + 2 = omega (arith, length-append (91 ∷ inside) (93 ∷ [])) in
+    let two : nat_le 2 (length (91 ∷ inside ++ 93 ∷ [])) ≡ true = le-leb 2 _ (omega (arith, long)) in
+    let last : get_or (91 ∷ inside ++ 93 ∷ []) (length (91 ∷ inside ++ 93 ∷ []) - 1) 0 ≡ 93 =
+    at_last (91 ∷ inside) 93 (length (91 ∷ inside ++ 93 ∷ []) - 1) (omega (arith, long)) in
+    let rest : take (length (91 ∷ inside ++ 93 ∷ []) - 1 - 1) (inside ++ 93 ∷ []) ≡ inside =
+    before_last inside 93 (length (91 ∷ inside ++ 93 ∷ []) - 1 - 1) (omega (arith, long)) in
+    rw (two, last, rest) refl
+
+-- what is made of a request once it is read
+asked_then : {B : Type 0} (o : Option (Verb × List (List ℕ))) (ask : Ask) (g : Ask → B) → (o >>= λ v. verb_asks v.0 v.1) ≡ Some ask →
+    (o >>= λ v. (verb_asks v.0 v.1 >>= λ a. Some (g a))) ≡ Some (g ask)
+asked_then None ask g h = absurd (cc)
+asked_then (Some v) ask g h = rw h refl
+
+task_read : (n : ℕ) → n ≤ 7 → numeral 8 1 7 (octal_text n) ≡ Some n
+task_read n small =
+    let is = octal_numeral n in
+    let below : n < 8 ^ 1 = omega (arith, small) in
+    numeral_of 8 1 7 n (octal_text n) is.0 (length-octal_text 1 n (omega arith) below) is.1 small
+
+code_read : (uic : Uic) → uic.group ≤ 255 → uic.member ≤ 255 → uic_of (code_text uic) ≡ Some uic
+unfolding uic_of
+code_read uic group member =
+    let digits = (octal_numeral uic.group).0 in
+    let cut = cut_at-front 44 (octal_text uic.group ++ (44 ∷ octal_text uic.member)) (octal_text uic.group) (octal_text uic.member)
+    (AllPass-from_list_all is_name_character (octal_text uic.group) (name_octal_digits (octal_text uic.group) digits.1)) comma_out refl in
+    rw (bracketed-inside (octal_text uic.group ++ (44 ∷ octal_text uic.member)), cut, byte_read uic.group group, byte_read uic.member member) refl
+
+pub words_read : (task : ℕ) (uic : Uic) (s : Sentence) (block : List ℕ) → task ≤ 7 → uic.group ≤ 255 → uic.member ≤ 255 → IsInRange s →
+    call_of (line_words task uic s) block ≡ Some (line_call task uic s block)
+unfolding call_of
+words_read task uic s block t group member h =
+    rw (task_read task t, code_read uic group member) (asked_then (argument verb_of (sentence_words s)) (sentence_asks s) (λ a. record { task = task; caller = uic; request = a.request; block = a.block block }) (sentence_read s h))

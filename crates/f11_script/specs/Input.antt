@@ -2,6 +2,7 @@
 use Rattle.std.specs.Prelude.{◌≡◌, ◌≢◌, ℕ, ◌+◌, ◌<◌, ◌≤◌, ⊤, All, List, [], ◌∷◌, length, drop, take, Option, Some, None, Result, Ok, Err, Bool, true, false}
 use Rattle.std.specs.Io.KnownBytes.{prepend_known, Consumes, Keeps, IsAtEnd}
 use Rattle.std.specs.Str.Lines.{lines}
+use Rattle.f11_script.specs.Lines.{line_of}
 use Rattle.f11_script.specs.declared.input.ScriptReader.{ScriptReader}
 use Rattle.f11_script.specs.declared.errors.ScriptError.{ScriptError}
 use Rattle.f11_script.specs.declared.errors.ScriptError.TheVariants.{ReadFault, WriteFault, TooLong}
@@ -56,3 +57,7 @@ abbrev pub ReadsLine : Option (List ℕ) → Option (List ℕ) → ℕ → ℕ �
 ReadsLine old new count counted (Ok true) given = TakesLine old new given
 ReadsLine old new count counted (Ok false) given = IsAtEnd old × Keeps old new × (given ≡ [])
 ReadsLine old new count counted (Err e) given = TakesNoLine old new count counted × IsReadError e counted new
+
+-- a line is read alike as it is handed out
+abbrev pub CutLineIsAlike : Type 0
+CutLineIsAlike = (given line block : List ℕ) → IsLine given line → line_of given block ≡ line_of line block

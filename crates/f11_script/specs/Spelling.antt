@@ -1,19 +1,18 @@
 -- How requests are spelled as lines, apart from how lines are read (profile).
-use Rattle.std.specs.Prelude.{◌≡◌, ℕ, ◌+◌, ◌<◌, ◌≤◌, ◌==◌, List, [], ◌∷◌, ◌++◌, Option, Some, codes, if◌then◌else◌}
+use Rattle.std.specs.Prelude.{◌≡◌, ℕ, ◌≤◌, ◌==◌, true, length, List, [], ◌∷◌, ◌++◌, codes, if◌then◌else◌}
 use Rattle.std.specs.Fmt.{decimal}
+use Rattle.std.specs.List.{join_with_byte}
 use Rattle.f11_rad50.specs.Name.{IsName, name_text, octal}
+use Rattle.f11_store.specs.Run.{Call}
+use Rattle.f11_store.specs.declared.callers.Uic.{Uic}
 use Rattle.f11_store.specs.declared.files.FileId.{FileId}
 use Rattle.f11_store.specs.declared.files.Mode.{Mode}
 use Rattle.f11_store.specs.declared.files.Mode.TheVariants as mode
 use Rattle.f11_store.specs.declared.files.Change.TheVariants as change
-use Rattle.f11_store.specs.declared.requests.Request.{Request}
 use Rattle.f11_store.specs.declared.requests.Request.TheVariants as request
-use Rattle.f11_script.specs.declared.verb.Verb.{Verb}
-use Rattle.f11_script.specs.declared.verb.Verb.TheVariants as verb
-use Rattle.f11_script.specs.Reading.{◌>>=◌, argument}
-use Rattle.f11_script.specs.Fields.{filled_block}
-use Rattle.f11_script.specs.Verbs.{verb_text, verb_of}
-use Rattle.f11_script.specs.Requests.{Ask, asks, asks_with, ident_with, attr_for, attr_bytes, verb_asks}
+use Rattle.f11_script.specs.Lines.{request_line, line_of}
+use Rattle.f11_script.specs.Fields.{filled_block, hex_block, is_hex}
+use Rattle.f11_script.specs.Requests.{Ask, asks, asks_with, ident_with, attr_for, attr_bytes}
 
 -- what a line can say behind its user's code
 pub data Sentence : Type 0 where
@@ -27,6 +26,7 @@ pub data Sentence : Type 0 where
   release : Sentence
   read : ℕ → ℕ → Sentence
   fill : ℕ → ℕ → ℕ → Sentence
+  write : ℕ → ℕ → List ℕ → Sentence
   find : FileId → List ℕ → Sentence
   enter : FileId → List ℕ → FileId → Sentence
   remove : FileId → List ℕ → Sentence
@@ -60,6 +60,7 @@ sentence_words (close lun) = codes "CLOSE" ∷ decimal lun ∷ []
 sentence_words release = codes "RELEASE" ∷ []
 sentence_words (read lun vbn) = codes "READ" ∷ decimal lun ∷ decimal vbn ∷ []
 sentence_words (fill lun vbn byte) = codes "FILL" ∷ decimal lun ∷ decimal vbn ∷ octal_text byte ∷ []
+sentence_words (write lun vbn hex) = codes "WRITE" ∷ decimal lun ∷ decimal vbn ∷ hex ∷ []
 sentence_words (find d name) = codes "FIND" ∷ file_text d ∷ name_text name ∷ []
 sentence_words (enter d name f) = codes "ENTER" ∷ file_text d ∷ name_text name ∷ file_text f ∷ []
 sentence_words (remove d name) = codes "REMOVE" ∷ file_text d ∷ name_text name ∷ []
@@ -81,6 +82,7 @@ sentence_asks (close lun) = asks (request.Deaccess lun)
 sentence_asks release = asks request.Release
 sentence_asks (read lun vbn) = asks (request.ReadBlock lun vbn)
 sentence_asks (fill lun vbn byte) = asks_with (request.WriteBlock lun vbn) (filled_block byte)
+sentence_asks (write lun vbn hex) = asks_with (request.WriteBlock lun vbn) (hex_block hex)
 sentence_asks (find d name) = asks (request.Find d name)
 sentence_asks (enter d name f) = asks (request.Enter d name f)
 sentence_asks (remove d name) = asks (request.Remove d name)
@@ -107,6 +109,7 @@ IsInRange (close lun) = lun ≤ 3
 IsInRange release = Unit {0}
 IsInRange (read lun vbn) = (lun ≤ 3) × (vbn ≤ 4294967295)
 IsInRange (fill lun vbn byte) = (lun ≤ 3) × (vbn ≤ 4294967295) × (byte ≤ 255)
+IsInRange (write lun vbn hex) = (lun ≤ 3) × (vbn ≤ 4294967295) × (is_hex hex ≡ true)
 IsInRange (find d name) = IsId d × IsName name
 IsInRange (enter d name f) = IsId d × IsName name × IsId f
 IsInRange (remove d name) = IsId d × IsName name
@@ -116,12 +119,29 @@ IsInRange (set_attr f rtyp ratt rsiz hibk efbk ffby) =
 IsInRange (protect f word) = IsId f × (word ≤ 65535)
 IsInRange space = Unit {0}
 
--- the request of a verb and its arguments
-abbrev pub words_ask : List (List ℕ) → Option Ask
-words_ask words = do
-  next ← argument verb_of words
-  verb_asks next.0 next.1
+-- a user's code
+abbrev pub code_text : Uic → List ℕ
+code_text uic = 91 ∷ (octal_text uic.group ++ (44 ∷ octal_text uic.member)) ++ 93 ∷ []
 
--- a request that is spelled is read
+-- the words of a line: a task, a user's code and a sentence
+abbrev pub line_words : ℕ → Uic → Sentence → List (List ℕ)
+line_words task uic s = octal_text task ∷ code_text uic ∷ sentence_words s
+
+-- the call that they ask for, with the caller's block before it
+abbrev pub line_call : ℕ → Uic → Sentence → List ℕ → Call
+line_call task uic s block = record {
+  task = task;
+  caller = uic;
+  request = (sentence_asks s).request;
+  block = (sentence_asks s).block block;
+}
+
+-- the line: its words with single spaces between them
+abbrev pub line_text : ℕ → Uic → Sentence → List ℕ
+line_text task uic s = join_with_byte 32 (line_words task uic s)
+
+-- what is spelled is read: for each verb, the line of a request is read as that request
 abbrev pub SpelledIsRead : Type 0
-SpelledIsRead = (s : Sentence) → IsInRange s → words_ask (sentence_words s) ≡ Some (sentence_asks s)
+SpelledIsRead =
+    (task : ℕ) (uic : Uic) (s : Sentence) (block : List ℕ) → task ≤ 7 → uic.group ≤ 255 → uic.member ≤ 255 → IsInRange s →
+    length (line_text task uic s) ≤ 1200 → line_of (line_text task uic s) block ≡ request_line (line_call task uic s block)
