@@ -1,4 +1,4 @@
-use Rattle.std.proofs.Common.{◌+◌, ◌≤◌, false, Bool, IsTrue, sym, subst, arith}
+use Rattle.std.proofs.Common.{◌+◌, ◌≤◌, false, Bool, IsTrue, subst, arith}
 use Rattle.f11_dev.specs.Image.{Image}
 use Rattle.f11_bits.specs.Bitmap.{Marks}
 use Rattle.f11_bits.specs.Storage.{bitmap_of}
