@@ -69,7 +69,7 @@ impl<'a> Words<'a> {
         Some((fields::hex(word)?, rest))
     }
 
-    // `EXTEND lun n`
+    /// `EXTEND lun n`
     #[tactic(auto, unfolding(crate::specs::Requests::extend_asks))]
     fn extend(self) -> Option<Request>
         ensures { Gives asks result (extend_asks (words_left self.entry)) }
@@ -80,7 +80,7 @@ impl<'a> Words<'a> {
         words.is_empty().then_some(Request::Extend(lun, n))
     }
 
-    // `TRUNCATE lun n`
+    /// `TRUNCATE lun n`
     #[tactic(auto, unfolding(crate::specs::Requests::truncate_asks))]
     fn truncate(self) -> Option<Request>
         ensures { Gives asks result (truncate_asks (words_left self.entry)) }
@@ -91,7 +91,7 @@ impl<'a> Words<'a> {
         words.is_empty().then_some(Request::Truncate(lun, n))
     }
 
-    // `DELETE f`
+    /// `DELETE f`
     #[tactic(auto, unfolding(crate::specs::Requests::delete_asks))]
     fn delete(self) -> Option<Request>
         ensures { Gives asks result (delete_asks (words_left self.entry)) }
@@ -100,7 +100,7 @@ impl<'a> Words<'a> {
         words.is_empty().then_some(Request::Delete(file))
     }
 
-    // `GROW n`
+    /// `GROW n`
     #[tactic(auto, unfolding(crate::specs::Requests::grow_asks))]
     fn grow(self) -> Option<Request>
         ensures { Gives asks result (grow_asks (words_left self.entry)) }
@@ -109,7 +109,7 @@ impl<'a> Words<'a> {
         words.is_empty().then_some(Request::GrowIndex(n))
     }
 
-    // `ACCESS f mode lun`
+    /// `ACCESS f mode lun`
     #[tactic(auto, unfolding(crate::specs::Requests::access_asks))]
     fn access(self) -> Option<Request>
         ensures { Gives asks result (access_asks (words_left self.entry)) }
@@ -121,7 +121,7 @@ impl<'a> Words<'a> {
         words.is_empty().then_some(Request::Access(file, mode, lun))
     }
 
-    // `CLOSE lun`
+    /// `CLOSE lun`
     #[tactic(auto, unfolding(crate::specs::Requests::close_asks))]
     fn close(self) -> Option<Request>
         ensures { Gives asks result (close_asks (words_left self.entry)) }
@@ -131,7 +131,7 @@ impl<'a> Words<'a> {
         words.is_empty().then_some(Request::Deaccess(lun))
     }
 
-    // `RELEASE`
+    /// `RELEASE`
     #[tactic(auto, unfolding(crate::specs::Requests::release_asks))]
     fn release(self) -> Option<Request>
         ensures { Gives asks result (release_asks (words_left self.entry)) }
@@ -139,7 +139,7 @@ impl<'a> Words<'a> {
         self.is_empty().then_some(Request::Release)
     }
 
-    // `READ lun vbn`
+    /// `READ lun vbn`
     #[tactic(auto, unfolding(crate::specs::Requests::read_asks))]
     fn read(self) -> Option<Request>
         ensures { Gives asks result (read_asks (words_left self.entry)) }
@@ -150,7 +150,7 @@ impl<'a> Words<'a> {
         words.is_empty().then_some(Request::ReadBlock(lun, vbn))
     }
 
-    // `FIND d name`
+    /// `FIND d name`
     #[tactic(auto, unfolding(crate::specs::Requests::find_asks))]
     fn find(self) -> Option<Request>
         ensures { Gives asks result (find_asks (words_left self.entry)) }
@@ -161,7 +161,7 @@ impl<'a> Words<'a> {
         words.is_empty().then_some(Request::Find(directory, name))
     }
 
-    // `ENTER d name f`
+    /// `ENTER d name f`
     #[tactic(auto, unfolding(crate::specs::Requests::enter_asks))]
     fn enter(self) -> Option<Request>
         ensures { Gives asks result (enter_asks (words_left self.entry)) }
@@ -175,7 +175,7 @@ impl<'a> Words<'a> {
             .then_some(Request::Enter(directory, name, file))
     }
 
-    // `REMOVE d name`
+    /// `REMOVE d name`
     #[tactic(auto, unfolding(crate::specs::Requests::remove_asks))]
     fn remove(self) -> Option<Request>
         ensures { Gives asks result (remove_asks (words_left self.entry)) }
@@ -186,7 +186,7 @@ impl<'a> Words<'a> {
         words.is_empty().then_some(Request::Remove(directory, name))
     }
 
-    // `ATTR f`
+    /// `ATTR f`
     #[tactic(auto, unfolding(crate::specs::Requests::attr_asks))]
     fn attr(self) -> Option<Request>
         ensures { Gives asks result (attr_asks (words_left self.entry)) }
@@ -195,7 +195,7 @@ impl<'a> Words<'a> {
         words.is_empty().then_some(Request::ReadAttr(file))
     }
 
-    // `PROTECT f word`
+    /// `PROTECT f word`
     #[tactic(auto, unfolding(crate::specs::Requests::protect_asks))]
     fn protect(self) -> Option<Request>
         ensures { Gives asks result (protect_asks (words_left self.entry)) }
@@ -207,7 +207,7 @@ impl<'a> Words<'a> {
             .then_some(Request::WriteAttr(file, Change::Protect(word)))
     }
 
-    // `SPACE`
+    /// `SPACE`
     #[tactic(auto, unfolding(crate::specs::Requests::space_asks))]
     fn space(self) -> Option<Request>
         ensures { Gives asks result (space_asks (words_left self.entry)) }
@@ -215,7 +215,7 @@ impl<'a> Words<'a> {
         self.is_empty().then_some(Request::Space)
     }
 
-    // `CREATE name word`
+    /// `CREATE name word`
     #[tactic(auto, unfolding(crate::specs::Requests::create_asks))]
     fn create(self) -> Option<Request>
         ensures { Gives asks result (create_asks (words_left self.entry)) }
@@ -230,7 +230,7 @@ impl<'a> Words<'a> {
         })
     }
 
-    // `SETATTR f rtyp ratt rsiz hibk efbk ffby`
+    /// `SETATTR f rtyp ratt rsiz hibk efbk ffby`
     #[tactic(auto, unfolding(crate::specs::Requests::set_attr_asks))]
     fn set_attr(self) -> Option<Request>
         ensures { Gives asks result (set_attr_asks (words_left self.entry)) }
@@ -248,7 +248,7 @@ impl<'a> Words<'a> {
             .then_some(Request::WriteAttr(file, Change::Attr(attr)))
     }
 
-    // `FILL lun vbn octal`
+    /// `FILL lun vbn octal`
     #[tactic(auto, unfolding(crate::specs::Requests::fill_asks))]
     fn fill(self, block: &mut [u8; 512]) -> Option<Request>
         ensures exact { Gives (λ r. (r, block.new)) result (with_block block.old (fill_asks (words_left self.entry))) }
@@ -265,7 +265,7 @@ impl<'a> Words<'a> {
         Some(Request::WriteBlock(lun, vbn))
     }
 
-    // `WRITE lun vbn hex`
+    /// `WRITE lun vbn hex`
     #[tactic(auto, unfolding(crate::specs::Requests::write_asks))]
     fn write(self, block: &mut [u8; 512]) -> Option<Request>
         ensures exact { Gives (λ r. (r, block.new)) result (with_block block.old (write_asks (words_left self.entry))) }

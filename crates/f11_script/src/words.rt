@@ -44,7 +44,7 @@ impl<'a> Words<'a> {
     }
 }
 
-// The place of the first space.
+/// The place of the first space.
 fn first_space(text: &[u8]) -> Option<usize>
     ensures { result ≡ position (λ c. c == 32) text.now }
 {
