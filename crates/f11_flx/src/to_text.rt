@@ -1,5 +1,5 @@
 //! From records to text.
-ghost use Rattle.std.specs.Prelude.{◌≡◌, ◌↔◌, ◌+◌, ◌-◌, ◌*◌, ◌<◌, ◌≤◌, ℕ, false, List, ◌∷◌, IsTrue, length, slice_range, None, option_map, option_to_list, IsErr, IfOk, IfSome, IfNone, OnErr};
+ghost use Rattle.std.specs.Prelude.{◌≡◌, ◌↔◌, ◌+◌, ◌-◌, ◌*◌, ◌<◌, ◌≤◌, ℕ, false, List, ◌∷◌, IsTrue, length, min, slice_range, None, option_map, option_to_list, IsErr, IfOk, IfSome, IfNone, OnErr};
 ghost use Rattle.f11_flx.specs.Place.{has_place, is_ending, text_from, wanted_at, ReadsByte, RefusesByte};
 ghost use Rattle.f11_flx.specs.Puts.{PutsAt};
 ghost use Rattle.f11_flx.specs.Records.{layout_of, some_of};
@@ -40,6 +40,8 @@ impl ToText {
         ensures starts { IfOk result (λ text. (file : File) → file.attr ≡ attr.now
             → length_of file ≡ allocation
             → text_left text (concat file.blocks) ≡ converted_text file) }
+        ensures rest { IfOk result (λ text.
+            rest_of text ≡ min (stated_end attr.now) (512 * allocation)) }
         ensures bad { IsErr result ↔ (layout_of attr.now ≡ None) }
     {
         let Some(layout) = layout(attr) else {

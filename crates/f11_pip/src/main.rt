@@ -81,10 +81,8 @@ fn answer(rt: &HostRuntime, words: &[String]) -> Result<Answer, Failure> {
     } else {
         words::parse(rt.alloc(), words).and_then(|words| run(rt, words, &mut writer))
     };
-    let flushed = writer.flush();
-    let answer = outcome?;
-    flushed?;
-    Ok(answer)
+    writer.flush()?;
+    outcome
 }
 
 /// Opens the files that the words name, in their order, and does the work.
