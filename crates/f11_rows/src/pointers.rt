@@ -228,7 +228,6 @@ fn pointers_are_cut(rt: HostRuntime) {
 #[test]
 fn a_link_names_no_volume(rt: HostRuntime) {
     let mut area = empty_area();
-    (area[0], area[1]) = (3, 9);
     let mut pointers = MapMut::new(&mut area);
     assert_eq!(rt; pointers.append(22, 256), Ok(()));
     pointers.set_link(FileId {
@@ -237,12 +236,12 @@ fn a_link_names_no_volume(rt: HostRuntime) {
         volume: 7,
     });
     let map = pointers.map();
-    assert_eq!(rt; map.segment(), 3);
+    assert_eq!(rt; map.segment(), 0);
     assert_eq!(rt;
         (map.link().number, map.link().sequence, map.link().volume),
         (0x0102, 0x0304, 0)
     );
     assert_eq!(rt; map.runs(), 1);
     assert_eq!(rt; map.run(0), (22, 256));
-    assert_eq!(rt; &area[0..8], [3, 0, 2, 1, 4, 3, 1, 3].as_slice());
+    assert_eq!(rt; &area[0..8], [0, 0, 2, 1, 4, 3, 1, 3].as_slice());
 }
