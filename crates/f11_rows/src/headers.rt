@@ -49,6 +49,7 @@ pub fn extension_header() -> Block {
 }
 
 #[test]
+#[tactic(auto, using(f11_header::proofs::HeaderFacts::map_within))]
 fn fields_are_read(rt: HostRuntime) {
     let block = directory_header();
     assert_eq!(rt; read_word(&block, 510), 31411);
@@ -60,10 +61,22 @@ fn fields_are_read(rt: HostRuntime) {
         (0o160000, 0)
     );
     assert_eq!(rt; header.attributes()[12], 80);
-    assert!(rt; block[1] == 46);
+    assert_eq!(rt; header.segment(), 0);
+    assert!(rt; block[0] == 23 && block[1] == 46);
+    let ident = header.ident();
+    assert_eq!(rt; (ident.len(), ident[6], ident[7]), (46, 122, 26));
     let map = header.map();
     assert_eq!(rt; map.len(), 418);
     assert_eq!(rt; (map[8], map[9], map[12]), (2, 204, 21));
+}
+
+/// Puts bytes at their places in an area, those that it has a place for.
+fn put(area: &mut [u8], bytes: &[(usize, u8)]) {
+    for (at, byte) in bytes {
+        if let Some(place) = area.get_mut(*at) {
+            *place = *byte;
+        }
+    }
 }
 
 #[test]
@@ -71,10 +84,10 @@ fn areas_are_lent_to_be_written(rt: HostRuntime) {
     let mut block = directory_header();
     assert!(rt; block[0] == 23 && block[1] == 46 && block[92] == 0);
     let mut want = block;
-    (want[54], want[104]) = (2, 30);
+    (want[54], want[91], want[104], want[509]) = (2, 7, 30, 9);
     let mut header = HeaderMut::new(&mut block);
-    header.ident_mut()[8] = 2;
-    header.map_mut()[12] = 30;
+    put(header.ident_mut(), &[(8, 2), (45, 7)]);
+    put(header.map_mut(), &[(12, 30), (417, 9)]);
     assert_eq!(rt; block.as_slice(), want.as_slice());
 }
 
@@ -124,6 +137,7 @@ fn make(block: &mut Block, id: FileId, attr: &[u8; 32], ident: &[u8; 46])
 }
 
 #[test]
+#[tactic(auto, using(f11_header::proofs::HeaderFacts::map_within))]
 fn headers_stay_valid(rt: HostRuntime) {
     let mut block = ZEROS;
     let id = FileId {
@@ -137,7 +151,7 @@ fn headers_stay_valid(rt: HostRuntime) {
     assert_eq!(rt; check(&block, 6), Ok(()));
     let header = Header::new(&block);
     assert_eq!(rt; (header.protection(), header.id()), (0o360, file(6, 2)));
-    assert_eq!(rt; header.attributes()[31], 1);
+    assert_eq!(rt; (header.attributes()[31], header.segment()), (1, 0));
 }
 
 /// What `check` says of a header with these bytes in place of its own, once it is sealed, and of one whose check word is

@@ -227,21 +227,24 @@ fn pointers_are_cut(rt: HostRuntime) {
 
 #[test]
 fn a_link_names_no_volume(rt: HostRuntime) {
-    let mut area = empty_area();
-    let mut pointers = MapMut::new(&mut area);
-    assert_eq!(rt; pointers.append(22, 256), Ok(()));
-    pointers.set_link(FileId {
+    let mut block = header_of(&rt, &[(22, 255)]);
+    (block[92], block[93]) = (3, 9);
+    HeaderMut::new(&mut block).seal();
+    assert_eq!(rt; check(&block, 6), Ok(()));
+    let id = FileId {
         number: 0x0102,
         sequence: 0x0304,
         volume: 7,
-    });
-    let map = pointers.map();
-    assert_eq!(rt; map.segment(), 0);
+    };
+    in_hand::set_link(&mut block, id);
+    assert_eq!(rt; check(&block, 6), Ok(()));
+    assert_eq!(rt; &block[92..100], [3, 0, 2, 1, 4, 3, 1, 3].as_slice());
+    let map = Map::of(&Header::new(&block));
+    assert_eq!(rt; map.segment(), 3);
     assert_eq!(rt;
         (map.link().number, map.link().sequence, map.link().volume),
         (0x0102, 0x0304, 0)
     );
     assert_eq!(rt; map.runs(), 1);
     assert_eq!(rt; map.run(0), (22, 256));
-    assert_eq!(rt; &area[0..8], [0, 0, 2, 1, 4, 3, 1, 3].as_slice());
 }
