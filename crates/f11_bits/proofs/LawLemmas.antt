@@ -6,7 +6,7 @@ use Rattle.std.proofs.lemmas.Bool.{cases_lt}
 use Rattle.std.proofs.lemmas.List.{length-set}
 use Rattle.std.proofs.lemmas.Option.{unwrap_or-slice_get}
 use Rattle.f11_bytes.specs.Bits.{bit}
-use Rattle.f11_dev.specs.Disk.{Disk, counted, landed}
+use Rattle.f11_dev.specs.Disk.{Disk, with_transfer, with_block_at}
 use Rattle.f11_dev.specs.Image.{Image}
 use Rattle.f11_bits.specs.Bitmap.{Bitmap, IsBitmap, bitmap_bit, is_free, free_blocks, KeepsBitmap}
 use Rattle.f11_bits.specs.Storage.{bitmap_of, Keeps, IsFor}
@@ -38,7 +38,7 @@ pub Keeps-kept : (s : Storage) (old new : Image) → KeepsBitmap (bitmap_of s) o
 Keeps-kept s old new keeps before = record { free = before.free ∙ sym (free_blocks-kept (bitmap_of s) old new s.valid keeps) }
 
 pub IsFor-write : (s : Storage) (disk : Disk) (passed : Bool) (lbn : ℕ) (block : List ℕ)
-    → (IsTrue disk.honest → (i : ℕ) → i < length (bitmap_of s).places → get_or (bitmap_of s).places i 0 ≢ lbn) → IsFor s disk → IsFor s (counted passed (landed lbn block disk))
+    → (IsTrue disk.honest → (i : ℕ) → i < length (bitmap_of s).places → get_or (bitmap_of s).places i 0 ≢ lbn) → IsFor s disk → IsFor s (with_transfer passed (with_block_at lbn block disk))
 IsFor-write s disk passed lbn block apart is = record {
   within = λ i inside. omega (arith, is.within i inside, length-set disk.image lbn block);
   keeps = λ honest. Keeps-kept s disk.image _ (KeepsBitmap-write (bitmap_of s) disk.image lbn block (apart honest)) (is.keeps honest);

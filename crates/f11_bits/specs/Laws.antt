@@ -1,6 +1,6 @@
 -- Laws of the storage bitmap: what a write of other blocks leaves (profile).
 use Rattle.std.specs.Prelude.{◌≡◌, ◌≢◌, ℕ, ◌<◌, Bool, IsTrue, List, length, slice_index, slice_set}
-use Rattle.f11_dev.specs.Disk.{Disk, counted, landed}
+use Rattle.f11_dev.specs.Disk.{Disk, with_transfer, with_block_at}
 use Rattle.f11_dev.specs.Image.{Image}
 use Rattle.f11_bits.specs.Bitmap.{Bitmap, IsBitmap, is_free, free_blocks, KeepsBitmap}
 use Rattle.f11_bits.specs.Storage.{bitmap_of, Keeps, IsFor}
@@ -36,4 +36,4 @@ abbrev pub ForStays : Type 0
 ForStays =
     (s : Storage) (disk : Disk) (passed : Bool) (lbn : ℕ) (block : List ℕ) →
     (IsTrue disk.honest → (i : ℕ) → i < length (bitmap_of s).places → slice_index (bitmap_of s).places i ≢ lbn) →
-    IsFor s disk → IsFor s (counted passed (landed lbn block disk))
+    IsFor s disk → IsFor s (with_transfer passed (with_block_at lbn block disk))

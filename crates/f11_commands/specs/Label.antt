@@ -12,9 +12,9 @@ without_filler [] = []
 without_filler (b ∷ bs) = if list_all is_filler (b ∷ bs) then [] else b ∷ without_filler bs
 
 -- a byte from 32 to 126 is shown as it is, and any other as a question mark
-abbrev pub shown : ℕ → ℕ
-shown b = if nat_le 32 b && nat_le b 126 then b else 63
+abbrev pub shown_byte : ℕ → ℕ
+shown_byte b = if nat_le 32 b && nat_le b 126 then b else 63
 
 -- a label is shown byte by byte, without the filler at its end
 abbrev pub label_text : List ℕ → List ℕ
-label_text label = map shown (without_filler label)
+label_text label = map shown_byte (without_filler label)

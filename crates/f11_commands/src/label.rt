@@ -1,6 +1,6 @@
 //! The label of a volume, as it is shown.
 ghost use Rattle.std.specs.Prelude.{◌≡◌};
-ghost use Rattle.f11_commands.specs.Label.{is_filler, shown, without_filler};
+ghost use Rattle.f11_commands.specs.Label.{is_filler, shown_byte, without_filler};
 
 use std::fmt;
 
@@ -46,7 +46,7 @@ fn is_filler(byte: u8) -> bool
 
 /// The byte, or `?` where it has no printed form.
 fn printable(byte: u8) -> u8
-    ensures { result ≡ shown byte }
+    ensures { result ≡ shown_byte byte }
 {
     match byte {
         b' '..=b'~' => byte,

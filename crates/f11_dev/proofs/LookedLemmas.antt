@@ -1,6 +1,6 @@
 -- What carries `Looked` from call to call.
 use Rattle.std.proofs.Common.{◌≡◌, ℕ, ◌+◌, ◌≤◌, true, false, refl, sym, subst, ◌∙◌, arith}
-use Rattle.f11_dev.specs.Disk.{Disk, counted}
+use Rattle.f11_dev.specs.Disk.{Disk, with_transfer}
 use Rattle.f11_dev.specs.Looked.{Looked}
 
 -- no transfer
@@ -8,12 +8,12 @@ pub looked_none : (d : Disk) → Looked d d 0 0
 looked_none d = record { image = refl; history = refl; honest = refl; transfers = omega arith; failures = omega arith; quiet = λ some. absurd (omega arith) }
 
 -- a read that succeeded
-pub looked_read : (old new : Disk) → new ≡ counted true old → Looked old new 1 0
+pub looked_read : (old new : Disk) → new ≡ with_transfer true old → Looked old new 1 0
 looked_read old new is = subst (λ d. Looked old d 1 0) (sym is)
     record { image = refl; history = refl; honest = refl; transfers = omega arith; failures = omega arith; quiet = λ some. absurd (omega arith) }
 
 -- a read that failed
-pub looked_failed_read : (old new : Disk) → new ≡ counted false old → Looked old new 1 1
+pub looked_failed_read : (old new : Disk) → new ≡ with_transfer false old → Looked old new 1 1
 looked_failed_read old new is = subst (λ d. Looked old d 1 1) (sym is)
     record { image = refl; history = refl; honest = refl; transfers = omega arith; failures = omega arith; quiet = λ some. refl }
 

@@ -1,10 +1,11 @@
 -- What carries `Went` from call to call.
-use Rattle.std.proofs.Common.{◌≡◌, ◌⊎◌, ℕ, zero, suc, ◌+◌, ◌≤◌, List, [], ◌∷◌, ◌++◌, get_or, true, false, refl, sym, subst, ap, ◌∙◌, ⊎_elim, append_assoc, arith}
+use Rattle.std.proofs.Common.{◌≡◌, ◌⊎◌, ℕ, zero, suc, ◌+◌, ◌≤◌, List, [], ◌∷◌, ◌++◌, length, get_or, true, false, refl, sym, subst, ap, ◌∙◌, ⊎_elim, append_assoc, arith}
 use Rattle.std.specs.List.{All}
 use Rattle.std.proofs.Math.ListN.{set}
+use Rattle.std.proofs.lemmas.List.{length-set}
 use Rattle.std.proofs.lemmas.List.Elements.{All-append}
 use Rattle.f11_dev.specs.Image.{Image}
-use Rattle.f11_dev.specs.Disk.{Disk, counted, landed}
+use Rattle.f11_dev.specs.Disk.{Disk, with_transfer, with_block_at}
 use Rattle.f11_dev.specs.Looked.{Looked}
 use Rattle.f11_dev.specs.Went.{Went, newest}
 use Rattle.f11_dev.proofs.LookedLemmas.{looked_failed_read}
@@ -16,6 +17,7 @@ went_looked P looked = record {
   history = looked.history;
   image = looked.image;
   each = λ k d within. absurd (omega arith);
+  size = ap (λ (image : Image). length image) looked.image;
   honest = looked.honest;
   transfers = looked.transfers;
   failures = looked.failures;
@@ -28,12 +30,13 @@ All-one P image holds zero d within = holds
 All-one P image holds (suc k) d within = absurd (omega arith)
 
 -- a write that succeeded
-pub went_write : (P : Image → Type 0) (old new : Disk) (lbn : ℕ) (block : List ℕ) → new ≡ counted true (landed lbn block old) → P (set old.image lbn block) → Went P old new 1 0
+pub went_write : (P : Image → Type 0) (old new : Disk) (lbn : ℕ) (block : List ℕ) → new ≡ with_transfer true (with_block_at lbn block old) → P (set old.image lbn block) → Went P old new 1 0
 went_write P old new lbn block is holds = subst (λ d. Went P old d 1 0) (sym is) record {
   since = set old.image lbn block ∷ [];
   history = refl;
   image = refl;
   each = All-one P (set old.image lbn block) holds;
+  size = length-set old.image lbn block;
   honest = refl;
   transfers = omega arith;
   failures = omega arith;
@@ -41,15 +44,16 @@ went_write P old new lbn block is holds = subst (λ d. Went P old d 1 0) (sym is
 }
 
 -- a write that failed
-pub went_failed_write : (P : Image → Type 0) (old new : Disk) (lbn : ℕ) (block : List ℕ) → (new ≡ counted false old) ⊎ (new ≡ counted false (landed lbn block old)) → P (set old.image lbn block) → Went P old new 1 1
+pub went_failed_write : (P : Image → Type 0) (old new : Disk) (lbn : ℕ) (block : List ℕ) → (new ≡ with_transfer false old) ⊎ (new ≡ with_transfer false (with_block_at lbn block old)) → P (set old.image lbn block) → Went P old new 1 1
 went_failed_write P old new lbn block is holds = ⊎_elim (λ kept. went_looked P (looked_failed_read old new kept)) lands is
   where
-    lands : new ≡ counted false (landed lbn block old) → Went P old new 1 1
+    lands : new ≡ with_transfer false (with_block_at lbn block old) → Went P old new 1 1
     lands landed_is = subst (λ d. Went P old d 1 1) (sym landed_is) record {
       since = set old.image lbn block ∷ [];
       history = refl;
       image = refl;
       each = All-one P (set old.image lbn block) holds;
+      size = length-set old.image lbn block;
       honest = refl;
       transfers = omega arith;
       failures = omega arith;
@@ -67,6 +71,7 @@ went_more P {a = a} {c = c} first then = record {
   history = then.history ∙ ap (λ (h : List Image). then.since ++ h) first.history ∙ sym (append_assoc then.since first.since a.history);
   image = then.image ∙ ap (newest then.since) first.image ∙ sym (newest-append then.since first.since a.image);
   each = All-append P then.since first.since then.each first.each;
+  size = then.size ∙ first.size;
   honest = then.honest ∙ first.honest;
   transfers = omega (arith, first.transfers, then.transfers);
   failures = omega (arith, first.failures, then.failures);
@@ -80,6 +85,7 @@ went_within P went fewer = record {
   history = went.history;
   image = went.image;
   each = went.each;
+  size = went.size;
   honest = went.honest;
   transfers = omega (arith, went.transfers, fewer);
   failures = went.failures;
@@ -93,6 +99,7 @@ went_weaker P Q implies went = record {
   history = went.history;
   image = went.image;
   each = λ k d within. implies (get_or went.since k d) (went.each k d within);
+  size = went.size;
   honest = went.honest;
   transfers = went.transfers;
   failures = went.failures;

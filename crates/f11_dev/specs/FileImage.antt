@@ -1,7 +1,7 @@
 -- What contracts know of a `FileImage`: what was written through it.
 use Rattle.std.specs.Prelude.{◌≡◌, ◌≤◌, ℕ, Bool, false, true, List, length, Result, Ok, Err, is_ok}
 use Rattle.std.proofs.Common.{◌∙◌, sym}
-use Rattle.f11_dev.specs.Disk.{Disk, Reads, counted, fresh}
+use Rattle.f11_dev.specs.Disk.{Disk, Reads, with_transfer, fresh}
 use Rattle.f11_dev.specs.Image.{zero_image}
 use Rattle.f11_dev.specs.Outcomes.{transfers_of, failures_of, calm_of}
 use Rattle.f11_dev.specs.Written.{written_image, written_images}
@@ -25,7 +25,7 @@ file_disk f = record {
 
 -- So a read of a file is what a device's read has to be, whatever it gives.
 pub file_reads : {E : Type 0} (result : Result Unit E) (lbn : ℕ) (into : List ℕ) (old new : Disk) → old.honest ≡ is_file_honest
-    → new ≡ counted (is_ok result) old → Reads result lbn into old new
+    → new ≡ with_transfer (is_ok result) old → Reads result lbn into old new
 unfolding is_file_honest
 file_reads (Ok x) lbn into old new dishonest counts = record { counts = counts; gives = λ honest. let never : false ≡ true = sym dishonest ∙ honest in cc }
 file_reads (Err e) lbn into old new dishonest counts = record { counts = counts; gives = tt }

@@ -4,8 +4,8 @@ use Rattle.f11_dev.specs.Disk.{Disk}
 use Rattle.f11_dev.specs.declared.liar.Liar.{Liar}
 
 -- the device that it lies about
-abbrev pub lied_about : {D : Type 0} → Liar D → D
-lied_about l = l.inner
+abbrev pub behind_liar : {D : Type 0} → Liar D → D
+behind_liar l = l.inner
 
 -- the block that it lies about
 abbrev pub lies_at : {D : Type 0} → Liar D → ℕ

@@ -6,7 +6,6 @@ pub mod Outcomes
 pub mod Memory
 pub mod Written
 pub mod FileImage
-pub mod Wrapped
 pub mod Fuse
 pub mod FailOnce
 pub mod Liar

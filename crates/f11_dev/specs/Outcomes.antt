@@ -1,5 +1,6 @@
 -- What is read off the outcomes of a device's transfers.
 use Rattle.std.specs.Prelude.{ℕ, ◌+◌}
+use Rattle.f11_dev.specs.Disk.{Disk}
 use Rattle.f11_dev.specs.declared.outcomes.Outcomes.{Outcomes, None, Passed', Failed'}
 
 -- how many transfers there were
@@ -19,3 +20,11 @@ abbrev pub calm_of : Outcomes → ℕ
 calm_of None = 0
 calm_of (Passed' shape earlier) = calm_of earlier + 1
 calm_of (Failed' shape earlier) = 0
+
+-- a disk, but with these outcomes of its transfers
+abbrev pub with_outcomes : Disk → Outcomes → Disk
+with_outcomes d outcomes = record d { transfers = transfers_of outcomes; failures = failures_of outcomes; calm = calm_of outcomes }
+
+-- a disk, but with no transfer so far
+abbrev pub without_transfers : Disk → Disk
+without_transfers d = record d { transfers = 0; failures = 0; calm = 0 }

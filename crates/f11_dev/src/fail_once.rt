@@ -2,7 +2,7 @@
 ghost use Rattle.std.specs.Prelude.{◌≡◌, ◌≢◌, ◌<◌, ◌-◌, length, true, false, IsErr, OnOk, OnErr, Result};
 ghost use Rattle.f11_dev.specs.declared.device.DeviceFault.{DeviceFault as Fault};
 ghost use Rattle.f11_dev.specs.Disk.{Reads, Writes};
-ghost use Rattle.f11_dev.specs.Wrapped.{unused};
+ghost use Rattle.f11_dev.specs.Outcomes.{without_transfers};
 
 use crate::outcomes::Outcomes;
 use crate::{Block, Device, DeviceFault};
@@ -19,15 +19,15 @@ pub struct FailOnce<D> {
 }
 
 impl<D: Device> FailOnce<D> {
-    ghost use Rattle.f11_dev.specs.FailOnce.{failing, fails_at, is_landing, fail_once_disk, fail_once_outcomes};
+    ghost use Rattle.f11_dev.specs.FailOnce.{behind_fail_once, fails_at, is_landing, fail_once_disk, fail_once_outcomes};
 
     /// A device whose transfer number `transfer`, from 1, fails; where it is a write, it replaces its block if
     /// `lands` is true, and changes nothing otherwise.
     pub fn new(inner: D, transfer: u64, lands: bool) -> FailOnce<D>
-        ensures inner { failing result ≡ inner }
+        ensures inner { behind_fail_once result ≡ inner }
         ensures fails_at { fails_at result ≡ transfer }
         ensures lands { is_landing result ≡ lands }
-        ensures disk { fail_once_disk D.disk result ≡ unused (D.disk inner) }
+        ensures disk { fail_once_disk D.disk result ≡ without_transfers (D.disk inner) }
     {
         FailOnce {
             inner,
@@ -39,10 +39,10 @@ impl<D: Device> FailOnce<D> {
 
     /// The write that fails.
     fn fail_to_write(&mut self, lbn: u32, from: &Block) -> Result<(), DeviceFault>
-        requires { lbn < length (D.disk (failing self.old)).image }
+        requires { lbn < length (D.disk (behind_fail_once self.old)).image }
         ensures fails { IsErr result }
-        ensures lands { is_landing self.old ≡ true → (inner : Result Unit Fault) × Writes inner lbn from.now (D.disk (failing self.old)) (D.disk (failing self.new)) }
-        ensures stays { is_landing self.old ≡ false → failing self.new ≡ failing self.old }
+        ensures lands { is_landing self.old ≡ true → (inner : Result Unit Fault) × Writes inner lbn from.now (D.disk (behind_fail_once self.old)) (D.disk (behind_fail_once self.new)) }
+        ensures stays { is_landing self.old ≡ false → behind_fail_once self.new ≡ behind_fail_once self.old }
         ensures next { (fails_at self.new ≡ fails_at self.old) × (is_landing self.new ≡ is_landing self.old) }
         ensures outcomes { fail_once_outcomes self.new ≡ fail_once_outcomes self.old }
     {
@@ -54,7 +54,7 @@ impl<D: Device> FailOnce<D> {
 
     /// The device as it is.
     pub fn into_inner(self) -> D
-        ensures { result ≡ failing self }
+        ensures { result ≡ behind_fail_once self }
     {
         let FailOnce {
             inner,
@@ -67,7 +67,7 @@ impl<D: Device> FailOnce<D> {
 }
 
 impl<D: Device> Device for FailOnce<D> {
-    ghost use Rattle.f11_dev.specs.FailOnce.{failing, fails_at, is_landing, fail_once_disk};
+    ghost use Rattle.f11_dev.specs.FailOnce.{behind_fail_once, fails_at, is_landing, fail_once_disk};
 
     ghost disk = { fail_once_disk D.disk };
 
@@ -80,8 +80,8 @@ impl<D: Device> Device for FailOnce<D> {
     fn read(&mut self, lbn: u32, into: &mut Block) -> Result<(), DeviceFault>
         requires { lbn < length (fail_once_disk D.disk self.old).image }
         ensures reads { Reads result lbn into.new (fail_once_disk D.disk self.old) (fail_once_disk D.disk self.new) }
-        ensures passes { fails_at self.old ≢ 1 → Reads result lbn into.new (D.disk (failing self.old)) (D.disk (failing self.new)) }
-        ensures fails { fails_at self.old ≡ 1 → IsErr result × (failing self.new ≡ failing self.old) }
+        ensures passes { fails_at self.old ≢ 1 → Reads result lbn into.new (D.disk (behind_fail_once self.old)) (D.disk (behind_fail_once self.new)) }
+        ensures fails { fails_at self.old ≡ 1 → IsErr result × (behind_fail_once self.new ≡ behind_fail_once self.old) }
         ensures next { (fails_at self.new ≡ fails_at self.old - 1) × (is_landing self.new ≡ is_landing self.old) }
     {
         let done = if self.fails_at == 1 {
@@ -97,11 +97,11 @@ impl<D: Device> Device for FailOnce<D> {
     fn write(&mut self, lbn: u32, from: &Block) -> Result<(), DeviceFault>
         requires { lbn < length (fail_once_disk D.disk self.old).image }
         ensures writes { Writes result lbn from.now (fail_once_disk D.disk self.old) (fail_once_disk D.disk self.new) }
-        ensures passes { fails_at self.old ≢ 1 → Writes result lbn from.now (D.disk (failing self.old)) (D.disk (failing self.new)) }
+        ensures passes { fails_at self.old ≢ 1 → Writes result lbn from.now (D.disk (behind_fail_once self.old)) (D.disk (behind_fail_once self.new)) }
         ensures fails { fails_at self.old ≡ 1 → IsErr result }
         ensures lands { fails_at self.old ≡ 1 → is_landing self.old ≡ true
-            → (inner : Result Unit Fault) × Writes inner lbn from.now (D.disk (failing self.old)) (D.disk (failing self.new)) }
-        ensures stays { fails_at self.old ≡ 1 → is_landing self.old ≡ false → failing self.new ≡ failing self.old }
+            → (inner : Result Unit Fault) × Writes inner lbn from.now (D.disk (behind_fail_once self.old)) (D.disk (behind_fail_once self.new)) }
+        ensures stays { fails_at self.old ≡ 1 → is_landing self.old ≡ false → behind_fail_once self.new ≡ behind_fail_once self.old }
         ensures next { (fails_at self.new ≡ fails_at self.old - 1) × (is_landing self.new ≡ is_landing self.old) }
     {
         let done = if self.fails_at == 1 {

@@ -1,7 +1,7 @@
 //! A device that stops.
 ghost use Rattle.std.specs.Prelude.{◌≡◌, ◌<◌, ◌-◌, length, IsErr, OnOk, OnErr};
 ghost use Rattle.f11_dev.specs.Disk.{Reads, Writes};
-ghost use Rattle.f11_dev.specs.Wrapped.{unused};
+ghost use Rattle.f11_dev.specs.Outcomes.{without_transfers};
 
 use crate::outcomes::Outcomes;
 use crate::{Block, Device, DeviceFault};
@@ -16,13 +16,13 @@ pub struct Fuse<D> {
 }
 
 impl<D: Device> Fuse<D> {
-    ghost use Rattle.f11_dev.specs.Fuse.{fused, passes_left, fuse_disk};
+    ghost use Rattle.f11_dev.specs.Fuse.{behind_fuse, passes_left, fuse_disk};
 
     /// A device that passes `transfers` transfers on.
     pub fn new(inner: D, transfers: u64) -> Fuse<D>
-        ensures inner { fused result ≡ inner }
+        ensures inner { behind_fuse result ≡ inner }
         ensures left { passes_left result ≡ transfers }
-        ensures disk { fuse_disk D.disk result ≡ unused (D.disk inner) }
+        ensures disk { fuse_disk D.disk result ≡ without_transfers (D.disk inner) }
     {
         Fuse {
             inner,
@@ -33,7 +33,7 @@ impl<D: Device> Fuse<D> {
 
     /// The device as it is.
     pub fn into_inner(self) -> D
-        ensures { result ≡ fused self }
+        ensures { result ≡ behind_fuse self }
     {
         let Fuse {
             inner,
@@ -45,7 +45,7 @@ impl<D: Device> Fuse<D> {
 }
 
 impl<D: Device> Device for Fuse<D> {
-    ghost use Rattle.f11_dev.specs.Fuse.{fused, passes_left, fuse_disk};
+    ghost use Rattle.f11_dev.specs.Fuse.{behind_fuse, passes_left, fuse_disk};
 
     ghost disk = { fuse_disk D.disk };
 
@@ -58,8 +58,8 @@ impl<D: Device> Device for Fuse<D> {
     fn read(&mut self, lbn: u32, into: &mut Block) -> Result<(), DeviceFault>
         requires { lbn < length (fuse_disk D.disk self.old).image }
         ensures reads { Reads result lbn into.new (fuse_disk D.disk self.old) (fuse_disk D.disk self.new) }
-        ensures passes { 0 < passes_left self.old → Reads result lbn into.new (D.disk (fused self.old)) (D.disk (fused self.new)) }
-        ensures blown { passes_left self.old ≡ 0 → IsErr result × (fused self.new ≡ fused self.old) }
+        ensures passes { 0 < passes_left self.old → Reads result lbn into.new (D.disk (behind_fuse self.old)) (D.disk (behind_fuse self.new)) }
+        ensures blown { passes_left self.old ≡ 0 → IsErr result × (behind_fuse self.new ≡ behind_fuse self.old) }
         ensures left { passes_left self.new ≡ passes_left self.old - 1 }
     {
         let done = if self.left == 0 {
@@ -75,8 +75,8 @@ impl<D: Device> Device for Fuse<D> {
     fn write(&mut self, lbn: u32, from: &Block) -> Result<(), DeviceFault>
         requires { lbn < length (fuse_disk D.disk self.old).image }
         ensures writes { Writes result lbn from.now (fuse_disk D.disk self.old) (fuse_disk D.disk self.new) }
-        ensures passes { 0 < passes_left self.old → Writes result lbn from.now (D.disk (fused self.old)) (D.disk (fused self.new)) }
-        ensures blown { passes_left self.old ≡ 0 → IsErr result × (fused self.new ≡ fused self.old) }
+        ensures passes { 0 < passes_left self.old → Writes result lbn from.now (D.disk (behind_fuse self.old)) (D.disk (behind_fuse self.new)) }
+        ensures blown { passes_left self.old ≡ 0 → IsErr result × (behind_fuse self.new ≡ behind_fuse self.old) }
         ensures left { passes_left self.new ≡ passes_left self.old - 1 }
     {
         let done = if self.left == 0 {

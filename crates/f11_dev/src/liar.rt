@@ -20,11 +20,11 @@ pub struct Liar<D> {
 }
 
 impl<D: Device> Liar<D> {
-    ghost use Rattle.f11_dev.specs.Liar.{lied_about, lies_at, liar_disk};
+    ghost use Rattle.f11_dev.specs.Liar.{behind_liar, lies_at, liar_disk};
 
     /// A device that is to lie about block `lbn`.
     pub fn new(inner: D, lbn: u32) -> Liar<D>
-        ensures inner { lied_about result ≡ inner }
+        ensures inner { behind_liar result ≡ inner }
         ensures lbn { lies_at result ≡ lbn }
     {
         Liar {
@@ -41,10 +41,10 @@ impl<D: Device> Liar<D> {
 
     /// Reads a block as a device whose lies have begun, or not.
     fn read_having(&mut self, begun: bool, lbn: u32, into: &mut Block) -> Result<(), DeviceFault>
-        requires { lbn < length (D.disk (lied_about self.old)).image }
+        requires { lbn < length (D.disk (behind_liar self.old)).image }
         ensures reads { Reads result lbn into.new (liar_disk D.disk self.old) (liar_disk D.disk self.new) }
-        ensures true_before { begun ≡ false → Reads result lbn into.new (D.disk (lied_about self.old)) (D.disk (lied_about self.new)) }
-        ensures true_elsewhere { lbn ≢ lies_at self.old → Reads result lbn into.new (D.disk (lied_about self.old)) (D.disk (lied_about self.new)) }
+        ensures true_before { begun ≡ false → Reads result lbn into.new (D.disk (behind_liar self.old)) (D.disk (behind_liar self.new)) }
+        ensures true_elsewhere { lbn ≢ lies_at self.old → Reads result lbn into.new (D.disk (behind_liar self.old)) (D.disk (behind_liar self.new)) }
         ensures zeros { IsTrue begun → lbn ≡ lies_at self.old → OnOk result (into.new ≡ zero_block) }
         ensures place { lies_at self.new ≡ lies_at self.old }
     {
@@ -57,7 +57,7 @@ impl<D: Device> Liar<D> {
 
     /// The device as it is.
     pub fn into_inner(self) -> D
-        ensures { result ≡ lied_about self }
+        ensures { result ≡ behind_liar self }
     {
         let Liar {
             inner,
@@ -69,7 +69,7 @@ impl<D: Device> Liar<D> {
 }
 
 impl<D: Device> Device for Liar<D> {
-    ghost use Rattle.f11_dev.specs.Liar.{lied_about, lies_at, liar_disk};
+    ghost use Rattle.f11_dev.specs.Liar.{behind_liar, lies_at, liar_disk};
 
     ghost disk = { liar_disk D.disk };
 
@@ -82,8 +82,8 @@ impl<D: Device> Device for Liar<D> {
     fn read(&mut self, lbn: u32, into: &mut Block) -> Result<(), DeviceFault>
         requires { lbn < length (liar_disk D.disk self.old).image }
         ensures reads { Reads result lbn into.new (liar_disk D.disk self.old) (liar_disk D.disk self.new) }
-        ensures true_elsewhere { lbn ≢ lies_at self.old → Reads result lbn into.new (D.disk (lied_about self.old)) (D.disk (lied_about self.new)) }
-        ensures zeros_or_true { OnOk result ((into.new ≡ zero_block) ⊎ Reads result lbn into.new (D.disk (lied_about self.old)) (D.disk (lied_about self.new))) }
+        ensures true_elsewhere { lbn ≢ lies_at self.old → Reads result lbn into.new (D.disk (behind_liar self.old)) (D.disk (behind_liar self.new)) }
+        ensures zeros_or_true { OnOk result ((into.new ≡ zero_block) ⊎ Reads result lbn into.new (D.disk (behind_liar self.old)) (D.disk (behind_liar self.new))) }
         ensures place { lies_at self.new ≡ lies_at self.old }
     {
         let begun = self.begun.get();
@@ -93,7 +93,7 @@ impl<D: Device> Device for Liar<D> {
     fn write(&mut self, lbn: u32, from: &Block) -> Result<(), DeviceFault>
         requires { lbn < length (liar_disk D.disk self.old).image }
         ensures writes { Writes result lbn from.now (liar_disk D.disk self.old) (liar_disk D.disk self.new) }
-        ensures passes { Writes result lbn from.now (D.disk (lied_about self.old)) (D.disk (lied_about self.new)) }
+        ensures passes { Writes result lbn from.now (D.disk (behind_liar self.old)) (D.disk (behind_liar self.new)) }
         ensures place { lies_at self.new ≡ lies_at self.old }
     {
         self.inner.write(lbn, from)

@@ -1,7 +1,7 @@
 //! A device in memory.
 ghost use Rattle.std.specs.Prelude.{◌≡◌, ◌<◌, ◌^◌, ◌-◌, [], ◌∷◌, reverse, slice_set, min, true, false, IfOk, IsOk, OnOk, OnErr, length};
 ghost use Rattle.f11_dev.specs.Image.{IsImage, zero_image};
-ghost use Rattle.f11_dev.specs.Disk.{fresh, counted, Reads, Writes};
+ghost use Rattle.f11_dev.specs.Disk.{fresh, with_transfer, Reads, Writes};
 ghost use Rattle.f11_dev.specs.Outcomes.{transfers_of};
 
 use crate::outcomes::Outcomes;
@@ -53,7 +53,7 @@ impl Memory {
 
     /// Counts a transfer.
     fn count(&mut self, passed: bool)
-        ensures { memory_disk self.new ≡ counted passed (memory_disk self.old) }
+        ensures { memory_disk self.new ≡ with_transfer passed (memory_disk self.old) }
     {
         self.transfers = self.transfers.saturating_add(1);
         self.outcomes.add(passed);
@@ -106,7 +106,7 @@ impl Device for Memory {
     fn write(&mut self, lbn: u32, from: &Block) -> Result<(), DeviceFault>
         requires { lbn < length (memory_disk self.old).image }
         ensures writes { Writes result lbn from.now (memory_disk self.old) (memory_disk self.new) }
-        ensures kept { OnErr result (memory_disk self.new ≡ counted false (memory_disk self.old)) }
+        ensures kept { OnErr result (memory_disk self.new ≡ with_transfer false (memory_disk self.old)) }
     {
         let done = Memory::replace(&mut self.blocks, &mut self.replaced, lbn, from);
         self.count(done.is_ok());
