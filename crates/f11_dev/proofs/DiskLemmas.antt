@@ -1,13 +1,16 @@
 -- Facts about disks and images.
-use Rattle.std.proofs.Common.{◌≡◌, ℕ, ◌+◌, ◌^◌, ◌<◌, lit<, replicate, reverse, List, [], ◌∷◌, ◌++◌, inl, inr, subst, sym, ◌∙◌, ap, arith}
+use Rattle.std.proofs.Common.{Bool, true, false, if◌then◌else◌, refl, ◌≡◌, ℕ, ◌+◌, ◌^◌, ◌<◌, lit<, replicate, reverse, List, [], ◌∷◌, ◌++◌, inl, inr, subst, sym, ◌∙◌, ap, arith}
 use Rattle.std.proofs.Math.ListN.{set, get_or}
 use Rattle.std.proofs.lemmas.List.{set-set, set-get_or, length-replicate, get_or-replicate, get_or_past, reverse-append, replicate-append-replicate}
 use Rattle.std.proofs.lemmas.Option.{slice_get_within, get_or_from_slice_get}
 use Rattle.std.proofs.lemmas.Bool.{cases_lt}
 use Rattle.f11_bytes.specs.Block.{IsBlock, zero_block}
 use Rattle.f11_dev.specs.Image.{Image, IsImage, zero_image}
+use Rattle.f11_dev.specs.Disk.{Disk, with_block_at}
 use Rattle.f11_dev.specs.Memory.{images_back}
+use Rattle.f11_dev.specs.Written.{written_disk}
 use Rattle.f11_dev.specs.declared.memory.Replaced.{Replaced}
+use Rattle.f11_dev.specs.declared.written.Written.{Written, Nothing, Then'}
 
 pub IsBlock-zero_block : IsBlock zero_block
 unfolding zero_block
@@ -37,3 +40,13 @@ images_back-push image replaced lbn from old is =
 -- one more copy at the end
 pub replicate-push : (xs : Image) (n : ℕ) (b z : List ℕ) → xs ≡ replicate n z → b ≡ z → xs ++ b ∷ [] ≡ replicate (n + 1) z
 replicate-push xs n b z so_far is = let more = replicate-append-replicate n 1 z in cc
+
+-- writes change nothing of whether a disk is honest
+pub written_disk-honest : (d : Disk) (writes : Written) → (written_disk d writes).honest ≡ d.honest
+written_disk-honest d Nothing = refl
+written_disk-honest d (Then' shape earlier entry) = stays entry.landed.value (written_disk-honest d earlier)
+  where
+    stays : (landed : Bool) → (written_disk d earlier).honest ≡ d.honest
+        → (if landed then with_block_at entry.lbn.value entry.block.value (written_disk d earlier) else written_disk d earlier).honest ≡ d.honest
+    stays true h = h
+    stays false h = h

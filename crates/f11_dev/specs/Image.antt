@@ -12,6 +12,11 @@ pub record IsImage (image : Image) : Type 0 where
   pub size : length image < 2 ^ 32
   pub each : (lbn : ℕ) (b : List ℕ) → slice_get image lbn ≡ Some b → IsBlock b
 
+-- an image of so many blocks
+pub record IsImageOf (image : Image) (blocks : ℕ) : Type 0 where
+  pub is_image : IsImage image
+  pub size : length image ≡ blocks
+
 -- block `lbn` of an image, which has no bytes past the image's end
 abbrev pub image_block : Image → ℕ → List ℕ
 image_block image lbn = slice_index_or image lbn []

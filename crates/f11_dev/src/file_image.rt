@@ -1,6 +1,8 @@
 //! A device in a file.
 ghost use Rattle.std.specs.Prelude.{◌≡◌, ◌*◌, min, ◌≤◌, ◌<◌, ◌^◌, IfOk, Some, codes, length};
-ghost use Rattle.f11_dev.specs.Image.{IsImage};
+ghost use Rattle.f11_dev.specs.Disk.{fresh};
+ghost use Rattle.f11_dev.specs.FileDisk.{disk_of_file, is_file_honest};
+ghost use Rattle.f11_dev.specs.Image.{IsImage, IsImageOf};
 ghost use Rattle.f11_dev.specs.Written.{written_image};
 ghost use Rattle.f11_dev.specs.declared.file_image.TheConstants.{MAX_BLOCKS};
 
@@ -12,6 +14,7 @@ use std::fs::{Metadata, OpenFile, OpenOptions};
 use std::io::{Seek, SeekFrom};
 use std::os::unix::fs::{FileExt, FileTypeExt};
 use std::rt::Files;
+use std::snapshot::Snapshot;
 use std::{fmt, io};
 
 /// The most blocks of a file that are used: 16,777,216, the blocks that 24 bits can number.
@@ -40,16 +43,19 @@ impl From<io::Error> for CannotOpen {
 /// A device in a file: block `n` is the 512 bytes from byte `512 * n` on. Each transfer is one read or write
 /// of the file at that place, repeated only where the system did less, and nothing is kept in memory.
 ///
-/// To contracts it isn't honest: that the file gives back what was last written, and that nobody else writes
-/// it, is a premise.
+/// To contracts a file that was opened holds some image, and nothing says which; one that was made holds zeros. Whether it
+/// is honest is left open too: that the file gives back what was last written, and that nobody else writes it, is a
+/// premise.
 #[derive(Drop)]
 pub struct FileImage<F> {
     file: F,
     blocks: u32,
+    /// What was written to the file before it was opened.
+    earlier: Snapshot<Written>,
     written: Written,
     outcomes: Outcomes,
-    ghost is_image: { IsImage (written_image blocks written) },
-    ghost size: { length (written_image blocks written) ≡ blocks },
+    ghost is_image: { IsImage (disk_of_file blocks earlier.value written).image },
+    ghost size: { length (disk_of_file blocks earlier.value written).image ≡ blocks },
 }
 
 impl<F: FileExt + OpenFile + Seek + Drop> FileImage<F> {
@@ -93,7 +99,7 @@ impl<F: FileExt + OpenFile + Seek + Drop> FileImage<F> {
         }
         let mut file = how.open(rt, path)?;
         let blocks = blocks_of(&mut file)?;
-        Ok(FileImage::of(file, blocks))
+        Ok(FileImage::of(file, blocks, Written::earlier(blocks)))
     }
 
     /// Makes a file of so many blocks of zeros, and refuses where one is there. Where the file is made and
@@ -111,15 +117,18 @@ impl<F: FileExt + OpenFile + Seek + Drop> FileImage<F> {
             .create_new(true)
             .open(rt, path)?;
         file.set_len(byte_of(blocks))?;
-        Ok(FileImage::of(file, blocks.min(MAX_BLOCKS)))
+        let blocks = blocks.min(MAX_BLOCKS);
+        Ok(FileImage::of(file, blocks, Written::none(blocks)))
     }
 
-    fn of(file: F, blocks: u32) -> FileImage<F>
-        ensures { IsMade (file_disk result) blocks }
+    fn of(file: F, blocks: u32, earlier: Snapshot<Written>) -> FileImage<F>
+        requires { IsImageOf (written_image blocks earlier.value) blocks }
+        ensures { file_disk result ≡ fresh is_file_honest (written_image blocks earlier.value) }
     {
         FileImage {
             file,
             blocks,
+            earlier,
             written: Written::Nothing,
             outcomes: Outcomes::None,
         }
@@ -145,7 +154,7 @@ impl<F: FileExt> Device for FileImage<F> {
 
     fn write(&mut self, lbn: u32, from: &Block) -> Result<(), DeviceFault> {
         let done = self.file.write_all_at(from, byte_of(lbn));
-        self.written.add(lbn, from);
+        self.written.add(lbn, from, done.is_ok());
         self.outcomes.add(done.is_ok());
         done.map_err(|_| DeviceFault)
     }
