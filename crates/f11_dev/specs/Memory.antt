@@ -1,7 +1,7 @@
 -- What a `Memory` shows.
-use Rattle.std.specs.Prelude.{true, List, [], ◌∷◌, reverse, slice_set}
+use Rattle.std.specs.Prelude.{◌≡◌, false, true, List, [], ◌∷◌, reverse, slice_set}
 use Rattle.f11_dev.specs.Image.{Image}
-use Rattle.f11_dev.specs.Disk.{Disk}
+use Rattle.f11_dev.specs.Disk.{Disk, with_transfer}
 use Rattle.f11_dev.specs.Outcomes.{transfers_of, failures_of, calm_of}
 use Rattle.f11_dev.specs.declared.memory.Replaced.{Replaced}
 use Rattle.f11_dev.specs.declared.memory.Memory.{Memory}
@@ -21,3 +21,7 @@ memory_disk m = record {
   calm = calm_of m.outcomes;
   honest = true;
 }
+
+-- one more transfer, which failed, and nothing else changed
+abbrev pub CountsFailure : Memory → Memory → Type 0
+CountsFailure old new = memory_disk new ≡ with_transfer false (memory_disk old)

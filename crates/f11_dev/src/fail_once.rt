@@ -1,6 +1,5 @@
 //! A device of which one transfer fails.
 ghost use Rattle.std.specs.Prelude.{◌≡◌, ◌≢◌, ◌<◌, ◌-◌, length, true, false, IsErr, OnOk, OnErr, Result};
-ghost use Rattle.f11_dev.specs.declared.device.DeviceFault.{DeviceFault as Fault};
 ghost use Rattle.f11_dev.specs.Disk.{Reads, Writes};
 ghost use Rattle.f11_dev.specs.Outcomes.{without_transfers};
 
@@ -19,7 +18,7 @@ pub struct FailOnce<D> {
 }
 
 impl<D: Device> FailOnce<D> {
-    ghost use Rattle.f11_dev.specs.FailOnce.{behind_fail_once, fails_at, is_landing, fail_once_disk, fail_once_outcomes};
+    ghost use Rattle.f11_dev.specs.FailOnce.{behind_fail_once, fails_at, is_landing, fail_once_disk, fail_once_outcomes, FailsToWrite};
 
     /// A device whose transfer number `transfer`, from 1, fails; where it is a write, it replaces its block if
     /// `lands` is true, and changes nothing otherwise.
@@ -41,9 +40,9 @@ impl<D: Device> FailOnce<D> {
     fn fail_to_write(&mut self, lbn: u32, from: &Block) -> Result<(), DeviceFault>
         requires { lbn < length (D.disk (behind_fail_once self.old)).image }
         ensures fails { IsErr result }
-        ensures lands { is_landing self.old ≡ true → (inner : Result Unit Fault) × Writes inner lbn from.now (D.disk (behind_fail_once self.old)) (D.disk (behind_fail_once self.new)) }
-        ensures stays { is_landing self.old ≡ false → behind_fail_once self.new ≡ behind_fail_once self.old }
-        ensures next { (fails_at self.new ≡ fails_at self.old) × (is_landing self.new ≡ is_landing self.old) }
+        ensures writes { FailsToWrite D.disk lbn from.now self.old self.new }
+        ensures next { fails_at self.new ≡ fails_at self.old }
+        ensures landing { is_landing self.new ≡ is_landing self.old }
         ensures outcomes { fail_once_outcomes self.new ≡ fail_once_outcomes self.old }
     {
         if self.lands {
@@ -67,7 +66,7 @@ impl<D: Device> FailOnce<D> {
 }
 
 impl<D: Device> Device for FailOnce<D> {
-    ghost use Rattle.f11_dev.specs.FailOnce.{behind_fail_once, fails_at, is_landing, fail_once_disk};
+    ghost use Rattle.f11_dev.specs.FailOnce.{fails_at, fail_once_disk, FailsToRead, FailsToWrite, MeetsFailOnce};
 
     ghost disk = { fail_once_disk D.disk };
 
@@ -79,10 +78,8 @@ impl<D: Device> Device for FailOnce<D> {
 
     fn read(&mut self, lbn: u32, into: &mut Block) -> Result<(), DeviceFault>
         requires { lbn < length (fail_once_disk D.disk self.old).image }
-        ensures reads { Reads result lbn into.new (fail_once_disk D.disk self.old) (fail_once_disk D.disk self.new) }
-        ensures passes { fails_at self.old ≢ 1 → Reads result lbn into.new (D.disk (behind_fail_once self.old)) (D.disk (behind_fail_once self.new)) }
-        ensures fails { fails_at self.old ≡ 1 → IsErr result × (behind_fail_once self.new ≡ behind_fail_once self.old) }
-        ensures next { (fails_at self.new ≡ fails_at self.old - 1) × (is_landing self.new ≡ is_landing self.old) }
+        ensures read { MeetsFailOnce D.disk result (Reads result lbn into.new) self.old self.new }
+        ensures fails { fails_at self.old ≡ 1 → FailsToRead self.old self.new }
     {
         let done = if self.fails_at == 1 {
             Err(DeviceFault)
@@ -96,13 +93,8 @@ impl<D: Device> Device for FailOnce<D> {
 
     fn write(&mut self, lbn: u32, from: &Block) -> Result<(), DeviceFault>
         requires { lbn < length (fail_once_disk D.disk self.old).image }
-        ensures writes { Writes result lbn from.now (fail_once_disk D.disk self.old) (fail_once_disk D.disk self.new) }
-        ensures passes { fails_at self.old ≢ 1 → Writes result lbn from.now (D.disk (behind_fail_once self.old)) (D.disk (behind_fail_once self.new)) }
-        ensures fails { fails_at self.old ≡ 1 → IsErr result }
-        ensures lands { fails_at self.old ≡ 1 → is_landing self.old ≡ true
-            → (inner : Result Unit Fault) × Writes inner lbn from.now (D.disk (behind_fail_once self.old)) (D.disk (behind_fail_once self.new)) }
-        ensures stays { fails_at self.old ≡ 1 → is_landing self.old ≡ false → behind_fail_once self.new ≡ behind_fail_once self.old }
-        ensures next { (fails_at self.new ≡ fails_at self.old - 1) × (is_landing self.new ≡ is_landing self.old) }
+        ensures write { MeetsFailOnce D.disk result (Writes result lbn from.now) self.old self.new }
+        ensures fails { fails_at self.old ≡ 1 → FailsToWrite D.disk lbn from.now self.old self.new }
     {
         let done = if self.fails_at == 1 {
             self.fail_to_write(lbn, from)

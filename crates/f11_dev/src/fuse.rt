@@ -45,7 +45,7 @@ impl<D: Device> Fuse<D> {
 }
 
 impl<D: Device> Device for Fuse<D> {
-    ghost use Rattle.f11_dev.specs.Fuse.{behind_fuse, passes_left, fuse_disk};
+    ghost use Rattle.f11_dev.specs.Fuse.{fuse_disk, MeetsFuse};
 
     ghost disk = { fuse_disk D.disk };
 
@@ -57,10 +57,7 @@ impl<D: Device> Device for Fuse<D> {
 
     fn read(&mut self, lbn: u32, into: &mut Block) -> Result<(), DeviceFault>
         requires { lbn < length (fuse_disk D.disk self.old).image }
-        ensures reads { Reads result lbn into.new (fuse_disk D.disk self.old) (fuse_disk D.disk self.new) }
-        ensures passes { 0 < passes_left self.old → Reads result lbn into.new (D.disk (behind_fuse self.old)) (D.disk (behind_fuse self.new)) }
-        ensures blown { passes_left self.old ≡ 0 → IsErr result × (behind_fuse self.new ≡ behind_fuse self.old) }
-        ensures left { passes_left self.new ≡ passes_left self.old - 1 }
+        ensures read { MeetsFuse D.disk result (Reads result lbn into.new) self.old self.new }
     {
         let done = if self.left == 0 {
             Err(DeviceFault)
@@ -74,10 +71,7 @@ impl<D: Device> Device for Fuse<D> {
 
     fn write(&mut self, lbn: u32, from: &Block) -> Result<(), DeviceFault>
         requires { lbn < length (fuse_disk D.disk self.old).image }
-        ensures writes { Writes result lbn from.now (fuse_disk D.disk self.old) (fuse_disk D.disk self.new) }
-        ensures passes { 0 < passes_left self.old → Writes result lbn from.now (D.disk (behind_fuse self.old)) (D.disk (behind_fuse self.new)) }
-        ensures blown { passes_left self.old ≡ 0 → IsErr result × (behind_fuse self.new ≡ behind_fuse self.old) }
-        ensures left { passes_left self.new ≡ passes_left self.old - 1 }
+        ensures write { MeetsFuse D.disk result (Writes result lbn from.now) self.old self.new }
     {
         let done = if self.left == 0 {
             Err(DeviceFault)

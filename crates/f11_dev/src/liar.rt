@@ -20,7 +20,7 @@ pub struct Liar<D> {
 }
 
 impl<D: Device> Liar<D> {
-    ghost use Rattle.f11_dev.specs.Liar.{behind_liar, lies_at, liar_disk};
+    ghost use Rattle.f11_dev.specs.Liar.{behind_liar, lies_at, ReadsAsLiar, ReadsTruth};
 
     /// A device that is to lie about block `lbn`.
     pub fn new(inner: D, lbn: u32) -> Liar<D>
@@ -42,11 +42,9 @@ impl<D: Device> Liar<D> {
     /// Reads a block as a device whose lies have begun, or not.
     fn read_having(&mut self, begun: bool, lbn: u32, into: &mut Block) -> Result<(), DeviceFault>
         requires { lbn < length (D.disk (behind_liar self.old)).image }
-        ensures reads { Reads result lbn into.new (liar_disk D.disk self.old) (liar_disk D.disk self.new) }
-        ensures true_before { begun ≡ false → Reads result lbn into.new (D.disk (behind_liar self.old)) (D.disk (behind_liar self.new)) }
-        ensures true_elsewhere { lbn ≢ lies_at self.old → Reads result lbn into.new (D.disk (behind_liar self.old)) (D.disk (behind_liar self.new)) }
-        ensures zeros { IsTrue begun → lbn ≡ lies_at self.old → OnOk result (into.new ≡ zero_block) }
-        ensures place { lies_at self.new ≡ lies_at self.old }
+        ensures reads { ReadsAsLiar D.disk result lbn into.new self.old self.new }
+        ensures truth { begun ≡ false → ReadsTruth D.disk result lbn into.new self.old self.new }
+        ensures lies { IsTrue begun → lbn ≡ lies_at self.old → OnOk result (into.new ≡ zero_block) }
     {
         self.inner.read(lbn, into)?;
         if begun && lbn == self.lbn {
@@ -69,7 +67,7 @@ impl<D: Device> Liar<D> {
 }
 
 impl<D: Device> Device for Liar<D> {
-    ghost use Rattle.f11_dev.specs.Liar.{behind_liar, lies_at, liar_disk};
+    ghost use Rattle.f11_dev.specs.Liar.{liar_disk, ReadsAsLiar, WritesAsLiar};
 
     ghost disk = { liar_disk D.disk };
 
@@ -81,10 +79,7 @@ impl<D: Device> Device for Liar<D> {
 
     fn read(&mut self, lbn: u32, into: &mut Block) -> Result<(), DeviceFault>
         requires { lbn < length (liar_disk D.disk self.old).image }
-        ensures reads { Reads result lbn into.new (liar_disk D.disk self.old) (liar_disk D.disk self.new) }
-        ensures true_elsewhere { lbn ≢ lies_at self.old → Reads result lbn into.new (D.disk (behind_liar self.old)) (D.disk (behind_liar self.new)) }
-        ensures zeros_or_true { OnOk result ((into.new ≡ zero_block) ⊎ Reads result lbn into.new (D.disk (behind_liar self.old)) (D.disk (behind_liar self.new))) }
-        ensures place { lies_at self.new ≡ lies_at self.old }
+        ensures read { ReadsAsLiar D.disk result lbn into.new self.old self.new }
     {
         let begun = self.begun.get();
         self.read_having(begun, lbn, into)
@@ -92,9 +87,7 @@ impl<D: Device> Device for Liar<D> {
 
     fn write(&mut self, lbn: u32, from: &Block) -> Result<(), DeviceFault>
         requires { lbn < length (liar_disk D.disk self.old).image }
-        ensures writes { Writes result lbn from.now (liar_disk D.disk self.old) (liar_disk D.disk self.new) }
-        ensures passes { Writes result lbn from.now (D.disk (behind_liar self.old)) (D.disk (behind_liar self.new)) }
-        ensures place { lies_at self.new ≡ lies_at self.old }
+        ensures write { WritesAsLiar D.disk result lbn from.now self.old self.new }
     {
         self.inner.write(lbn, from)
     }

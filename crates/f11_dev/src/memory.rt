@@ -70,7 +70,8 @@ impl Memory {
         ensures blocks { OnOk result (blocks.new.items ≡ slice_set blocks.old.items lbn from.now) }
         ensures images { OnOk result (images_back blocks.new.items (reverse replaced.new.items)
             ≡ blocks.new.items ∷ images_back blocks.old.items (reverse replaced.old.items)) }
-        ensures err { OnErr result ((blocks.new.items ≡ blocks.old.items) × (replaced.new.items ≡ replaced.old.items)) }
+        ensures blocks_stay { OnErr result (blocks.new.items ≡ blocks.old.items) }
+        ensures record_stays { OnErr result (replaced.new.items ≡ replaced.old.items) }
     {
         let at = lbn as usize;
         replaced.push(Replaced {
@@ -83,7 +84,7 @@ impl Memory {
 }
 
 impl Device for Memory {
-    ghost use Rattle.f11_dev.specs.Memory.{memory_disk};
+    ghost use Rattle.f11_dev.specs.Memory.{CountsFailure, memory_disk};
 
     ghost disk = { memory_disk };
 
@@ -106,7 +107,7 @@ impl Device for Memory {
     fn write(&mut self, lbn: u32, from: &Block) -> Result<(), DeviceFault>
         requires { lbn < length (memory_disk self.old).image }
         ensures writes { Writes result lbn from.now (memory_disk self.old) (memory_disk self.new) }
-        ensures kept { OnErr result (memory_disk self.new ≡ with_transfer false (memory_disk self.old)) }
+        ensures kept { OnErr result (CountsFailure self.old self.new) }
     {
         let done = Memory::replace(&mut self.blocks, &mut self.replaced, lbn, from);
         self.count(done.is_ok());

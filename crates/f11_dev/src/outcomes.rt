@@ -17,7 +17,7 @@ impl Outcomes {
     /// Adds the outcome of a transfer.
     pub fn add(&mut self, passed: bool)
         ensures transfers { transfers_of self.new ≡ transfers_of self.old + 1 }
-        ensures failures { failures_of self.new ≡ (if passed then failures_of self.old else failures_of self.old + 1) }
+        ensures failures { failures_of self.new ≡ failures_of self.old + (if passed then 0 else 1) }
         ensures calm { calm_of self.new ≡ (if passed then calm_of self.old + 1 else 0) }
     {
         let earlier = Snapshot::of(self);
