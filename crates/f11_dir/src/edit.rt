@@ -4,7 +4,7 @@ ghost use Rattle.std.specs.List.{flat_map};
 ghost use Rattle.f11_bytes.specs.Words.{word_bytes};
 ghost use Rattle.f11_bytes.specs.Part.{with_bytes};
 ghost use Rattle.f11_store.specs.Directory.{record_in, record_bytes, empty_record};
-ghost use Rattle.f11_dir.specs.Records.{record_of_bytes};
+ghost use Rattle.f11_dir.specs.Records.{record_under, record_of_bytes};
 
 use crate::RECORD_SIZE;
 use f11_bytes::{Block, write_word};
@@ -17,7 +17,7 @@ pub fn put(block: &mut Block, i: usize, id: FileId, name: &Name)
     requires { i < 32 }
     ensures bytes { block.new ≡ with_bytes block.old (16 * i) (record_bytes id name.now) }
     ensures record { record_in block.new i ≡ record_bytes id name.now }
-    ensures reads_back { record_of_bytes (record_in block.new i) ≡ record { id = id; words = name.now } }
+    ensures reads_back { record_of_bytes (record_in block.new i) ≡ record_under id name.now }
     ensures others { (j : ℕ) → j ≢ i → record_in block.new j ≡ record_in block.old j }
 {
     let [first, second, third, kind, version] = name.words();

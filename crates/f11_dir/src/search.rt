@@ -1,8 +1,8 @@
 //! Records that are read, and looked for, in a block.
 ghost use Rattle.std.specs.Prelude.{◌≡◌, ◌*◌, ◌<◌, ◌≤◌, map, option_map, position, IfSome};
 ghost use Rattle.f11_bytes.specs.Words.{word};
-ghost use Rattle.f11_store.specs.Directory.{record_in, record_id, is_empty, has_name};
-ghost use Rattle.f11_dir.specs.Records.{records_in, record_of_bytes};
+ghost use Rattle.f11_store.specs.Directory.{record_in, record_id, is_empty};
+ghost use Rattle.f11_dir.specs.Records.{place_of_name, records_in, record_of_bytes};
 
 use crate::record::Record;
 use crate::{RECORD_SIZE, RECORDS};
@@ -43,7 +43,7 @@ pub fn records(block: &Block) -> [Record; RECORDS]
 /// no name.
 pub fn find(block: &Block, upto: usize, name: &Name) -> Option<Found>
     requires { upto ≤ 32 }
-    ensures first { option_map (λ found. found.place) result ≡ position (has_name name.now) (records_in block.now upto) }
+    ensures first { option_map (λ f. f.place) result ≡ place_of_name name.now block.now upto }
     ensures id { IfSome result (λ found. found.id ≡ record_id (record_in block.now found.place)) }
     ensures below { IfSome result (λ found. found.place < upto) }
 {

@@ -1,5 +1,5 @@
 -- What a header says once a field of it or an area is written.
-use Rattle.std.proofs.Common.{◌≡◌, ◌≢◌, ◌⊎◌, inl, inr, ⊎_elim, ℕ, ◌+◌, ◌*◌, ◌/◌, ◌%◌, ◌<◌, ◌≤◌, List, Option, Some, None, length, refl, sym, ap, ◌∙◌, subst, arith}
+use Rattle.std.proofs.Common.{◌≡◌, ◌≢◌, ◌⊎◌, inl, inr, ⊎_elim, ℕ, ◌+◌, ◌-◌, ◌*◌, ◌/◌, ◌%◌, ◌<◌, ◌≤◌, List, Option, Some, None, length, refl, sym, ap, ◌∙◌, subst, arith}
 use Rattle.std.specs.Prelude.{slice_index, slice_range, IsTrue, option_map}
 use Rattle.std.specs.Cmp.{both_ways}
 use Rattle.std.proofs.Math.ListN.{set}
@@ -262,6 +262,15 @@ keeps-with_ident b put within first size held =
     } in
     let keeps : KeepsHeader b new = record { holds = kept.0 ∙ sym held; number = kept.1 } in
     (keeps, header_in-written b new (λ h. record h { ident = put }) keeps.holds (λ holds. fields))
+
+-- the map area of a header is one
+pub IsMapArea-map_area : (b : List ℕ) → length (map_area b) ≡ 510 - 2 * map_offset b → IsTrue (holds_header b) → IsMapArea (map_area b)
+IsMapArea-map_area b size holds =
+    let facts : HeaderFacts b = header_facts b holds in
+    record { in_block = omega (arith, size); fields = omega (arith, size, facts.map_within); pointers = facts.pointers }
+
+pub IsMapArea-in_header : (b : List ℕ) → length b ≡ 512 → IsTrue (holds_header b) → IsMapArea (map_area b)
+IsMapArea-in_header b long holds = IsMapArea-map_area b (length-map_area b long) holds
 
 -- the law of the map area
 pub keeps-with_map : (b put : List ℕ) → length b ≡ 512 → IsTrue (holds_header b) → length put ≡ length (map_area b) → segment put ≡ segment (map_area b) → IsMapArea put

@@ -16,6 +16,10 @@ abbrev pub FieldsKeepHeader : Type 0
 FieldsKeepHeader = (old new : List ℕ) → ChangesFields old new → IsTrue (holds_header old)
     → IsTrue (holds_header new) × (file_number new ≡ file_number old) × (file_sequence new ≡ file_sequence old) × (map_area new ≡ map_area old)
 
+-- a block that holds a header holds a map area
+abbrev pub HeaderHasMapArea : Type 0
+HeaderHasMapArea = (b : List ℕ) → length b ≡ 512 → IsTrue (holds_header b) → IsMapArea (map_area b)
+
 -- another valid map area of the same size and segment leaves all else as it was
 abbrev pub MapAreaKeepsHeader : Type 0
 MapAreaKeepsHeader = (b map : List ℕ) → length b ≡ 512 → IsTrue (holds_header b) → length map ≡ length (map_area b)

@@ -7,4 +7,5 @@ pub fn writing()
     ensures seal { laws.CheckWordMakesValid }
     ensures fields { laws.FieldsKeepHeader }
     ensures map_area { laws.MapAreaKeepsHeader }
+    ensures has_map_area { laws.HeaderHasMapArea }
 {}

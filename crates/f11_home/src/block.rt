@@ -3,7 +3,9 @@ ghost use Rattle.std.specs.Prelude.{◌≡◌, ◌⊎◌, ◌+◌, ◌<◌, ◌�
 ghost use Rattle.f11_bytes.specs.Words.{word};
 ghost use Rattle.f11_home.specs.HomeBlock.{HasHomeSums, IsHomeBlock, index_blocks, index_lbn, with_sums};
 
-use crate::fields::{CLUSTER, FIRST_SUM, FORMAT, INDEX_BLOCKS, INDEX_LBN, LEVEL, SECOND_SUM};
+use crate::fields::{
+    CLUSTER, FIRST_SUM, FORMAT, FORMAT_NAME, INDEX_BLOCKS, INDEX_LBN, LEVEL, SECOND_SUM,
+};
 use f11_bytes::{Block, read_long, read_word, sum_words, write_word};
 
 /// Whether the block is a valid home block of a device of so many blocks.
@@ -32,7 +34,7 @@ fn has_format(block: &Block) -> bool
 {
     read_word(block, CLUSTER) == 1
         && matches!(read_word(block, LEVEL), 0o401 | 0o402)
-        && &block[FORMAT..FORMAT + 12] == b"DECFILE11A  ".as_slice()
+        && &block[FORMAT..FORMAT + 12] == FORMAT_NAME.as_slice()
 }
 
 /// Whether both check words are right.

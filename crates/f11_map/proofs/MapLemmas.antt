@@ -1,13 +1,11 @@
 -- Facts about retrieval pointers and the blocks that they name.
-use Rattle.std.proofs.Common.{◌≡◌, ℕ, zero, suc, ◌+◌, ◌-◌, ◌*◌, ◌/◌, ◌<◌, ◌≤◌, List, [], ◌∷◌, ◌++◌, length, get_or, take, drop, IsTrue, Some, refl, sym, ap, ◌∙◌, arith, add-one, drop-cons, append_assoc}
+use Rattle.std.proofs.Common.{◌≡◌, ℕ, zero, suc, ◌+◌, ◌-◌, ◌*◌, ◌/◌, ◌<◌, ◌≤◌, List, [], ◌∷◌, ◌++◌, length, get_or, take, drop, Some, refl, sym, ap, ◌∙◌, arith, add-one, drop-cons, append_assoc}
 use Rattle.std.specs.List.{slice_get, range_with_len}
 use Rattle.std.proofs.lemmas.List.{length-append, take_more}
 use Rattle.std.proofs.lemmas.List.FromFn.{length-map-range_with_len, get_or-map-range_with_len, length-range_with_len, get_or-range_with_len}
 use Rattle.std.proofs.lemmas.Option.{slice_get-get_or, get_or_from_slice_get, slice_get_within}
-use Rattle.f11_header.specs.Fields.{map_offset, map_area}
 use Rattle.f11_header.specs.MapFields.{words_in_use, places, IsMapArea}
-use Rattle.f11_header.specs.Header.{holds_header}
-use Rattle.f11_header.proofs.HeaderFacts.{PointerFacts, pointer_facts, HeaderFacts, header_facts}
+use Rattle.f11_header.proofs.HeaderFacts.{PointerFacts, pointer_facts}
 use Rattle.f11_map.specs.MapArea.{run_at, runs_of, blocks_in}
 
 -- two words a pointer
@@ -67,9 +65,3 @@ block_here rs i left run at within =
     let some : left < length (range_with_len run.0 run.1) = omega (arith, length-range_with_len run.0 run.1) in
     ap (λ (bs : List ℕ). slice_get bs left) (blocks_in-drop rs i run at) ∙ slice_get-append_front (range_with_len run.0 run.1) (blocks_in (drop (i + 1) rs)) left some
     ∙ slice_get-get_or (range_with_len run.0 run.1) left 0 some ∙ ap Some (get_or-range_with_len run.0 run.1 left 0 within)
-
--- the map area of a header is one
-pub IsMapArea-map_area : (b : List ℕ) → length (map_area b) ≡ 510 - 2 * map_offset b → IsTrue (holds_header b) → IsMapArea (map_area b)
-IsMapArea-map_area b size holds =
-    let facts : HeaderFacts b = header_facts b holds in
-    record { in_block = omega (arith, size); fields = omega (arith, size, facts.map_within); pointers = facts.pointers }

@@ -1,5 +1,5 @@
 -- What a caller may do to a file (Files-11 On-Disk Structure Level 1, file protection).
-use Rattle.std.specs.Prelude.{ℕ, ◌+◌, ◌==◌, ◌&&◌, Bool, true, not, nat_le, List, [], ◌∷◌}
+use Rattle.std.specs.Prelude.{ℕ, ◌+◌, ◌==◌, ◌&&◌, Bool, true, not, nat_le, List, [], ◌∷◌, codes}
 use Rattle.std.specs.List.{list_any}
 use Rattle.std.specs.Int.{bit_at}
 use Rattle.f11_store.specs.declared.callers.Uic.{Uic}
@@ -50,3 +50,7 @@ bits_of rights = rights.0
 -- the right is in the set
 abbrev pub has_right : Rights → Right → Bool
 has_right rights r = bit_at (bits_of rights) (right_bit r) == 1
+
+-- the names of the rights in a set, and the bit of each
+abbrev pub right_names : List (List ℕ × ℕ)
+right_names = (codes "READ", 1) ∷ (codes "WRITE", 2) ∷ (codes "EXTEND", 4) ∷ (codes "DELETE", 8) ∷ []

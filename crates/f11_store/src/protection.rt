@@ -1,10 +1,10 @@
 //! What a caller may do to a file
 //! (Files-11 On-Disk Structure Level 1, file protection).
 
-ghost use Rattle.std.specs.Prelude.{⊤, ◌≡◌, ℕ, ◌<◌, [], ◌∷◌, ◌&&◌, not, codes, if◌then◌else◌};
+ghost use Rattle.std.specs.Prelude.{⊤, ◌≡◌, ℕ, ◌<◌, ◌&&◌, not, if◌then◌else◌};
 ghost use Rattle.f11_store.specs.declared.protection.Right.{Right};
 ghost use Rattle.f11_store.specs.Rights as specs;
-ghost use Rattle.f11_store.specs.Rights.{has_right, bits_of};
+ghost use Rattle.f11_store.specs.Rights.{has_right, bits_of, right_names};
 
 use crate::callers::Uic;
 use bitflags::{Flag, Flags, bitflag_items};
@@ -53,7 +53,7 @@ impl Flags for Rights {
 
     ghost exact = { ⊤ };
 
-    ghost table = { (codes "READ", 1) ∷ (codes "WRITE", 2) ∷ (codes "EXTEND", 4) ∷ (codes "DELETE", 8) ∷ [] };
+    ghost table = { right_names };
 
     ghost set_of = { bits_of };
 

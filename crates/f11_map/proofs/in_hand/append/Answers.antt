@@ -1,8 +1,7 @@
 use Rattle.std.proofs.Common.{refl, rules, subst, sym, ap, ◌∙◌}
 use Rattle.f11_header.specs.Fields.{map_area}
 use Rattle.f11_header.specs.MapFields.{IsMapArea}
-use Rattle.f11_header.proofs.AreaLemmas.{length-map_area}
-use Rattle.f11_map.proofs.MapLemmas.{IsMapArea-map_area}
+use Rattle.f11_header.proofs.FieldLemmas.{IsMapArea-in_header}
 use Rattle.f11_map.proofs.InHandLemmas.{AppendsBlocks-sealed, with_map-unchanged}
 use Rattle.f11_map.proofs.in_hand.append.Goals as goal
 
@@ -10,7 +9,7 @@ pub append_to-requires-clause-is_map : goal.append_to-requires-clause-is_map
 append_to-requires-clause-is_map c =
     let b = c.args.block.now in
     let lent = c.map_mut.ensures.area ∙ ap map_area c.new-header.ensures.block in
-    subst IsMapArea (sym lent) (IsMapArea-map_area b (length-map_area b c.told-block) c.requires.header)
+    subst IsMapArea (sym lent) (IsMapArea-in_header b c.told-block c.requires.header)
 
 pub returns-in_err-append_to-clause-unchanged : goal.returns-in_err-append_to-clause-unchanged
 returns-in_err-append_to-clause-unchanged c =

@@ -2,7 +2,7 @@ use Rattle.std.proofs.Common.{length, sym, subst, ap, ◌∙◌}
 use Rattle.f11_header.specs.Lent.{header_block}
 use Rattle.f11_header.specs.MapFields.{IsMapArea}
 use Rattle.f11_header.proofs.HeaderFacts.{map_within}
-use Rattle.f11_map.proofs.MapLemmas.{IsMapArea-map_area}
+use Rattle.f11_header.proofs.FieldLemmas.{IsMapArea-map_area}
 use Rattle.f11_map.proofs.map.Map.of.Goals as goal
 
 pub map-requires : goal.map-requires
