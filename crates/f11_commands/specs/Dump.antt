@@ -1,6 +1,6 @@
 -- What a block holds as a file header, in lines (profile).
-use Rattle.std.specs.Prelude.{◌≡◌, ◌≢◌, ℕ, false, List, [], ◌∷◌, ◌++◌, codes}
-use Rattle.std.specs.Fmt.{decimal, digits}
+use Rattle.std.specs.Prelude.{◌≡◌, ◌≢◌, ℕ, List, [], ◌∷◌, ◌++◌, codes}
+use Rattle.std.specs.Fmt.{decimal}
 use Rattle.std.specs.List.{concat, flat_map}
 use Rattle.f11_bytes.specs.Words.{word}
 use Rattle.f11_header.specs.Fields.{file_number, file_sequence, owner_group, owner_member, protection, characteristics, check_word, ident_area, map_area}
@@ -64,11 +64,15 @@ run_line run = codes "run " ++ (decimal run.0 ++ (codes " " ++ (decimal run.1 ++
 abbrev pub run_lines : List (ℕ × ℕ) → List ℕ
 run_lines runs = flat_map run_line runs
 
+-- the lines of the retrieval pointers in a map area
+abbrev pub map_lines : List ℕ → List ℕ
+map_lines m = run_lines (runs_of m)
+
 -- the lines of a valid header n: its fields, its name, its retrieval pointers
 pub record IsHeaderText (b : List ℕ) (n : ℕ) (text : List ℕ) : Type 0 where
   pub name : List ℕ
   pub is_name : IsNamePart b name
-  pub is_text : text ≡ header_line b n ++ (name ++ run_lines (runs_of (map_area b)))
+  pub is_text : text ≡ header_line b n ++ (name ++ map_lines (map_area b))
 
 -- the line of a dead header
 abbrev pub dead_line : ℕ → List ℕ

@@ -1,11 +1,10 @@
 //! What a block holds, line by line.
-ghost use Rattle.std.specs.Prelude.{◌≡◌, ℕ, List, length, IfErr, IfOk, OnOk};
-ghost use Rattle.std.specs.Io.KnownBytes.{Appends};
+ghost use Rattle.std.specs.Prelude.{◌≡◌, length, IfErr, IfOk, OnOk};
 ghost use Rattle.f11_header.specs.Fields.{file_number};
 ghost use Rattle.f11_header.specs.Header.{IsHeader};
 ghost use Rattle.f11_map.specs.Map.{area_of};
-ghost use Rattle.f11_map.specs.MapArea.{runs_of};
-ghost use Rattle.f11_commands.specs.Dump.{IsDump, IsHeaderText, IsNamePart, fields_line, name_line, name_words, run_lines};
+ghost use Rattle.f11_commands.specs.Dump.{IsDump, IsHeaderText, IsNamePart, fields_line, map_lines, name_line, name_words};
+ghost use Rattle.f11_commands.specs.Output.{Takes, TakesSome};
 
 use crate::outcome::{Answer, Failure};
 use f11_bytes::{Block, read_word};
@@ -64,8 +63,8 @@ impl Fields {
 ///
 /// [`Failure::CannotWrite`] where the writer takes no more: then it may hold a part of the lines.
 pub fn dump_header<W: Write>(writer: &mut W, block: &Block, n: u16) -> Result<Answer, Failure>
-    ensures text { IfOk result (λ answer. (answer ≡ Answer.Done) × ((text : List ℕ) × IsDump block.now n text
-        × Appends (W.contents writer.old) (W.contents writer.new) text)) }
+    ensures done { IfOk result (λ answer. answer ≡ Answer.Done) }
+    ensures text { OnOk result (TakesSome W.contents (IsDump block.now n) writer.old writer.new) }
     ensures failures { IfErr result (λ failure. failure ≡ Failure.CannotWrite) }
 {
     match check(block, n) {
@@ -78,8 +77,7 @@ pub fn dump_header<W: Write>(writer: &mut W, block: &Block, n: u16) -> Result<An
 /// Writes the lines of a valid header.
 fn write_header<W: Write>(writer: &mut W, block: &Block, n: u16) -> io::Result<()>
     requires { IsHeader block.now n }
-    ensures { OnOk result ((text : List ℕ) × IsHeaderText block.now n text
-        × Appends (W.contents writer.old) (W.contents writer.new) text) }
+    ensures { OnOk result (TakesSome W.contents (IsHeaderText block.now n) writer.old writer.new) }
 {
     let fields = Fields::of(block);
     write_fields(writer, n, &fields)?;
@@ -90,7 +88,7 @@ fn write_header<W: Write>(writer: &mut W, block: &Block, n: u16) -> io::Result<(
 
 /// Writes the line of the fields of a valid header.
 fn write_fields<W: Write>(writer: &mut W, n: u16, fields: &Fields) -> io::Result<()>
-    ensures { OnOk result (Appends (W.contents writer.old) (W.contents writer.new) (fields_line n fields.now)) }
+    ensures { OnOk result (Takes W.contents writer.old writer.new (fields_line n fields.now)) }
 {
     let Fields {
         id,
@@ -112,8 +110,7 @@ fn write_fields<W: Write>(writer: &mut W, n: u16, fields: &Fields) -> io::Result
 #[tactic(auto, using(f11_header::proofs::HeaderFacts::ident_within))]
 fn write_name<W: Write>(writer: &mut W, block: &Block) -> io::Result<()>
     requires { IsHeader block.now (file_number block.now) }
-    ensures { OnOk result ((part : List ℕ) × IsNamePart block.now part
-        × Appends (W.contents writer.old) (W.contents writer.new) part) }
+    ensures { OnOk result (TakesSome W.contents (IsNamePart block.now) writer.old writer.new) }
 {
     let header = Header::new(block);
     if Map::of(&header).segment() != 0 {
@@ -127,7 +124,7 @@ fn write_name<W: Write>(writer: &mut W, block: &Block) -> io::Result<()>
 
 /// Writes the line of a name.
 fn write_name_line<W: Write>(writer: &mut W, name: &Name) -> io::Result<()>
-    ensures { OnOk result (Appends (W.contents writer.old) (W.contents writer.new) (name_line name.now)) }
+    ensures { OnOk result (Takes W.contents writer.old writer.new (name_line name.now)) }
 {
     writeln!(writer, "name {name}")
 }
@@ -148,7 +145,7 @@ fn words_of(ident: &[u8]) -> [u16; 5]
 
 /// Writes the lines of the retrieval pointers.
 fn write_runs<W: Write>(writer: &mut W, map: &Map<'_>) -> io::Result<()>
-    ensures { OnOk result (Appends (W.contents writer.old) (W.contents writer.new) (run_lines (runs_of (area_of map.now)))) }
+    ensures { OnOk result (Takes W.contents writer.old writer.new (map_lines (area_of map.now))) }
 {
     for i in 0..map.runs() {
         let (lbn, count) = map.run(i);

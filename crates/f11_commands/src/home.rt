@@ -1,8 +1,7 @@
 //! The command `home`.
 ghost use Rattle.std.specs.Prelude.{◌≡◌, ◌⊎◌, IfErr, OnOk};
-ghost use Rattle.std.specs.Io.KnownBytes.{Appends, Keeps};
-ghost use Rattle.f11_home.specs.Home.{FailsToFind, FindsHome, FindsNoHome, HomeFields};
-ghost use Rattle.f11_commands.specs.Home.{home_line, no_home_line};
+ghost use Rattle.f11_commands.specs.Home.{home_line, FailsToPrintHome, FindsHomeOrNone, PrintsHome, PrintsNoHome};
+ghost use Rattle.f11_commands.specs.Output.{Takes};
 
 use crate::label::Label;
 use crate::outcome::{Answer, Failure};
@@ -20,15 +19,16 @@ use std::io::{self, Write};
 /// [`Failure::DeviceFault`] where a transfer failed, and [`Failure::CannotWrite`] where the writer takes no more:
 /// then it may hold a part of the line.
 pub fn print_home<D: Device, W: Write>(device: &mut D, writer: &mut W) -> Result<Answer, Failure>
-    ensures done { result ≡ Ok Answer.Done → (home : HomeFields) × FindsHome (D.disk device.old) (D.disk device.new) home
-        × Appends (W.contents writer.old) (W.contents writer.new) (home_line home) }
-    ensures fault { result ≡ Ok Answer.Fault → FindsNoHome (D.disk device.old) (D.disk device.new)
-        × Appends (W.contents writer.old) (W.contents writer.new) no_home_line }
-    ensures device_fault { result ≡ Err Failure.DeviceFault → FailsToFind (D.disk device.old) (D.disk device.new)
-        × Keeps (W.contents writer.old) (W.contents writer.new) }
-    ensures cannot_write { result ≡ Err Failure.CannotWrite → ((home : HomeFields) × FindsHome (D.disk device.old) (D.disk device.new) home)
-        ⊎ FindsNoHome (D.disk device.old) (D.disk device.new) }
-    ensures failures { IfErr result (λ failure. (failure ≡ Failure.DeviceFault) ⊎ (failure ≡ Failure.CannotWrite)) }
+    ensures done { result ≡ Ok Answer.Done
+        → PrintsHome D.disk device.old device.new W.contents writer.old writer.new }
+    ensures fault { result ≡ Ok Answer.Fault
+        → PrintsNoHome D.disk device.old device.new W.contents writer.old writer.new }
+    ensures device_fault { result ≡ Err Failure.DeviceFault
+        → FailsToPrintHome D.disk device.old device.new W.contents writer.old writer.new }
+    ensures cannot_write { result ≡ Err Failure.CannotWrite
+        → FindsHomeOrNone (D.disk device.old) (D.disk device.new) }
+    ensures failures { IfErr result (λ failure. (failure ≡ Failure.DeviceFault)
+        ⊎ (failure ≡ Failure.CannotWrite)) }
 {
     match find(device) {
         Ok(home) => {
@@ -45,7 +45,7 @@ pub fn print_home<D: Device, W: Write>(device: &mut D, writer: &mut W) -> Result
 
 /// Writes the line of a home block.
 fn write_home<W: Write>(home: &Home, writer: &mut W) -> io::Result<()>
-    ensures { OnOk result (Appends (W.contents writer.old) (W.contents writer.new) (home_line home.now)) }
+    ensures { OnOk result (Takes W.contents writer.old writer.new (home_line home.now)) }
 {
     writeln!(
         writer,

@@ -1,8 +1,8 @@
 //! The command `name`.
 ghost use Rattle.std.specs.Prelude.{◌≡◌, ℕ, List, IfErr, IfOk, OnOk};
-ghost use Rattle.std.specs.Io.KnownBytes.{Appends};
 ghost use Rattle.f11_rad50.specs.Name.{Spells};
-ghost use Rattle.f11_commands.specs.Name.{bad_name_line, words_line};
+ghost use Rattle.f11_commands.specs.Name.{PrintsBadName, PrintsName, PrintsWords, words_line};
+ghost use Rattle.f11_commands.specs.Output.{Takes};
 
 use crate::outcome::{Answer, Failure};
 use f11_rad50::{BadName, Name};
@@ -17,12 +17,11 @@ use std::io::{self, Write};
 ///
 /// [`Failure::CannotWrite`] where the writer takes no more: then it may hold a part of the line.
 pub fn print_name<W: Write>(text: &str, writer: &mut W) -> Result<Answer, Failure>
-    ensures done { result ≡ Ok Answer.Done → (words : List ℕ) × Spells text.now words
-        × Appends (W.contents writer.old) (W.contents writer.new) (words_line words) }
-    ensures fault { result ≡ Ok Answer.Fault → ((words : List ℕ) → ¬ Spells text.now words)
-        × Appends (W.contents writer.old) (W.contents writer.new) bad_name_line }
+    ensures done { result ≡ Ok Answer.Done → PrintsName text.now W.contents writer.old writer.new }
+    ensures fault { result ≡ Ok Answer.Fault
+        → PrintsBadName text.now W.contents writer.old writer.new }
     ensures every { (words : List ℕ) → Spells text.now words
-        → IfOk result (λ answer. (answer ≡ Answer.Done) × Appends (W.contents writer.old) (W.contents writer.new) (words_line words)) }
+        → IfOk result (PrintsWords words W.contents writer.old writer.new) }
     ensures failures { IfErr result (λ failure. failure ≡ Failure.CannotWrite) }
 {
     match Name::parse(text.as_bytes()) {
@@ -39,7 +38,7 @@ pub fn print_name<W: Write>(text: &str, writer: &mut W) -> Result<Answer, Failur
 
 /// Writes the line of a name's five words.
 fn write_words<W: Write>(words: [u16; 5], writer: &mut W) -> io::Result<()>
-    ensures { OnOk result (Appends (W.contents writer.old) (W.contents writer.new) (words_line words)) }
+    ensures { OnOk result (Takes W.contents writer.old writer.new (words_line words)) }
 {
     let [first, second, third, kind, version] = words;
     writeln!(writer, "words {first} {second} {third} {kind} {version}")

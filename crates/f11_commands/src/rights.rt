@@ -1,8 +1,8 @@
 //! The command `rights`.
-ghost use Rattle.std.specs.Prelude.{◌≡◌, IfErr, IfOk};
-ghost use Rattle.std.specs.Io.KnownBytes.{Appends};
+ghost use Rattle.std.specs.Prelude.{◌≡◌, IfErr, IfOk, OnOk};
 ghost use Rattle.f11_store.specs.Rights.{may};
 ghost use Rattle.f11_commands.specs.Rights.{letter_or_hyphen, rights_line};
+ghost use Rattle.f11_commands.specs.Output.{Takes};
 
 use crate::outcome::{Answer, Failure};
 use f11_store::{Right, Uic, may};
@@ -21,8 +21,9 @@ pub fn print_rights<W: Write>(
     protection: u16,
     writer: &mut W,
 ) -> Result<Answer, Failure>
-    ensures line { IfOk result (λ answer. (answer ≡ Answer.Done)
-        × Appends (W.contents writer.old) (W.contents writer.new) (rights_line caller owner protection)) }
+    ensures done { IfOk result (λ answer. answer ≡ Answer.Done) }
+    ensures line { OnOk result (Takes W.contents writer.old writer.new
+        (rights_line caller owner protection)) }
     ensures failures { IfErr result (λ failure. failure ≡ Failure.CannotWrite) }
 {
     writer.write_all(&[

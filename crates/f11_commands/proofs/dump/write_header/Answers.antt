@@ -8,8 +8,8 @@ pub returns : goal.returns
 returns g c =
     let fields = rw c.of-fields.ensures at c.in_ok-write_fields.ensures in
     let name = c.in_ok-write_name.ensures in
-    on_ok_weaker c.write_runs.result (λ runs. (
-      _,
-      record { name = name.0; is_name = name.1; is_text = refl },
-      Appends-trans _ _ _ _ _ fields (Appends-trans _ _ _ _ _ name.2 runs),
-    )) (rw (c.of-map.ensures, c.new.ensures) at c.write_runs.ensures)
+    on_ok_weaker c.write_runs.result (λ runs. record {
+      text = _;
+      is = record { name = name.text; is_name = name.is; is_text = refl };
+      takes = Appends-trans _ _ _ _ _ fields (Appends-trans _ _ _ _ _ name.takes runs);
+    }) (rw (c.of-map.ensures, c.new.ensures) at c.write_runs.ensures)

@@ -9,18 +9,22 @@ use Rattle.f11_commands.proofs.dump.write_name.Goals as goal
 pub returns-then-segment-ne0 : goal.returns-then-segment-ne0
 returns-then-segment-ne0 g c =
     let same = c.segment.ensures ∙ ap segment (c.of.ensures ∙ ap map_area c.new-header.ensures) in
-    ([], record { first = λ zero. absurd (c.if-segment-ne0.true (same ∙ zero)); extension = λ _. refl }, Appends-nil _)
+    record {
+      text = [];
+      is = record { first = λ zero. absurd (c.if-segment-ne0.true (same ∙ zero)); extension = λ _. refl };
+      takes = Appends-nil _;
+    }
 
 -- the line without a name
 pub returns-in-None : goal.returns-in-None
 returns-in-None g c =
     let same = c.segment.ensures ∙ ap segment (c.of.ensures ∙ ap map_area c.new-header.ensures) in
     let none = rw (c.words_of.ensures, c.ident.ensures.area, c.new-header.ensures) at c.in-None.ensures.name in
-    on_ok_weaker c.writeln.result (λ line. (
-      _,
-      record {
+    on_ok_weaker c.writeln.result (λ line. record {
+      text = _;
+      is = record {
         first = λ _. record { name = λ name. absurd (none name); no_name = λ _. refl };
         extension = λ more. absurd (more (sym same ∙ c.if-segment-ne0.false));
-      },
-      line,
-    )) c.writeln.ensures.bytes
+      };
+      takes = line;
+    }) c.writeln.ensures.bytes
