@@ -8,7 +8,7 @@ use Rattle.f11_pip.specs.declared.outcome.Failure.{Failure}
 use Rattle.f11_pip.specs.declared.outcome.Failure.TheVariants.{NoMemory}
 use Rattle.f11_pip.specs.Outcome.{failure_of_kind}
 use Rattle.f11_store.specs.declared.callers.Uic.{Uic}
-use Rattle.f11_pip.specs.Commands.{named, program_app}
+use Rattle.f11_pip.specs.Commands.{MeetsRights, command_and_word, program_app}
 use Rattle.f11_pip.specs.Octal.{SpellsUic}
 use Rattle.f11_pip.specs.Words.{AskNoRights, is_option}
 use Rattle.f11_pip.specs.declared.words.Words.TheVariants.{Home, Name, Rights}
@@ -23,7 +23,7 @@ takes-home program [] plain = refl
 takes-home program (b ∷ bs) plain = simp plain
 
 pub subcommand_of-home : (program image : Text) → is_option image ≡ false
-    → named (codes "image") (subcommand_of program_app (program ∷ codes "home" ∷ image ∷ [])) ≡ Some (codes "home", Some image)
+    → command_and_word (codes "image") (subcommand_of program_app (program ∷ codes "home" ∷ image ∷ [])) ≡ Some (codes "home", Some image)
 unfolding clap_on_literals
 subcommand_of-home program [] plain = refl
 subcommand_of-home program (b ∷ bs) plain = rw (plain, plain) refl
@@ -34,7 +34,7 @@ takes-name program [] plain = refl
 takes-name program (b ∷ bs) plain = simp plain
 
 pub subcommand_of-name : (program text : Text) → is_option text ≡ false
-    → named (codes "text") (subcommand_of program_app (program ∷ codes "name" ∷ text ∷ [])) ≡ Some (codes "name", Some text)
+    → command_and_word (codes "text") (subcommand_of program_app (program ∷ codes "name" ∷ text ∷ [])) ≡ Some (codes "name", Some text)
 unfolding clap_on_literals
 subcommand_of-name program [] plain = refl
 subcommand_of-name program (b ∷ bs) plain = rw (plain, plain) refl
@@ -51,13 +51,8 @@ takes-rights program (a ∷ xs) [] (d ∷ zs) p q r = rw (p, p, r, r) refl
 takes-rights program (a ∷ xs) (b ∷ ys) [] p q r = rw (p, p, q, q) refl
 takes-rights program (a ∷ xs) (b ∷ ys) (d ∷ zs) p q r = rw (p, p, q, q, r, r) refl
 
--- the three words of `rights` in what was met
-abbrev RightsMet : Option (Text × List Row) → Text → Text → Text → Type 0
-RightsMet met caller owner word = (named (codes "uic") met ≡ Some (codes "rights", Some caller)) × (named (codes "owner") met ≡ Some (codes "rights", Some owner))
-    × (named (codes "word") met ≡ Some (codes "rights", Some word))
-
 pub subcommand_of-rights : (program caller owner word : Text) → is_option caller ≡ false → is_option owner ≡ false → is_option word ≡ false
-    → RightsMet (subcommand_of program_app (program ∷ codes "rights" ∷ caller ∷ owner ∷ word ∷ [])) caller owner word
+    → MeetsRights caller owner word (subcommand_of program_app (program ∷ codes "rights" ∷ caller ∷ owner ∷ word ∷ []))
 unfolding clap_on_literals
 subcommand_of-rights program [] [] [] p q r = (refl, refl, refl)
 subcommand_of-rights program [] [] (d ∷ zs) p q r = (rw (r, r) refl, rw (r, r) refl, rw (r, r) refl)
@@ -82,10 +77,10 @@ third_not true true c d all = cc
 third_not false b c d all = cc
 
 -- the word of the command that was met stands in its rows
-pub first_of-named : (met : Option (Text × List Row)) (rows : List Row) (name id word : Text) → Some rows ≡ option_map (λ p. p.1) met
-    → named id met ≡ Some (name, Some word) → first_of id rows ≡ Some word
-first_of-named None rows name id word its is = cc
-first_of-named (Some met) rows name id word its is =
+pub first_of-met : (met : Option (Text × List Row)) (rows : List Row) (name id word : Text) → Some rows ≡ option_map (λ p. p.1) met
+    → command_and_word id met ≡ Some (name, Some word) → first_of id rows ≡ Some word
+first_of-met None rows name id word its is = cc
+first_of-met (Some met) rows name id word its is =
     let same : rows ≡ met.1 = cc in
     ap (first_of id) same ∙ ap (option_and_then (λ (p : Text × Option Text). p.1)) is
 

@@ -1,6 +1,7 @@
 -- The commands as `clap` is told of them (profile).
-use Rattle.std.specs.Prelude.{List, true, Option, Some, codes, option_map}
-use Rattle.clap.specs.Words.{App, Row, Rule, Text, first_of, new_app, new_rule, with_rule, with_subcommand}
+use Rattle.std.specs.Prelude.{◌≡◌, List, true, Option, Some, codes, option_map}
+use Rattle.clap.specs.Words.{App, Row, Rule, Text, first_of, first_value, found_of, new_app, new_rule, with_rule, with_subcommand}
+use Rattle.clap.specs.declared.parser.matches.ArgMatches.{ArgMatches}
 use Rattle.clap.specs.declared.builder.action.ArgAction.TheVariants.{Set}
 
 -- a word that has to be there
@@ -24,5 +25,22 @@ abbrev pub program_app : App
 program_app = with_subcommand (with_subcommand (with_subcommand (new_app (codes "f11_pip")) home_app.top) name_app.top) rights_app.top
 
 -- the name of the command that was met, and its word of this name
-abbrev pub named : Text → Option (Text × List Row) → Option (Text × Option Text)
-named id = option_map (λ p. (p.0, first_of id p.1))
+abbrev pub command_and_word : Text → Option (Text × List Row) → Option (Text × Option Text)
+command_and_word id = option_map (λ p. (p.0, first_of id p.1))
+
+-- this command was met, with this word of this name
+abbrev pub MeetsWord : Text → Text → Text → Option (Text × List Row) → Type 0
+MeetsWord command id word met = command_and_word id met ≡ Some (command, Some word)
+
+-- `rights` was met, with these three words
+abbrev pub MeetsRights : Text → Text → Text → Option (Text × List Row) → Type 0
+MeetsRights caller owner word met = MeetsWord (codes "rights") (codes "uic") caller met
+    × MeetsWord (codes "rights") (codes "owner") owner met × MeetsWord (codes "rights") (codes "word") word met
+
+-- a command has this word of this name
+abbrev pub HasWord : Text → Text → ArgMatches → Type 0
+HasWord id word given = first_value (found_of given) id ≡ Some word
+
+-- `rights` has these three words
+abbrev pub HasRightsWords : Text → Text → Text → ArgMatches → Type 0
+HasRightsWords caller owner word given = HasWord (codes "uic") caller given × HasWord (codes "owner") owner given × HasWord (codes "word") word given

@@ -18,3 +18,7 @@ pub record SpellsUic (text : List ℕ) (uic : Uic) : Type 0 where
 pub record IsProtection (digits : List ℕ) : Type 0 where
   pub octal : IsOctal digits 65535
   pub six_digits : length digits ≤ 6
+
+-- a text spells a protection word, which is the value of its digits
+abbrev pub SpellsProtection : List ℕ → ℕ → Type 0
+SpellsProtection text protection = IsProtection text × (protection ≡ digits_value 8 text)

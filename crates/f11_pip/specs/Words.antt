@@ -1,7 +1,8 @@
 -- The words of the command line (profile).
-use Rattle.std.specs.Prelude.{◌≡◌, ℕ, ◌==◌, Bool, false, List, [], ◌∷◌}
-use Rattle.std.specs.Str.Parse.{digits_value}
-use Rattle.f11_pip.specs.Octal.{IsProtection, SpellsUic}
+use Rattle.std.specs.Prelude.{◌≡◌, ◌⊎◌, ℕ, ◌==◌, Bool, false, List, [], ◌∷◌, codes}
+use Rattle.f11_pip.specs.Octal.{SpellsProtection, SpellsUic}
+use Rattle.f11_pip.specs.declared.outcome.Failure.{Failure}
+use Rattle.f11_pip.specs.declared.outcome.Failure.TheVariants.{NoMemory}
 use Rattle.f11_pip.specs.declared.words.Words.{Words}
 use Rattle.f11_pip.specs.declared.words.Words.TheVariants.{Home, Name, Rights}
 
@@ -9,6 +10,20 @@ use Rattle.f11_pip.specs.declared.words.Words.TheVariants.{Home, Name, Rights}
 abbrev pub is_option : List ℕ → Bool
 is_option [] = false
 is_option (b ∷ bs) = b == 45
+
+-- A command line of this command and this word: the program's name stands before them, and the word is no option.
+pub record IsLine (command word : List ℕ) (line : List (List ℕ)) : Type 0 where
+  pub program : List ℕ
+  pub is_line : line ≡ program ∷ command ∷ word ∷ []
+  pub plain : is_option word ≡ false
+
+-- A command line of `rights` and these three words, none of which is an option.
+pub record IsRightsLine (caller owner word : List ℕ) (line : List (List ℕ)) : Type 0 where
+  pub program : List ℕ
+  pub is_line : line ≡ program ∷ codes "rights" ∷ caller ∷ owner ∷ word ∷ []
+  pub plain_caller : is_option caller ≡ false
+  pub plain_owner : is_option owner ≡ false
+  pub plain_word : is_option word ≡ false
 
 -- the words ask for the home block of this image
 abbrev pub AsksHome : List ℕ → Words → Type 0
@@ -22,9 +37,13 @@ AsksName name _ = ⊥
 
 -- the words ask for the rights of this caller to a file of this owner with this protection word
 abbrev pub AsksRights : List ℕ → List ℕ → List ℕ → Words → Type 0
-AsksRights caller owner word (Rights c o w) = SpellsUic caller c × SpellsUic owner o × IsProtection word × (w ≡ digits_value 8 word)
+AsksRights caller owner word (Rights c o w) = SpellsUic caller c × SpellsUic owner o × SpellsProtection word w
 AsksRights caller owner word _ = ⊥
 
 -- one of the three texts isn't as it has to be
 abbrev pub AskNoRights : List ℕ → List ℕ → List ℕ → Type 0
 AskNoRights caller owner word = (words : Words) → AsksRights caller owner word words → ⊥
+
+-- no rights are asked for: no memory is left, or one of the three texts isn't as it has to be
+abbrev pub FailsToAskRights : List ℕ → List ℕ → List ℕ → Failure → Type 0
+FailsToAskRights caller owner word failure = (failure ≡ NoMemory) ⊎ AskNoRights caller owner word

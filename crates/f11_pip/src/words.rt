@@ -1,12 +1,11 @@
 //! The words of the command line.
-ghost use Rattle.std.specs.Prelude.{◌≡◌, ◌≤◌, ◌⊎◌, length, ◌∷◌, [], ℕ, List, false, codes, map, option_map, Some, None, IfOk, IfErr, IsErr, IsOkAnd, MatchResult};
+ghost use Rattle.std.specs.Prelude.{◌≡◌, ◌≤◌, ◌⊎◌, length, ℕ, List, false, codes, map, option_map, None, IfOk, IfErr, IsErr, IsOkAnd, MatchResult};
 ghost use Rattle.std.specs.Result.{result_ok};
-ghost use Rattle.std.specs.Str.Parse.{digits_value};
-ghost use Rattle.clap.specs.Words.{app_of, first_of, first_value, found_of, rule_of, subcommand_rows_of};
+ghost use Rattle.clap.specs.Words.{app_of, first_value, found_of, rule_of, subcommand_rows_of};
 ghost use Rattle.f11_store.specs.declared.callers.Uic.{Uic};
-ghost use Rattle.f11_pip.specs.Words.{AskNoRights, AsksHome, AsksName, AsksRights, is_option};
-ghost use Rattle.f11_pip.specs.Commands.{home_app, name_app, rights_app, named, needed_rule, program_app};
-ghost use Rattle.f11_pip.specs.Octal.{IsProtection, SpellsUic};
+ghost use Rattle.f11_pip.specs.Words.{AskNoRights, AsksHome, AsksName, AsksRights, FailsToAskRights, IsLine, IsRightsLine};
+ghost use Rattle.f11_pip.specs.Commands.{HasRightsWords, HasWord, MeetsRights, MeetsWord, home_app, name_app, needed_rule, program_app, rights_app};
+ghost use Rattle.f11_pip.specs.Octal.{IsProtection, SpellsProtection, SpellsUic};
 
 use crate::octal::{read_protection, read_uic};
 use crate::outcome::Failure;
@@ -39,15 +38,16 @@ pub enum Words<'a> {
 /// Words that don't parse, that ask for help, or that are none at all are [`Failure::Usage`], and so are users' codes
 /// and protection words that [`read_uic`] and [`read_protection`] don't read.
 pub fn parse<'a, S: AsStr>(alloc: Global, words: &'a [S]) -> Result<Words<'a>, Failure>
-    ensures home { (program image : List ℕ) → map S.text words.entry.now ≡ program ∷ codes "home" ∷ image ∷ [] → is_option image ≡ false
+    ensures home { (image : List ℕ) → IsLine (codes "home") image (map S.text words.entry.now)
         → MatchResult result (AsksHome image) (λ failure. failure ≡ Failure.NoMemory) }
-    ensures name { (program text : List ℕ) → map S.text words.entry.now ≡ program ∷ codes "name" ∷ text ∷ [] → is_option text ≡ false
+    ensures name { (text : List ℕ) → IsLine (codes "name") text (map S.text words.entry.now)
         → MatchResult result (AsksName text) (λ failure. failure ≡ Failure.NoMemory) }
-    ensures rights { (program caller owner word : List ℕ) → map S.text words.entry.now ≡ program ∷ codes "rights" ∷ caller ∷ owner ∷ word ∷ []
-        → is_option caller ≡ false → is_option owner ≡ false → is_option word ≡ false
-        → MatchResult result (AsksRights caller owner word) (λ failure. (failure ≡ Failure.NoMemory) ⊎ AskNoRights caller owner word) }
+    ensures rights { (caller owner word : List ℕ)
+        → IsRightsLine caller owner word (map S.text words.entry.now)
+        → MatchResult result (AsksRights caller owner word) (FailsToAskRights caller owner word) }
     ensures none { length words.entry.now ≤ 1 → IsErr result }
-    ensures failures { IfErr result (λ failure. (failure ≡ Failure.Usage) ⊎ (failure ≡ Failure.NoMemory)) }
+    ensures failures { IfErr result (λ failure. (failure ≡ Failure.Usage)
+        ⊎ (failure ≡ Failure.NoMemory)) }
 {
     let matches = program(alloc)?.try_get_matches_from(words)?;
     command_of(&matches)
@@ -65,12 +65,16 @@ fn program<'a>(alloc: Global) -> Result<Command<'a>, AllocError>
 
 /// The command that the words named.
 fn command_of<'a>(matches: &ArgMatches<'a>) -> Result<Words<'a>, Failure>
-    ensures home { (image : List ℕ) → named (codes "image") (subcommand_rows_of matches.now) ≡ Some (codes "home", Some image) → IsOkAnd result (AsksHome image) }
-    ensures name { (text : List ℕ) → named (codes "text") (subcommand_rows_of matches.now) ≡ Some (codes "name", Some text) → IsOkAnd result (AsksName text) }
-    ensures rights { (caller owner word : List ℕ) → named (codes "uic") (subcommand_rows_of matches.now) ≡ Some (codes "rights", Some caller)
-        → named (codes "owner") (subcommand_rows_of matches.now) ≡ Some (codes "rights", Some owner)
-        → named (codes "word") (subcommand_rows_of matches.now) ≡ Some (codes "rights", Some word)
-        → MatchResult result (AsksRights caller owner word) (λ _. AskNoRights caller owner word) }
+    ensures home { (image : List ℕ)
+        → MeetsWord (codes "home") (codes "image") image (subcommand_rows_of matches.now)
+        → IsOkAnd result (AsksHome image) }
+    ensures name { (text : List ℕ)
+        → MeetsWord (codes "name") (codes "text") text (subcommand_rows_of matches.now)
+        → IsOkAnd result (AsksName text) }
+    ensures rights { (caller owner word : List ℕ)
+        → MeetsRights caller owner word (subcommand_rows_of matches.now)
+        → MatchResult result (AsksRights caller owner word)
+        (λ _. AskNoRights caller owner word) }
     ensures none { subcommand_rows_of matches.now ≡ None → IsErr result }
     ensures usage { IfErr result (λ failure. failure ≡ Failure.Usage) }
 {
@@ -89,7 +93,8 @@ fn home<'a>(alloc: Global) -> Result<Command<'a>, AllocError>
 }
 
 fn home_of<'a>(given: &ArgMatches<'a>) -> Result<Words<'a>, Failure>
-    ensures home { (image : List ℕ) → first_value (found_of given.now) (codes "image") ≡ Some image → IsOkAnd result (AsksHome image) }
+    ensures home { (image : List ℕ) → HasWord (codes "image") image given.now
+        → IsOkAnd result (AsksHome image) }
     ensures usage { IfErr result (λ failure. failure ≡ Failure.Usage) }
 {
     let image = word_of(given, "image")?;
@@ -103,7 +108,8 @@ fn name<'a>(alloc: Global) -> Result<Command<'a>, AllocError>
 }
 
 fn name_of<'a>(given: &ArgMatches<'a>) -> Result<Words<'a>, Failure>
-    ensures name { (text : List ℕ) → first_value (found_of given.now) (codes "text") ≡ Some text → IsOkAnd result (AsksName text) }
+    ensures name { (text : List ℕ) → HasWord (codes "text") text given.now
+        → IsOkAnd result (AsksName text) }
     ensures usage { IfErr result (λ failure. failure ≡ Failure.Usage) }
 {
     let text = word_of(given, "text")?;
@@ -120,9 +126,9 @@ fn rights<'a>(alloc: Global) -> Result<Command<'a>, AllocError>
 }
 
 fn rights_of<'a>(given: &ArgMatches<'a>) -> Result<Words<'a>, Failure>
-    ensures rights { (caller owner word : List ℕ) → first_value (found_of given.now) (codes "uic") ≡ Some caller
-        → first_value (found_of given.now) (codes "owner") ≡ Some owner → first_value (found_of given.now) (codes "word") ≡ Some word
-        → MatchResult result (AsksRights caller owner word) (λ _. AskNoRights caller owner word) }
+    ensures rights { (caller owner word : List ℕ) → HasRightsWords caller owner word given.now
+        → MatchResult result (AsksRights caller owner word)
+        (λ _. AskNoRights caller owner word) }
     ensures usage { IfErr result (λ failure. failure ≡ Failure.Usage) }
 {
     Ok(Words::Rights {
@@ -134,7 +140,7 @@ fn rights_of<'a>(given: &ArgMatches<'a>) -> Result<Words<'a>, Failure>
 
 /// The user's code that a word spells.
 fn uic_of(given: &ArgMatches<'_>, name: &str) -> Result<Uic, Failure>
-    ensures uic { (text : List ℕ) → first_value (found_of given.now) name.now ≡ Some text
+    ensures uic { (text : List ℕ) → HasWord name.now text given.now
         → MatchResult result (SpellsUic text) (λ _. (uic : Uic) → ¬ SpellsUic text uic) }
     ensures usage { IfErr result (λ failure. failure ≡ Failure.Usage) }
 {
@@ -143,8 +149,8 @@ fn uic_of(given: &ArgMatches<'_>, name: &str) -> Result<Uic, Failure>
 
 /// The protection word among the words.
 fn protection_of(given: &ArgMatches<'_>) -> Result<u16, Failure>
-    ensures protection { (text : List ℕ) → first_value (found_of given.now) (codes "word") ≡ Some text
-        → MatchResult result (λ protection. IsProtection text × (protection ≡ digits_value 8 text)) (λ _. ¬ IsProtection text) }
+    ensures protection { (text : List ℕ) → HasWord (codes "word") text given.now
+        → MatchResult result (SpellsProtection text) (λ _. ¬ IsProtection text) }
     ensures usage { IfErr result (λ failure. failure ≡ Failure.Usage) }
 {
     read_protection(word_of(given, "word")?).ok_or(Failure::Usage)
@@ -159,7 +165,8 @@ fn needed<'a>(alloc: Global, name: &'a str) -> Arg<'a>
 }
 
 fn word_of<'a>(given: &ArgMatches<'a>, name: &str) -> Result<&'a str, Failure>
-    ensures word { option_map (λ word. word.now) (result_ok result) ≡ first_value (found_of given.now) name.now }
+    ensures word { option_map (λ word. word.now) (result_ok result)
+        ≡ first_value (found_of given.now) name.now }
     ensures usage { IfErr result (λ failure. failure ≡ Failure.Usage) }
 {
     given.get_str(name).ok_or(Failure::Usage)

@@ -1,22 +1,23 @@
 use Rattle.std.proofs.Common.{◌∙◌, codes}
 use Rattle.clap.specs.Words.{found_of}
 use Rattle.clap.proofs.WalkLemmas.{first_value-rows}
-use Rattle.f11_pip.proofs.WordsLemmas.{first_of-named}
+use Rattle.f11_pip.proofs.WordsLemmas.{first_of-met}
 use Rattle.f11_pip.proofs.words.command_of.Goals as goal
 
 pub returns-in-Some-home-default-clause-home : goal.returns-in-Some-home-default-clause-home
 returns-in-Some-home-default-clause-home c image met =
     c.home_of.ensures.home image (first_value-rows (found_of c.in-Some-home-default.given.now) (codes "image")
-    ∙ first_of-named _ _ _ _ image c.in-Some-home-default.ensures.rows met)
+    ∙ first_of-met _ _ _ _ image c.in-Some-home-default.ensures.rows met)
 
 pub returns-in-Some-name-default-clause-name : goal.returns-in-Some-name-default-clause-name
 returns-in-Some-name-default-clause-name c text met =
     c.name_of.ensures.name text (first_value-rows (found_of c.in-Some-name-default.given.now) (codes "text")
-    ∙ first_of-named _ _ _ _ text c.in-Some-name-default.ensures.rows met)
+    ∙ first_of-met _ _ _ _ text c.in-Some-name-default.ensures.rows met)
 
 pub returns-in-Some-rights-default-clause-rights : goal.returns-in-Some-rights-default-clause-rights
-returns-in-Some-rights-default-clause-rights c caller owner word is_uic is_owner is_word =
-    c.rights_of.ensures.rights caller owner word
-    (first_value-rows (found_of c.in-Some-rights-default.given.now) (codes "uic") ∙ first_of-named _ _ _ _ caller c.in-Some-rights-default.ensures.rows is_uic)
-    (first_value-rows (found_of c.in-Some-rights-default.given.now) (codes "owner") ∙ first_of-named _ _ _ _ owner c.in-Some-rights-default.ensures.rows is_owner)
-    (first_value-rows (found_of c.in-Some-rights-default.given.now) (codes "word") ∙ first_of-named _ _ _ _ word c.in-Some-rights-default.ensures.rows is_word)
+returns-in-Some-rights-default-clause-rights c caller owner word met =
+    c.rights_of.ensures.rights caller owner word (
+      first_value-rows (found_of c.in-Some-rights-default.given.now) (codes "uic") ∙ first_of-met _ _ _ _ caller c.in-Some-rights-default.ensures.rows met.0,
+      first_value-rows (found_of c.in-Some-rights-default.given.now) (codes "owner") ∙ first_of-met _ _ _ _ owner c.in-Some-rights-default.ensures.rows met.1,
+      first_value-rows (found_of c.in-Some-rights-default.given.now) (codes "word") ∙ first_of-met _ _ _ _ word c.in-Some-rights-default.ensures.rows met.2,
+    )
