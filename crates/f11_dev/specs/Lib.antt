@@ -10,3 +10,4 @@ pub mod FileImage
 pub mod Fuse
 pub mod FailOnce
 pub mod Liar
+pub mod Laws

@@ -12,6 +12,7 @@ mod device;
 mod fail_once;
 mod file_image;
 mod fuse;
+pub mod laws;
 mod liar;
 mod memory;
 mod outcomes;
