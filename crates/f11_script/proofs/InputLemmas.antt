@@ -8,7 +8,7 @@ use Rattle.std.proofs.lemmas.List.Elements.{All-append, All-replicate}
 use Rattle.std.specs.List.{slice_split, onto_first, slice_index}
 use Rattle.std.specs.Str.Lines.{lines, lines_of_parts, strip_carriage_return}
 use Rattle.std.proofs.lemmas.List.Splits.{slice_split_at, slice_split_none}
-use Rattle.f11_script.specs.Input.{bytes_left, HasByte, IsLine, TakesLine, TakesNoLine}
+use Rattle.f11_script.specs.Input.{bytes_left, HasByte, HasFirst, IsLine, TakesLine, TakesNoLine, TakesNone}
 
 -- the byte at hand, and those behind it
 next_of_piece : (piece : List ℕ) (at end : ℕ) → at < end → end ≤ length piece →
@@ -137,47 +137,76 @@ kept_last bytes = by_length (cases_lt 1202 (length bytes))
     }
 
 -- a line that ends
-pub collected_line : (a b c : Option (List ℕ)) (n m : ℕ) (line given : List ℕ) → Collected a b n m line → Consumes b c (10 ∷ []) →
-    given ≡ strip_carriage_return line → TakesLine a c given
-collected_line None b c n m line given h next is = tt
-collected_line (Some xs) None c n m line given h next is = absurd h.taken
-collected_line (Some xs) (Some ys) None n m line given h next is = absurd next
-collected_line (Some xs) (Some ys) (Some zs) n m line given h next is = (
-  strip_carriage_return h.bytes,
-  ap lines (h.taken ∙ ap (λ t. h.bytes ++ t) next) ∙ lines-ended h.bytes zs h.no_end,
-  subst (λ (g : List ℕ). IsLine g (strip_carriage_return h.bytes)) (sym (is ∙ ap strip_carriage_return h.kept)) (kept_line h.bytes),
-)
+first_of_ended : (a b c : Option (List ℕ)) (bytes : List ℕ) → Consumes a b bytes → Consumes b c (10 ∷ []) → All (λ c. c ≢ 10) bytes →
+    HasFirst a c (strip_carriage_return bytes)
+first_of_ended None b c bytes taken next no_end = tt
+first_of_ended (Some xs) None c bytes taken next no_end = absurd taken
+first_of_ended (Some xs) (Some ys) None bytes taken next no_end = absurd next
+first_of_ended (Some xs) (Some ys) (Some zs) bytes taken next no_end = ap lines (taken ∙ ap (λ t. bytes ++ t) next) ∙ lines-ended bytes zs no_end
+
+pub collected_line : (a b c : Option (List ℕ)) (n m k : ℕ) (line given : List ℕ) → Collected a b n m line → Consumes b c (10 ∷ []) →
+    k ≡ m + 1 → k ≤ 16777216 → given ≡ strip_carriage_return line → TakesLine a c n k given
+collected_line a b c n m k line given h next counted few is = record {
+  bytes = h.bytes ++ 10 ∷ [];
+  taken = Consumes-trans a b c h.bytes (10 ∷ []) h.taken next;
+  number = omega (arith, h.number, counted, length-append h.bytes (10 ∷ []));
+  few = few;
+  line = strip_carriage_return h.bytes;
+  is_line = lines-ended h.bytes [] h.no_end;
+  first = first_of_ended a b c h.bytes h.taken next h.no_end;
+  handed_out = subst (λ (g : List ℕ). IsLine g (strip_carriage_return h.bytes)) (sym (is ∙ ap strip_carriage_return h.kept)) (kept_line h.bytes);
+}
 
 -- the last line
-pub collected_last : (a b c : Option (List ℕ)) (n m : ℕ) (line : List ℕ) → Collected a b n m line → IsAtEnd b → Keeps b c → 0 < length line → TakesLine a c line
-collected_last None b c n m line h end kept some = tt
-collected_last (Some xs) None c n m line h end kept some = absurd h.taken
-collected_last (Some xs) (Some ys) None n m line h end kept some = absurd kept
-collected_last (Some xs) (Some ys) (Some zs) n m line h end kept some =
-    let all : xs ≡ h.bytes = h.taken ∙ ap (λ t. h.bytes ++ t) end ∙ append-nil h.bytes in
+first_of_last : (a b c : Option (List ℕ)) (bytes : List ℕ) → Consumes a b bytes → IsAtEnd b → Keeps b c → lines bytes ≡ bytes ∷ [] → HasFirst a c bytes
+first_of_last None b c bytes taken end kept is = tt
+first_of_last (Some xs) None c bytes taken end kept is = absurd taken
+first_of_last (Some xs) (Some ys) None bytes taken end kept is = absurd kept
+first_of_last (Some xs) (Some ys) (Some zs) bytes taken end kept is =
+    let all : xs ≡ bytes = taken ∙ ap (λ t. bytes ++ t) end ∙ append-nil bytes in
     let rest : zs ≡ [] = kept ∙ end in
-    let some_bytes : 0 < length h.bytes = omega (arith, some, ap length h.kept, length-take 1202 h.bytes) in (
-      h.bytes,
-      ap lines all ∙ lines-last h.bytes some_bytes h.no_end ∙ ap (λ t. h.bytes ∷ lines t) (sym rest),
-      subst (λ (g : List ℕ). IsLine g h.bytes) (sym h.kept) (kept_last h.bytes),
-    )
+    ap lines all ∙ is ∙ ap (λ t. bytes ∷ lines t) (sym rest)
+
+pub collected_last : (a b c : Option (List ℕ)) (n m k : ℕ) (line : List ℕ) → Collected a b n m line → IsAtEnd b → Keeps b c →
+    k ≡ m → k ≤ 16777216 → 0 < length line → TakesLine a c n k line
+collected_last a b c n m k line h end kept counted few some =
+    let some_bytes : 0 < length h.bytes = omega (arith, some, ap length h.kept, length-take 1202 h.bytes) in
+    let is_line = lines-last h.bytes some_bytes h.no_end in
+    record {
+      bytes = h.bytes;
+      taken = Consumes-kept a b c h.bytes h.taken kept;
+      number = counted ∙ h.number;
+      few = few;
+      line = h.bytes;
+      is_line = is_line;
+      first = first_of_last a b c h.bytes h.taken end kept is_line;
+      handed_out = subst (λ (g : List ℕ). IsLine g h.bytes) (sym h.kept) (kept_last h.bytes);
+    }
 
 -- what has no element
-pub length-zero : (bytes : List ℕ) → length bytes ≡ 0 → bytes ≡ []
+length-zero : (bytes : List ℕ) → length bytes ≡ 0 → bytes ≡ []
 length-zero [] e = refl
 length-zero (x ∷ xs) e = absurd (omega (arith, e))
 
--- no line
-pub collected_end : (a b : Option (List ℕ)) (n m : ℕ) (line : List ℕ) → Collected a b n m line → IsAtEnd b → length line ≡ 0 → IsAtEnd a
-collected_end None b n m line h end none = tt
-collected_end (Some xs) None n m line h end none = absurd h.taken
-collected_end (Some xs) (Some ys) n m line h end none =
-    h.taken ∙ ap (λ t. h.bytes ++ t) end ∙ append-nil h.bytes ∙ length-zero h.bytes (omega (arith, none, ap length h.kept, length-take 1202 h.bytes))
+-- no line: nothing was read, and at the end the script stays as it is
+end_known : (a b : Option (List ℕ)) (bytes : List ℕ) → Consumes a b bytes → IsAtEnd b → bytes ≡ [] → IsAtEnd a
+end_known None b bytes taken end none = tt
+end_known (Some xs) None bytes taken end none = absurd taken
+end_known (Some xs) (Some ys) bytes taken end none = taken ∙ ap (λ t. bytes ++ t) end ∙ append-nil bytes ∙ none
 
--- at the end the script stays as it is
-pub collected_kept : (a b c : Option (List ℕ)) (n m : ℕ) (line : List ℕ) → Collected a b n m line → IsAtEnd b → Keeps b c → length line ≡ 0 → Keeps a c
-collected_kept None b c n m line h end kept none = tt
-collected_kept (Some xs) None c n m line h end kept none = absurd h.taken
-collected_kept (Some xs) (Some ys) None n m line h end kept none = absurd kept
-collected_kept (Some xs) (Some ys) (Some zs) n m line h end kept none =
-    kept ∙ end ∙ sym (collected_end (Some xs) (Some ys) n m line h end none)
+end_kept : (a b c : Option (List ℕ)) (bytes : List ℕ) → Consumes a b bytes → Keeps b c → bytes ≡ [] → Keeps a c
+end_kept None b c bytes taken kept none = tt
+end_kept (Some xs) None c bytes taken kept none = absurd taken
+end_kept (Some xs) (Some ys) None bytes taken kept none = absurd kept
+end_kept (Some xs) (Some ys) (Some zs) bytes taken kept none = kept ∙ sym (taken ∙ ap (λ t. t ++ ys) none)
+
+pub collected_none_left : (a b c : Option (List ℕ)) (n m k : ℕ) (line : List ℕ) → Collected a b n m line → IsAtEnd b → Keeps b c →
+    k ≡ m → length line ≡ 0 → TakesNone a c n k line
+collected_none_left a b c n m k line h end kept counted none =
+    let none_read : h.bytes ≡ [] = length-zero h.bytes (omega (arith, none, ap length h.kept, length-take 1202 h.bytes)) in
+    record {
+      at_end = end_known a b h.bytes h.taken end none_read;
+      kept = end_kept a b c h.bytes h.taken kept none_read;
+      number = omega (arith, counted, h.number, ap length none_read);
+      nothing = length-zero line none;
+    }

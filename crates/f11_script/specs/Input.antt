@@ -16,11 +16,29 @@ pub record IsLine (given line : List ℕ) : Type 0 where
   pub short : length line ≤ 1200 → given ≡ line
   pub long : 1200 < length line → 1200 < length given
 
--- the first line of the known bytes was read
-abbrev pub TakesLine : Option (List ℕ) → Option (List ℕ) → List ℕ → Type 0
-TakesLine None new given = ⊤
-TakesLine (Some xs) None given = ⊥
-TakesLine (Some xs) (Some ys) given = (line : List ℕ) × (lines xs ≡ line ∷ lines ys) × IsLine given line
+-- a line is the first of the known bytes, and the bytes behind it have their other lines
+abbrev pub HasFirst : Option (List ℕ) → Option (List ℕ) → List ℕ → Type 0
+HasFirst None new line = ⊤
+HasFirst (Some xs) None line = ⊥
+HasFirst (Some xs) (Some ys) line = lines xs ≡ line ∷ lines ys
+
+-- The first line was read: its bytes, with its end, were counted, and no more than a script may have.
+pub record TakesLine (old new : Option (List ℕ)) (count counted : ℕ) (given : List ℕ) : Type 0 where
+  pub bytes : List ℕ
+  pub taken : Consumes old new bytes
+  pub number : counted ≡ count + length bytes
+  pub few : counted ≤ 16777216
+  pub line : List ℕ
+  pub is_line : lines bytes ≡ line ∷ []
+  pub first : HasFirst old new line
+  pub handed_out : IsLine given line
+
+-- no line is left, and nothing was read
+pub record TakesNone (old new : Option (List ℕ)) (count counted : ℕ) (given : List ℕ) : Type 0 where
+  pub at_end : IsAtEnd old
+  pub kept : Keeps old new
+  pub number : counted ≡ count
+  pub nothing : given ≡ []
 
 -- some bytes were read, among them no line feed: no whole line is lost
 pub record TakesNoLine (old new : Option (List ℕ)) (count counted : ℕ) : Type 0 where
@@ -40,6 +58,12 @@ IsReadError ReadFault count left = ⊤
 IsReadError TooLong count left = (count ≡ 16777216) × HasByte left
 IsReadError WriteFault count left = ⊥
 
+-- the next byte was read and counted, or none is left, or it failed and nothing was read
+abbrev pub ReadsByte : Option (List ℕ) → Option (List ℕ) → ℕ → ℕ → Result (Option ℕ) ScriptError → Type 0
+ReadsByte old new count counted (Ok None) = IsAtEnd old × (counted ≡ count) × Keeps old new
+ReadsByte old new count counted (Ok (Some byte)) = Consumes old new (byte ∷ []) × (counted ≡ count + 1)
+ReadsByte old new count counted (Err e) = Keeps old new × IsReadError e counted new × (counted ≡ count)
+
 -- a script's bytes that are still to be read, where the reader's are known
 abbrev pub left_of : {R : Type 0} → (R → Option (List ℕ)) → ScriptReader R → Option (List ℕ)
 left_of remaining script = bytes_left script.piece script.at script.end (remaining script.reader)
@@ -54,8 +78,8 @@ number_read script = script.count
 
 -- what reading a line says: a line was read, no line is left, or it failed
 abbrev pub ReadsLine : Option (List ℕ) → Option (List ℕ) → ℕ → ℕ → Result Bool ScriptError → List ℕ → Type 0
-ReadsLine old new count counted (Ok true) given = TakesLine old new given
-ReadsLine old new count counted (Ok false) given = IsAtEnd old × Keeps old new × (given ≡ [])
+ReadsLine old new count counted (Ok true) given = TakesLine old new count counted given
+ReadsLine old new count counted (Ok false) given = TakesNone old new count counted given
 ReadsLine old new count counted (Err e) given = TakesNoLine old new count counted × IsReadError e counted new
 
 -- a line is read alike as it is handed out

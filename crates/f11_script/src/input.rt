@@ -57,7 +57,7 @@ pub struct ScriptReader<R> {
 }
 
 impl<R: Read> ScriptReader<R> {
-    ghost use Rattle.f11_script.specs.Input.{IsReadError, ReadsLine, left_of, number_read, reader_of};
+    ghost use Rattle.f11_script.specs.Input.{ReadsByte, ReadsLine, left_of, number_read, reader_of};
 
     /// A script from its beginning.
     pub fn new(reader: R) -> ScriptReader<R>
@@ -116,19 +116,8 @@ impl<R: Read> ScriptReader<R> {
 
     /// The next byte, and `None` at the end.
     fn next(&mut self) -> Result<Option<u8>, ScriptError>
-        ensures next { MatchResult result
-            (λ next. MatchOption next
-            ((IsAtEnd (left_of R.remaining self.old))
-            × (self.new.count ≡ self.old.count)
-            × Keeps (left_of R.remaining self.old)
-            (left_of R.remaining self.new))
-            (λ byte. Consumes (left_of R.remaining self.old)
-            (left_of R.remaining self.new) (byte ∷ [])
-            × (self.new.count ≡ self.old.count + 1)))
-            (λ e. Keeps (left_of R.remaining self.old)
-            (left_of R.remaining self.new)
-            × IsReadError e self.new.count (left_of R.remaining self.new)
-            × (self.new.count ≡ self.old.count)) }
+        ensures next { ReadsByte (left_of R.remaining self.old) (left_of R.remaining self.new)
+            (number_read self.old) (number_read self.new) result }
     {
         self.refill()?;
         if self.at == self.end {

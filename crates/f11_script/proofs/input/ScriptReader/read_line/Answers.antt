@@ -1,16 +1,16 @@
 use Rattle.std.proofs.Common.{◌≡◌, length, arith}
-use Rattle.f11_script.proofs.InputLemmas.{collected_end, collected_kept, collected_line, collected_last, collected_more, length-zero}
+use Rattle.f11_script.proofs.InputLemmas.{collected_none_left, collected_line, collected_last, collected_more}
 use Rattle.f11_script.proofs.input.ScriptReader.read_line.Goals as goal
 
 pub returns-in-None : goal.returns-in-None
 returns-in-None g c =
     let end = rw c.in-None.is at c.in_ok-next.ensures.next in
-    collected_last _ _ _ _ _ _ c.loop-line.invariant end.0 end.2 (omega (arith, c.len.ensures.value, c.if-len-eq0.false))
+    collected_last _ _ _ _ _ _ _ c.loop-line.invariant end.0 end.2 end.1 c.next.new.self.limited (omega (arith, c.len.ensures.value, c.if-len-eq0.false))
 
 pub returns-then-byte-eq10 : goal.returns-then-byte-eq10
 returns-then-byte-eq10 g c =
     let next = rw (c.in-Some.is, c.if-byte-eq10.true) at c.in_ok-next.ensures.next in
-    collected_line _ _ _ _ _ _ _ c.loop-line.invariant next.0 c.drop_return.ensures
+    collected_line _ _ _ _ _ _ _ _ c.loop-line.invariant next.0 next.1 c.next.new.self.limited c.drop_return.ensures
 
 pub loop-line-preserved : goal.loop-line-preserved
 loop-line-preserved g c =
@@ -20,8 +20,5 @@ loop-line-preserved g c =
 pub returns-then-len-eq0 : goal.returns-then-len-eq0
 returns-then-len-eq0 g c =
     let end = rw c.in-None.is at c.in_ok-next.ensures.next in
-    let none : length c.loop-line.line.items ≡ 0 = omega (arith, c.len.ensures.value, c.if-len-eq0.true) in (
-      collected_end _ _ _ _ _ c.loop-line.invariant end.0 none,
-      collected_kept _ _ _ _ _ _ c.loop-line.invariant end.0 end.2 none,
-      length-zero c.loop-line.line.items none,
-    )
+    let none : length c.loop-line.line.items ≡ 0 = omega (arith, c.len.ensures.value, c.if-len-eq0.true) in
+    collected_none_left _ _ _ _ _ _ _ c.loop-line.invariant end.0 end.2 end.1 none
