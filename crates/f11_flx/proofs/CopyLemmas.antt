@@ -8,7 +8,7 @@ use Rattle.std.proofs.Common.{eqb, ne_eqb}
 use Rattle.f11_bytes.specs.Words.{long, word, word_bytes}
 use Rattle.f11_store.specs.Directory.{with_end}
 use Rattle.f11_store.specs.File.{File, end_of, length_of, stated_end}
-use Rattle.f11_flx.specs.Lines.{filled}
+use Rattle.f11_flx.specs.Lines.{in_whole_blocks}
 use Rattle.f11_flx.specs.Records.{layout_of, records_in, records_of}
 use Rattle.f11_flx.specs.Spelled.{image_attributes, text_attributes, variable_records}
 use Rattle.f11_flx.specs.declared.layout.Layout.{Layout}
@@ -36,7 +36,7 @@ unfolding with_end
 image_ends_with_blocks blocks = stated_end-with_end (1 ∷ 0 ∷ (word_bytes 512 ++ replicate 28 0)) blocks (512 * blocks) (omega arith) (omega arith)
 
 pub copy_has_lines : (lines : List (List ℕ)) (file : File) (longest : ℕ) → file.attr ≡ text_attributes longest (length_of file) (length (variable_records lines))
-    → concat file.blocks ≡ filled (variable_records lines) → length (concat file.blocks) ≡ 512 * length_of file → records_of file ≡ Some lines
+    → concat file.blocks ≡ in_whole_blocks (variable_records lines) → length (concat file.blocks) ≡ 512 * length_of file → records_of file ≡ Some lines
 copy_has_lines lines file longest attr content whole =
     let bytes = variable_records lines in
     let zeros : List ℕ = replicate ((512 - length bytes % 512) % 512) 0 in

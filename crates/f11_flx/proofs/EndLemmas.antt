@@ -1,5 +1,6 @@
 -- Conversions that are done.
-use Rattle.std.proofs.Common.{◌≡◌, ℕ, ◌≤◌, true, false, List, [], ◌∷◌, length, take, drop, max, Some, refl, ap, ◌∙◌, arith}
+use Rattle.std.proofs.Common.{◌≡◌, inl, inr, ℕ, ◌≤◌, true, false, List, [], ◌∷◌, ◌++◌, length, take, drop, max, Option, Some, None, refl, sym, ap, ◌∙◌, arith}
+use Rattle.std.specs.Prelude.{slice_range, option_map}
 use Rattle.std.proofs.lemmas.List.{append-nil}
 use Rattle.f11_flx.specs.Laws.{HasNoMore}
 use Rattle.f11_flx.specs.Lines.{has_long_line, lines_of, lines_upto}
@@ -8,7 +9,7 @@ use Rattle.f11_flx.specs.Records.{records_upto}
 use Rattle.f11_flx.specs.Spelled.{variable_records, longest_of}
 use Rattle.f11_flx.specs.Stage.{given_in, is_given, lines_from, text_so_far, with_cr}
 use Rattle.f11_flx.specs.ToRecords.{gives, lines_left, open_of}
-use Rattle.f11_flx.specs.ToText.{ends_record, rest_of, text_left}
+use Rattle.f11_flx.specs.ToText.{ends_record, rest_of, text_left, Converts, StopsAt}
 use Rattle.f11_flx.specs.declared.layout.Layout.{Layout}
 use Rattle.f11_flx.specs.declared.place.Place.{Place}
 use Rattle.f11_flx.specs.declared.place.Place.TheVariants as place
@@ -36,6 +37,25 @@ text_from-none layout place.Pad few more = text_in-none layout
 
 pub text_ends : (s : ToText) (bytes : List ℕ) → rest_of s ≡ 0 → ends_record s ≡ false → text_left s bytes ≡ Some []
 text_ends s bytes none more = ap (λ (n : ℕ). text_from s.layout s.place (take n bytes)) none ∙ text_from-none s.layout s.place (omega (arith, s.wanted)) more
+
+-- a text that is to come has one before it
+no_text : (given : List ℕ) (before after : Option (List ℕ)) → before ≡ option_map (λ (text : List ℕ). given ++ text) after → before ≡ None → after ≡ Some [] → ⊥
+no_text given before after is none some = absurd (none_is (sym none ∙ is ∙ ap (option_map (λ (text : List ℕ). given ++ text)) some))
+  where
+    none_is : {x : List ℕ} → None ≡ Some x → ⊥
+    none_is is = cc
+
+pub text_is_refused : (old new : ToText) (source target : List ℕ) (used from to : ℕ) → Converts old new source used target from to → StopsAt new source used to
+    → rest_of old ≤ length source → text_left old source ≡ None → to ≡ 512
+text_is_refused old new source target used from to (done) (inl full) enough none = full
+text_is_refused old new source target used from to done (inr stops) enough none =
+    let rest : rest_of new ≡ 0 = elim stops.1 [
+      | inl all ↦ omega (arith, done.read, all)
+      | inr none ↦ none
+    ] in
+    let whole : source ++ [] ≡ source = append-nil source in
+    absurd (no_text (slice_range target from to) (text_left old (source ++ [])) (text_left new (drop used source ++ [])) (done.text [] (omega (arith, ap length whole)))
+    (ap (text_left old) whole ∙ none) (text_ends new (drop used source ++ []) rest stops.0))
 
 -- no line is to come where none is open
 lines_from-none : (line : List ℕ) (at : Stage) → length (text_so_far line at) ≡ 0 → is_given at ≡ false → lines_from line at [] ≡ []

@@ -7,5 +7,6 @@ pub mod LineLemmas
 pub mod PutLemmas
 pub mod ReadLemmas
 pub mod RecordLemmas
+pub mod SizeLemmas
 pub mod TextLemmas
 pub mod WalkLemmas

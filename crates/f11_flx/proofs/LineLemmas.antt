@@ -6,7 +6,7 @@ use Rattle.std.proofs.lemmas.List.Elements.{filter-append, All-head, All-tail}
 use Rattle.std.proofs.lemmas.List.{append-nil}
 use Rattle.std.specs.List.{All}
 use Rattle.f11_flx.specs.Laws.{IsOneLine}
-use Rattle.f11_flx.specs.Lines.{without_zeros, goes_on_with_lf, has_crlf, before_crlf, behind_crlf, lines_upto, lines_of, text_of, filled}
+use Rattle.f11_flx.specs.Lines.{without_zeros, goes_on_with_lf, has_crlf, before_crlf, behind_crlf, lines_upto, lines_of, text_of, in_whole_blocks}
 
 -- CR LF begins at this byte
 abbrev pub is_crlf : ℕ → List ℕ → Bool
@@ -99,8 +99,8 @@ without_zeros-zeros : (n : ℕ) → without_zeros (replicate n 0) ≡ []
 without_zeros-zeros zero = refl
 without_zeros-zeros (suc n) = without_zeros-zeros n
 
-pub without_zeros-filled : (bytes : List ℕ) → without_zeros (filled bytes) ≡ without_zeros bytes
-without_zeros-filled bytes =
+pub without_zeros-in_whole_blocks : (bytes : List ℕ) → without_zeros (in_whole_blocks bytes) ≡ without_zeros bytes
+without_zeros-in_whole_blocks bytes =
     let rest = (512 - length bytes % 512) % 512 in
     filter-append (λ c. not (eqb c 0)) bytes (replicate rest 0) ∙ ap (λ (more : List ℕ). without_zeros bytes ++ more) (without_zeros-zeros rest) ∙ append-nil (without_zeros bytes)
 
@@ -120,6 +120,6 @@ lines_of-text (line ∷ records) all =
     ap lines_of (append_assoc line (13 ∷ 10 ∷ []) (text_of records)) ∙ lines_of-line line (text_of records) (All-head IsOneLine line records all).no_end ∙ ap (λ (more : List (List ℕ)). line ∷ more) (lines_of-text records (All-tail IsOneLine line records all))
 
 -- records that are lines each come back from their text
-pub lines_come_back : (records : List (List ℕ)) → All IsOneLine records → lines_of (without_zeros (filled (text_of records))) ≡ records
+pub lines_come_back : (records : List (List ℕ)) → All IsOneLine records → lines_of (without_zeros (in_whole_blocks (text_of records))) ≡ records
 lines_come_back records all =
-    ap lines_of (without_zeros-filled (text_of records) ∙ without_zeros-text records all) ∙ lines_of-text records all
+    ap lines_of (without_zeros-in_whole_blocks (text_of records) ∙ without_zeros-text records all) ∙ lines_of-text records all

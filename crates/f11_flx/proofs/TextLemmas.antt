@@ -1,6 +1,7 @@
 -- The text of a file's records, a byte read at a time.
 use Rattle.std.proofs.Common.{◌≡◌, ℕ, zero, suc, ◌+◌, ◌-◌, ◌*◌, ◌%◌, ◌<◌, ◌≤◌, Bool, true, false, eqb, IsTrue, List, [], ◌∷◌, ◌++◌, length, take, drop, Option, Some, None, refl, sym, ap, ◌∙◌, arith, append_assoc}
 use Rattle.std.specs.Prelude.{slice_range, option_map}
+use Rattle.std.proofs.lemmas.Bool.{cond_both}
 use Rattle.std.proofs.lemmas.Bool.Decides.{nat_tests}
 use Rattle.std.proofs.lemmas.Iterator.Adapters.{option_map_id}
 use Rattle.f11_store.specs.File.{File, end_of}
@@ -9,7 +10,7 @@ use Rattle.std.specs.List.{concat}
 use Rattle.std.specs.Prelude.{option_and_then}
 use Rattle.std.proofs.lemmas.List.{length-take-le}
 use Rattle.f11_flx.specs.Lines.{text_of}
-use Rattle.f11_flx.specs.Place.{text_in, text_from, pads, has_place, is_ending, ReadsByte, RefusesByte}
+use Rattle.f11_flx.specs.Place.{text_in, text_from, pads, has_place, is_ending, ending_at, ReadsByte, RefusesByte}
 use Rattle.f11_flx.specs.Records.{layout_of, some_of, head_of, size_of, pad_of, records_in}
 use Rattle.f11_flx.specs.ToText.{converted_text}
 use Rattle.f11_flx.specs.declared.layout.Layout.{Layout}
@@ -46,6 +47,14 @@ unfolding text_in
 text_in-past layout bytes some long past =
     ap (option_map text_of) (records_in-first layout bytes some long ∙ ap (λ (f : Option (List ℕ × List ℕ)). with_first f (records_in layout)) (first_record-past layout bytes past))
 
+-- CR LF has two bytes
+ending_at-few : (at : Place) → 1 + ending_at at ≤ 3
+ending_at-few place.Record = omega arith
+ending_at-few (place.High low) = omega arith
+ending_at-few (place.Within left pad) = cond_both (eqb left 0) 2 0 (λ (n : ℕ). 1 + n ≤ 3) (λ is. omega arith) (λ is. omega arith)
+ending_at-few (place.LineFeed pad) = omega arith
+ending_at-few place.Pad = omega arith
+
 -- the first byte of a fixed record
 pub reads-fixed : (size byte rest : ℕ) → 0 < size → size - 1 ≤ rest → ReadsByte (Fixed size) place.Record (place.Within (size - 1) false) byte rest (Some byte)
 reads-fixed size byte rest some fits = record {
@@ -57,6 +66,7 @@ reads-fixed size byte rest some fits = record {
       ∙ sym (option_map-map (λ (more : List ℕ). byte ∷ more) (λ (more : List ℕ). take (size - 1) bytes ++ 13 ∷ 10 ∷ more) (text_in (Fixed size) (drop (size - 1 + 0) bytes)));
   wanted = fits;
   placed = refl;
+  few = ending_at-few (place.Within (size - 1) false);
 }
 
 -- one that goes past the end
@@ -69,6 +79,7 @@ reads-low byte rest more = record {
   text = λ bytes is. sym (option_map_id (text_in Variable (byte ∷ bytes)));
   wanted = more;
   placed = refl;
+  few = omega arith;
 }
 
 pub refuses-low : (byte rest : ℕ) → rest ≡ 0 → RefusesByte Variable place.Record byte rest
@@ -93,6 +104,7 @@ reads-high low byte size rest size_is fits = record {
       ∙ sym (option_map_id (option_map (λ (more : List ℕ). take size bytes ++ 13 ∷ 10 ∷ more) (text_in Variable (drop (size + pads (eqb (size % 2) 1)) bytes))));
   wanted = fits;
   placed = refl;
+  few = omega (arith, ending_at-few (place.Within size (eqb (size % 2) 1)));
 }
 
 pub refuses-high : (low byte size rest : ℕ) → size ≡ byte * 256 + low → rest < size → RefusesByte Variable (place.High low) byte rest
@@ -124,6 +136,7 @@ reads-within layout left pad byte rest more fits = let some : 0 < left = some-le
       ∙ sym (option_map-map (λ (more : List ℕ). byte ∷ more) (λ (more : List ℕ). take (left - 1) bytes ++ 13 ∷ 10 ∷ more) (text_in layout (drop (left - 1 + pads pad) bytes)));
   wanted = omega arith;
   placed = placed-within layout (left - 1) pad;
+  few = ending_at-few (place.Within (left - 1) pad);
 }
 
 -- a pad byte
@@ -132,6 +145,7 @@ reads-pad layout byte rest placed = record {
   text = λ bytes is. sym (option_map_id (text_in layout bytes));
   wanted = omega arith;
   placed = placed;
+  few = omega arith;
 }
 
 -- what is said of an error, where it holds

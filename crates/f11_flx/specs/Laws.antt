@@ -3,10 +3,10 @@ use Rattle.std.specs.Prelude.{◌≡◌, ℕ, ◌+◌, ◌*◌, ◌<◌, ◌≤�
 use Rattle.std.specs.List.{concat}
 use Rattle.f11_bytes.specs.Words.{word}
 use Rattle.f11_store.specs.File.{File, length_of, stated_end}
-use Rattle.f11_flx.specs.Lines.{without_zeros, has_crlf, lines_of, text_of, filled}
+use Rattle.f11_flx.specs.Lines.{without_zeros, has_crlf, lines_of, text_of, in_whole_blocks}
 use Rattle.f11_flx.specs.Records.{layout_of, some_of, records_in, records_of}
 use Rattle.f11_flx.specs.Spelled.{image_attributes, text_attributes, variable_records}
-use Rattle.f11_flx.specs.ToText.{ends_record, rest_of, text_left}
+use Rattle.f11_flx.specs.ToText.{ends_record, rest_of, text_left, Converts, StopsAt}
 use Rattle.f11_flx.specs.ToRecords.{bytes_to_come, gives, is_too_long, longest_given, longest_with, open_of}
 use Rattle.f11_flx.specs.Walk.{Walk, bytes_left, end_by, place_of, walk_from_start, TakesRecord}
 use Rattle.f11_flx.specs.declared.to_text.ToText.{ToText}
@@ -21,7 +21,7 @@ pub record IsOneLine (line : List ℕ) : Type 0 where
 
 -- records that are lines each come back from their text
 abbrev pub LinesComeBack : Type 0
-LinesComeBack = (records : List (List ℕ)) → All IsOneLine records → lines_of (without_zeros (filled (text_of records))) ≡ records
+LinesComeBack = (records : List (List ℕ)) → All IsOneLine records → lines_of (without_zeros (in_whole_blocks (text_of records))) ≡ records
 
 -- lines come back from the records that spell them
 abbrev pub RecordsComeBack : Type 0
@@ -65,6 +65,13 @@ StartHasAll =
 abbrev pub TextEnds : Type 0
 TextEnds = (s : ToText) (bytes : List ℕ) → rest_of s ≡ 0 → ends_record s ≡ false → text_left s bytes ≡ Some []
 
+-- where the source has the rest of a file that has no text, a conversion fills the target or refuses
+abbrev pub TextIsRefused : Type 0
+TextIsRefused =
+    (old new : ToText) (source target : List ℕ) (used from to : ℕ) →
+    Converts old new source used target from to → StopsAt new source used to →
+    rest_of old ≤ length source → text_left old source ≡ None → to ≡ 512
+
 -- a text that is read to its end and whose last line is ended has no more records to come, and what was found of its lines
 -- holds of all of them
 pub record HasNoMore (s : ToRecords) : Type 0 where
@@ -75,12 +82,16 @@ pub record HasNoMore (s : ToRecords) : Type 0 where
 abbrev pub RecordsEnd : Type 0
 RecordsEnd = (s : ToRecords) → open_of s ≡ 0 → gives s ≡ false → HasNoMore s
 
+-- the records of a text's lines take at most twice its bytes, and two more
+abbrev pub RecordsAreFew : Type 0
+RecordsAreFew = (bytes : List ℕ) → length (variable_records (lines_of (without_zeros bytes))) ≤ 2 * length bytes + 2
+
 -- a file with the attributes and the bytes of a copied text has its lines as records
 abbrev pub CopyHasLines : Type 0
 CopyHasLines =
     (lines : List (List ℕ)) (file : File) (longest : ℕ) →
     file.attr ≡ text_attributes longest (length_of file) (length (variable_records lines)) →
-    concat file.blocks ≡ filled (variable_records lines) → length (concat file.blocks) ≡ 512 * length_of file →
+    concat file.blocks ≡ in_whole_blocks (variable_records lines) → length (concat file.blocks) ≡ 512 * length_of file →
     records_of file ≡ Some lines
 
 -- the attributes of an image say that the file ends with its last block

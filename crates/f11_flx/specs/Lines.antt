@@ -55,5 +55,5 @@ abbrev pub text_of : List (List ℕ) → List ℕ
 text_of lines = flat_map (λ line. line ++ (13 ∷ 10 ∷ [])) lines
 
 -- bytes with zeros up to the end of their last block
-abbrev pub filled : List ℕ → List ℕ
-filled bytes = bytes ++ replicate ((512 - length bytes % 512) % 512) 0
+abbrev pub in_whole_blocks : List ℕ → List ℕ
+in_whole_blocks bytes = bytes ++ replicate ((512 - length bytes % 512) % 512) 0

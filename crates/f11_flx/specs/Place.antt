@@ -32,6 +32,14 @@ is_ending (place.Within left pad) = left == 0
 is_ending (place.LineFeed pad) = true
 is_ending place.Pad = false
 
+-- how many bytes of CR LF are to come before a byte is read
+abbrev pub ending_at : Place → ℕ
+ending_at place.Record = 0
+ending_at (place.High low) = 0
+ending_at (place.Within left pad) = if left == 0 then 2 else 0
+ending_at (place.LineFeed pad) = 1
+ending_at place.Pad = 0
+
 -- how many bytes are to come at least
 abbrev pub wanted_at : Place → ℕ
 wanted_at place.Record = 0
@@ -54,6 +62,7 @@ pub record ReadsByte (layout : Layout) (old new : Place) (byte rest : ℕ) (give
   pub text : (bytes : List ℕ) → length bytes ≡ rest → text_from layout old (byte ∷ bytes) ≡ option_map (λ more. option_to_list given ++ more) (text_from layout new bytes)
   pub wanted : wanted_at new ≤ rest
   pub placed : IsTrue (has_place layout new)
+  pub few : length (option_to_list given) + ending_at new ≤ 3
 
 -- a record goes past the end, whatever the bytes behind this one are
 abbrev pub RefusesByte : Layout → Place → ℕ → ℕ → Type 0

@@ -1,8 +1,8 @@
 -- What the conversion of records into a text gives (RSX-11M Utilities manual, FLX).
-use Rattle.std.specs.Prelude.{◌≡◌, ◌⊎◌, ℕ, ◌+◌, ◌≤◌, false, Bool, List, ◌∷◌, ◌++◌, length, take, drop, slice_range, Option, None, option_map, option_to_list}
+use Rattle.std.specs.Prelude.{◌≡◌, ◌⊎◌, ℕ, ◌+◌, ◌*◌, ◌≤◌, false, Bool, List, ◌∷◌, ◌++◌, length, take, drop, slice_range, Option, None, option_map, option_to_list}
 use Rattle.f11_store.specs.File.{File}
 use Rattle.f11_flx.specs.Lines.{text_of}
-use Rattle.f11_flx.specs.Place.{text_from, is_ending}
+use Rattle.f11_flx.specs.Place.{text_from, is_ending, ending_at}
 use Rattle.f11_flx.specs.Records.{records_of}
 use Rattle.f11_flx.specs.declared.to_text.ToText.{ToText}
 
@@ -22,13 +22,19 @@ text_left s bytes = text_from s.layout s.place (take s.rest bytes)
 abbrev pub ends_record : ToText → Bool
 ends_record s = is_ending s.place
 
+-- how many bytes of CR LF are to come before a byte is read
+abbrev pub ending_of : ToText → ℕ
+ending_of s = ending_at s.place
+
 -- So many bytes of the source were read, and bytes were put into the target: whatever follows the source, the text to come
--- was these bytes, and then what is to come for the rest of the source and what follows it.
+-- was these bytes, and then what is to come for the rest of the source and what follows it. For a byte that was read there are
+-- three at most: itself, CR and LF.
 pub record Converts (old new : ToText) (source : List ℕ) (used : ℕ) (target : List ℕ) (from to : ℕ) : Type 0 where
   pub text : (more : List ℕ) → rest_of old ≤ length (source ++ more) → text_left old (source ++ more) ≡ option_map (λ text. slice_range target from to ++ text) (text_left new (drop used source ++ more))
   pub read : rest_of new + used ≡ rest_of old
   pub within : used ≤ length source
   pub order : from ≤ to
+  pub few : to + ending_of new ≤ from + ending_of old + 3 * used
 
 -- no text is to come, whatever follows the source
 abbrev pub HasNoText : ToText → List ℕ → Type 0
@@ -46,11 +52,13 @@ StopsAt s source used to = (to ≡ 512) ⊎ Stops s source used
 pub record EndsRecord (old new : ToText) (byte : ℕ) : Type 0 where
   pub text : (bytes : List ℕ) → text_left old bytes ≡ option_map (λ text. byte ∷ text) (text_left new bytes)
   pub rest : rest_of new ≡ rest_of old
+  pub few : ending_of new + 1 ≡ ending_of old
 
 -- a byte of the file was read
 pub record ReadsOn (old new : ToText) (byte : ℕ) (given : Option ℕ) : Type 0 where
   pub text : (bytes : List ℕ) → rest_of new ≤ length bytes → text_left old (byte ∷ bytes) ≡ option_map (λ text. option_to_list given ++ text) (text_left new bytes)
   pub rest : rest_of new + 1 ≡ rest_of old
+  pub few : length (option_to_list given) + ending_of new ≤ 3
 
 -- a record goes past the end, whatever follows this byte
 abbrev pub RefusesOn : ToText → ℕ → Type 0
@@ -63,3 +71,4 @@ pub record Steps (old new : ToText) (source : List ℕ) (used next : ℕ) (given
   pub within : next ≤ length source
   pub order : used ≤ next
   pub progress : used + 1 ≤ next + length (option_to_list given)
+  pub few : length (option_to_list given) + ending_of new + 3 * used ≤ ending_of old + 3 * next

@@ -25,11 +25,13 @@ pub fn walks()
 /// When a conversion is done: [`ToText`](crate::ToText) and [`ToRecords`](crate::ToRecords) have nothing more to give.
 pub fn ends()
     ensures text { laws.TextEnds }
+    ensures refused { laws.TextIsRefused }
     ensures records { laws.RecordsEnd }
 {}
 
 /// What a copy says of itself: its attributes fit its bytes.
 pub fn copies()
     ensures text { laws.CopyHasLines }
+    ensures few { laws.RecordsAreFew }
     ensures image { laws.ImageEndsWithBlocks }
 {}

@@ -10,7 +10,7 @@ loop-to-preserved c =
     let put = c.put-to.ensures in
     record {
       converts = Converts-more c.args.self.now c.loop-to.self c.step.new.self c.args.source.now c.loop-to.used _ c.loop-to.target c.put-to.new.block c.args.from c.loop-to.to c.put-to.result _ held.converts step
-          (slice_range-more c.args.from held.converts.order (omega (arith, put.place)) put.puts put.put) (omega (arith, put.place));
+          (slice_range-more c.args.from held.converts.order (omega (arith, put.place)) put.puts put.put) put.place;
       puts = PutsAt-more held.converts.order (omega (arith, put.place)) held.puts put.puts;
       room = put.within;
     }
