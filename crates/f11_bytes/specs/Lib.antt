@@ -3,3 +3,4 @@ pub mod Words
 pub mod Part
 pub mod Bits
 pub mod Octal
+pub mod Trailing

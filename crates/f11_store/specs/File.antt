@@ -1,6 +1,6 @@
 -- A file of the plain store, and how far its bytes go.
 -- A section in parentheses is one of the Files-11 On-Disk Structure Level 1 specification; 'profile' is a rule of this project.
-use Rattle.std.specs.Prelude.{ℕ, ◌+◌, ◌-◌, ◌*◌, ◌/◌, ◌==◌, Bool, List, [], length, min, bit_and, bit_or, if◌then◌else◌, replicate}
+use Rattle.std.specs.Prelude.{ℕ, ◌+◌, ◌-◌, ◌*◌, ◌/◌, ◌==◌, Bool, List, [], ◌∷◌, length, min, bit_and, bit_or, if◌then◌else◌, replicate}
 use Rattle.std.specs.Int.{bit_at}
 unfoldable pub use Rattle.f11_bytes.specs.Block.{zero_block}
 use Rattle.f11_bytes.specs.Words.{word, long}
@@ -45,6 +45,10 @@ without_contiguous c = bit_and c 65407
 -- the headers that n more blocks may need beside the room: one for each 102 blocks past it (profile)
 abbrev pub need : ℕ → ℕ → ℕ
 need room n = (n - room + 101) / 102
+
+-- the five words at the front of an ident area: three of the name, type and version (ident area)
+abbrev pub name_words : List ℕ → List ℕ
+name_words ident = word ident 0 ∷ word ident 2 ∷ word ident 4 ∷ word ident 6 ∷ word ident 8 ∷ []
 
 -- the end in bytes that F.EFBK (byte 8) and F.FFBY (byte 12) state (file attributes)
 unfoldable pub stated_end : List ℕ → ℕ

@@ -1,6 +1,10 @@
 //! What a request says of a file.
 
+ghost use Rattle.std.specs.Prelude.{◌≡◌, ◌<◌, length};
+ghost use Rattle.f11_store.specs.File.{name_words};
+
 use crate::callers::Uic;
+use f11_bytes::read_word;
 use std::fmt;
 
 /// A file identification: slot number, sequence number, relative volume
@@ -67,4 +71,19 @@ pub struct Attr {
     pub ident: [u8; 46],
     /// The user attributes, H.UFAT.
     pub attr: [u8; 32],
+}
+
+/// The five words at the front of an ident area: three of the name, type and version, whatever they are
+/// (Files-11 On-Disk Structure Level 1, ident area).
+pub fn name_words(ident: &[u8]) -> [u16; 5]
+    requires { 9 < length ident.now }
+    ensures { result ≡ name_words ident.now }
+{
+    [
+        read_word(ident, 0),
+        read_word(ident, 2),
+        read_word(ident, 4),
+        read_word(ident, 6),
+        read_word(ident, 8),
+    ]
 }

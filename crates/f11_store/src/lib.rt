@@ -1,7 +1,7 @@
 //! What users of a Files-11 ODS-1 volume ask, what is answered, and the plain store of files and
 //! directories in which the service's promise is said. Nothing here knows a disk.
 //!
-//! Stands on `f11_rad50` (names) and `bitflags` (rights).
+//! Stands on `f11_bytes` (words), `f11_rad50` (names) and `bitflags` (rights).
 #![tactic(auto)]
 
 mod callers;
@@ -13,7 +13,7 @@ mod requests;
 pub mod worked;
 
 pub use callers::{Lun, Task, Uic};
-pub use files::{Attr, Change, FileId, Mode};
+pub use files::{Attr, Change, FileId, Mode, name_words};
 pub use protection::{Class, Right, Rights, allowed, may};
 pub use refusals::Refusal;
 pub use requests::{Reply, Request};
