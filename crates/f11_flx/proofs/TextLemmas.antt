@@ -5,7 +5,6 @@ use Rattle.std.proofs.lemmas.Bool.{cond_both}
 use Rattle.std.proofs.lemmas.Bool.Decides.{nat_tests}
 use Rattle.std.proofs.lemmas.Iterator.Adapters.{option_map_id}
 use Rattle.f11_store.specs.File.{File, end_of}
-use Rattle.std.proofs.Common.{Result, Ok, Err, OnErr}
 use Rattle.std.specs.List.{concat}
 use Rattle.std.specs.Prelude.{option_and_then}
 use Rattle.std.proofs.lemmas.List.{length-take-le}
@@ -147,11 +146,6 @@ reads-pad layout byte rest placed = record {
   placed = placed;
   few = omega arith;
 }
-
--- what is said of an error, where it holds
-pub OnErr-given : {T E P : Type 0} (result : Result T E) → P → OnErr result P
-OnErr-given (Ok value) holds = tt
-OnErr-given (Err error) holds = holds
 
 -- a byte that is refused by how many are behind it is refused where as many follow
 pub refuses-on : (layout : Layout) (at : Place) (byte rest : ℕ) → 0 < rest → RefusesByte layout at byte (rest - 1) → (bytes : List ℕ) → rest ≤ length bytes + 1 → text_from layout at (take rest (byte ∷ bytes)) ≡ None

@@ -7,7 +7,7 @@ ghost use Rattle.f11_flx.specs.Records.{layout_of, some_of};
 ghost use Rattle.f11_flx.specs.Spelled.{text_attributes as attributes_of_text, image_attributes as attributes_of_image, image_of};
 
 use crate::layout::Layout;
-use f11_bytes::{read_long, read_word};
+use f11_bytes::{long_bytes, read_long, read_word, word_bytes};
 
 /// The most blocks that a file has: those of the largest volume.
 pub const MOST_BLOCKS: u32 = 516_096;
@@ -100,20 +100,4 @@ fn attributes(kind: u8, carriage: u8, size: u16, allocation: u32, end: u32) -> [
         kind, carriage, size_low, size_high, a, b, c, d, e, f, g, h, byte_low, byte_high, 0, 0, 0,
         0, 0, 0, 0, 0, 0, 0, 0, 0, 0, 0, 0, 0, 0, 0,
     ]
-}
-
-/// The bytes of a word, low byte first.
-fn word_bytes(word: u16) -> [u8; 2]
-    ensures { result ≡ bytes_of_word word }
-{
-    [(word % 256) as u8, (word / 256) as u8]
-}
-
-/// The bytes of a number of two words, high word first.
-fn long_bytes(long: u32) -> [u8; 4]
-    ensures { result ≡ bytes_of_long long }
-{
-    let [a, b] = word_bytes((long / 65536) as u16);
-    let [c, d] = word_bytes((long % 65536) as u16);
-    [a, b, c, d]
 }
