@@ -5,6 +5,7 @@ pub mod AskLemmas
 pub mod LineLemmas
 pub mod AnswerLemmas
 pub mod OutputLemmas
+pub mod PieceLemmas
 pub mod InputLemmas
 pub mod SpellingLemmas
 pub mod JoinedLemmas

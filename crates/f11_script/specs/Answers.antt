@@ -2,9 +2,11 @@
 use Rattle.std.specs.Prelude.{ℕ, ◌/◌, ◌%◌, ◌==◌, false, List, [], ◌∷◌, ◌++◌, length, take, Option, Result, Ok, Err, codes, slice_index, if◌then◌else◌}
 use Rattle.std.specs.Fmt.{decimal, digit_glyph}
 use Rattle.std.specs.Io.KnownBytes.{Appends}
-use Rattle.std.specs.List.{flat_map, list_all}
+use Rattle.std.specs.List.{flat_map}
+use Rattle.f11_bytes.specs.Trailing.{without_trailing}
 use Rattle.f11_bytes.specs.Words.{word, long}
 use Rattle.f11_rad50.specs.Name.{is_name, name_text}
+use Rattle.f11_store.specs.File.{name_words}
 use Rattle.f11_store.specs.declared.callers.Uic.{Uic}
 use Rattle.f11_store.specs.declared.files.Attr.{Attr}
 use Rattle.f11_store.specs.declared.files.FileId.{FileId}
@@ -22,17 +24,11 @@ hex_digits byte = digit_glyph false (byte / 16) ∷ digit_glyph false (byte % 16
 
 -- bytes up to the last one that isn't 0
 abbrev pub without_zeros : List ℕ → List ℕ
-without_zeros [] = []
-without_zeros (b ∷ bs) = if list_all (λ c. c == 0) (b ∷ bs) then [] else b ∷ without_zeros bs
+without_zeros bytes = without_trailing (λ c. c == 0) bytes
 
 -- a block in hex up to its last byte that isn't 0, and a hyphen for a block of zeros
 abbrev pub data_text : List ℕ → List ℕ
 data_text block = if length (without_zeros block) == 0 then codes "-" else flat_map hex_digits (without_zeros block)
-
--- the five words at the front of an ident area: three of the name, type, version
--- (Files-11 On-Disk Structure Level 1, ident area)
-abbrev pub name_words : List ℕ → List ℕ
-name_words ident = word ident 0 ∷ word ident 2 ∷ word ident 4 ∷ word ident 6 ∷ word ident 8 ∷ []
 
 -- the text of a name, and a question mark for words that are none
 abbrev pub name_or_mark : List ℕ → List ℕ
@@ -64,8 +60,8 @@ done_text (request.ReadBlock _ _) block = codes "ok data " ++ data_text block
 done_text _ block = codes "ok"
 
 -- an identification, a count of things, and the counts of a volume
-abbrev pub file_text : FileId → List ℕ
-file_text id = codes "ok file " ++ id_text id
+abbrev pub told_file_text : FileId → List ℕ
+told_file_text id = codes "ok file " ++ id_text id
 
 abbrev pub count_text : List ℕ → ℕ → List ℕ
 count_text things count = codes "ok " ++ (things ++ (codes " " ++ decimal count))
@@ -77,10 +73,10 @@ space_text free headers slots =
 -- the text of a reply to a request, with the caller's block after it
 abbrev pub reply_text : Request → List ℕ → Reply → List ℕ
 reply_text r block reply.Done = done_text r block
-reply_text r block (reply.Created id) = file_text id
+reply_text r block (reply.Created id) = told_file_text id
 reply_text r block (reply.Length blocks) = count_text (codes "blocks") blocks
 reply_text r block (reply.Slots slots) = count_text (codes "slots") slots
-reply_text r block (reply.Found id) = file_text id
+reply_text r block (reply.Found id) = told_file_text id
 reply_text r block (reply.Attr a) = attr_text a
 reply_text r block (reply.Space free headers slots) = space_text free headers slots
 

@@ -5,5 +5,6 @@ pub mod Verbs
 pub mod Requests
 pub mod Input
 pub mod Lines
+pub mod Pieces
 pub mod Answers
 pub mod Spelling

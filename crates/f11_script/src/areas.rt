@@ -1,29 +1,13 @@
 //! The areas of a header that a line's words stand for.
 
 ghost use Rattle.std.specs.Prelude.{◌≡◌};
-ghost use Rattle.f11_bytes.specs.Words.{long_bytes, word_bytes};
 ghost use Rattle.f11_script.specs.Requests as specs;
 
+use f11_bytes::{long_bytes, word_bytes};
 use f11_rad50::Name;
 
 /// The type `DIR` in Radix-50.
 const DIRECTORY: u16 = 6778;
-
-/// The bytes of a word, the low one first.
-fn word_bytes(word: u16) -> [u8; 2]
-    ensures { result ≡ word_bytes word }
-{
-    [(word % 256) as u8, (word / 256) as u8]
-}
-
-/// The bytes of a number of two words, the high one first.
-fn long_bytes(number: u32) -> [u8; 4]
-    ensures { result ≡ long_bytes number }
-{
-    let [a, b] = word_bytes((number / 65536) as u16);
-    let [c, d] = word_bytes((number % 65536) as u16);
-    [a, b, c, d]
-}
 
 /// An ident area with a name, and zeros behind it
 /// (Files-11 On-Disk Structure Level 1, ident area).

@@ -1,6 +1,7 @@
 //! The language of scripts for a Files-11 ODS-1 volume: what a line asks, and how it is answered.
 //!
-//! Stands on `f11_rad50` (names), `f11_store` (requests), `arrayvec` (texts of fixed capacity) and `thiserror`.
+//! Stands on `f11_bytes` (words), `f11_rad50` (names), `f11_store` (requests), `arrayvec` (texts of fixed capacity), `itoa`
+//! (numbers in decimal) and `thiserror`.
 #![tactic(auto)]
 
 mod answer;
@@ -13,6 +14,7 @@ pub mod laws;
 mod line;
 mod output;
 mod requests;
+mod text;
 mod verb;
 mod words;
 

@@ -4,7 +4,7 @@ ghost use Rattle.std.specs.Prelude.{◌≡◌, ◌<◌, ◌≤◌, IfErr, OnErr,
 ghost use Rattle.std.specs.Io.KnownBytes.{Appends, Keeps};
 ghost use Rattle.f11_script.specs.Answers.{AppendsSome, answer_line, bad_line_text};
 
-use crate::answer::{Text, put_answer};
+use crate::answer::answer_line;
 use crate::errors::{ScriptError, TRIES};
 use f11_store::{Refusal, Reply, Request};
 use std::io::{ErrorKind, Write};
@@ -30,11 +30,8 @@ pub fn reply<W: Write>(
         (answer_line request.now block.now answer.now)) }
     ensures error { IfErr result (λ e. e ≡ ScriptError.WriteFault) }
 {
-    let mut text = Text::new();
-    if put_answer(&mut text, request, answer, block).is_err() {
-        return Err(ScriptError::WriteFault);
-    }
-    put(writer, text.as_str().as_bytes())
+    let line = answer_line(request, answer, block);
+    put(writer, line.as_slice())
 }
 
 /// Writes the line that answers a bad line, `bad line`.
@@ -43,8 +40,10 @@ pub fn reply<W: Write>(
 ///
 /// As [`reply`].
 pub fn bad_line<W: Write>(writer: &mut W) -> Result<(), ScriptError>
-    ensures done { OnOk result (Appends (W.contents writer.old) (W.contents writer.new) bad_line_text) }
-    ensures failed { OnErr result (AppendsSome (W.contents writer.old) (W.contents writer.new) bad_line_text) }
+    ensures done { OnOk result
+        (Appends (W.contents writer.old) (W.contents writer.new) bad_line_text) }
+    ensures failed { OnErr result
+        (AppendsSome (W.contents writer.old) (W.contents writer.new) bad_line_text) }
     ensures error { IfErr result (λ e. e ≡ ScriptError.WriteFault) }
 {
     put(writer, b"bad line\n")
@@ -53,7 +52,8 @@ pub fn bad_line<W: Write>(writer: &mut W) -> Result<(), ScriptError>
 /// Writes all bytes.
 fn put<W: Write>(writer: &mut W, bytes: &[u8]) -> Result<(), ScriptError>
     ensures done { OnOk result (Appends (W.contents writer.old) (W.contents writer.new) bytes.now) }
-    ensures failed { OnErr result (AppendsSome (W.contents writer.old) (W.contents writer.new) bytes.now) }
+    ensures failed { OnErr result
+        (AppendsSome (W.contents writer.old) (W.contents writer.new) bytes.now) }
     ensures error { IfErr result (λ e. e ≡ ScriptError.WriteFault) }
 {
     let mut at = 0;
@@ -66,8 +66,10 @@ fn put<W: Write>(writer: &mut W, bytes: &[u8]) -> Result<(), ScriptError>
 /// Writes some first bytes, at least one, and gives their number; an interrupted write is tried again.
 fn put_some<W: Write>(writer: &mut W, bytes: &[u8]) -> Result<usize, ScriptError>
     ensures written { MatchResult result
-        (λ n. (0 < n) × (n ≤ length bytes.now) × Appends (W.contents writer.old) (W.contents writer.new) (take n bytes.now))
-        (λ e. (e ≡ ScriptError.WriteFault) × Keeps (W.contents writer.old) (W.contents writer.new)) }
+        (λ n. (0 < n) × (n ≤ length bytes.now)
+        × Appends (W.contents writer.old) (W.contents writer.new) (take n bytes.now))
+        (λ e. (e ≡ ScriptError.WriteFault)
+        × Keeps (W.contents writer.old) (W.contents writer.new)) }
 {
     for _ in 0..=TRIES {
         match writer.write(bytes) {

@@ -1,8 +1,5 @@
-use Rattle.std.proofs.lemmas.Result.{on_ok_weaker}
-use Rattle.f11_script.proofs.AnswerLemmas.{three_pieces}
+use Rattle.f11_script.proofs.PieceLemmas.{Puts-then}
 use Rattle.f11_script.proofs.answer.put_attr.Goals as goal
 
 pub returns : goal.returns
-returns c =
-    on_ok_weaker c.put_user_attr.result
-    (λ last. three_pieces _ _ _ _ _ _ _ c.in_ok-put_owner.ensures c.in_ok-put_name.ensures last) c.put_user_attr.ensures
+returns c = Puts-then c.put_owner.ensures (Puts-then c.put_name.ensures (c.put_user_attr.ensures))

@@ -1,5 +1,6 @@
-use Rattle.f11_script.proofs.AnswerLemmas.{text_written}
+use Rattle.f11_script.proofs.PieceLemmas.{Puts-fewer, Puts-then}
+use Rattle.std.proofs.Common.{arith}
 use Rattle.f11_script.proofs.answer.put_count.Goals as goal
 
 pub returns : goal.returns
-returns c = text_written c.write.result _ _ _ c.write.ensures.writes
+returns c = Puts-fewer (omega arith) (Puts-then c.put.ensures (Puts-then c.put-2.ensures (Puts-then c.put-3.ensures (c.put_number.ensures))))

@@ -1,5 +1,5 @@
-use Rattle.f11_script.proofs.AnswerLemmas.{text_written}
+use Rattle.f11_script.proofs.PieceLemmas.{Puts-then}
 use Rattle.f11_script.proofs.answer.put_file.Goals as goal
 
 pub returns : goal.returns
-returns c = text_written c.write.result _ _ _ c.write.ensures.writes
+returns c = Puts-then c.put.ensures (c.put_id.ensures)

@@ -1,5 +1,5 @@
-use Rattle.f11_script.proofs.AnswerLemmas.{text_written}
+use Rattle.f11_script.proofs.PieceLemmas.{Puts-then}
 use Rattle.f11_script.proofs.answer.put_owner.Goals as goal
 
 pub returns : goal.returns
-returns c = text_written c.write.result _ _ _ (rw (c.in_radix.ensures, c.in_radix-2.ensures) at c.write.ensures.writes)
+returns c = Puts-then c.put.ensures (Puts-then c.put_uic.ensures (Puts-then c.put-2.ensures (Puts-then c.put_octal.ensures (Puts-then c.put-3.ensures (Puts-then c.put_octal-2.ensures (c.put-4.ensures))))))

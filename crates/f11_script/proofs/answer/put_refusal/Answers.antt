@@ -1,5 +1,0 @@
-use Rattle.f11_script.proofs.AnswerLemmas.{text_written}
-use Rattle.f11_script.proofs.answer.put_refusal.Goals as goal
-
-pub returns : goal.returns
-returns c = text_written c.write.result _ _ _ c.write.ensures.writes
