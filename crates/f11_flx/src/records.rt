@@ -49,7 +49,8 @@ impl Records {
     /// `BadRecord` where the attributes don't say how the records lie.
     pub fn new(attr: &[u8; 32], allocation: u32) -> Result<Records, BadRecord>
         requires { allocation ≤ 516096 }
-        ensures starts { IfOk result (λ records. layout_of attr.now ≡ Some (walk_of records).layout) }
+        ensures starts { IfOk result (λ records.
+            layout_of attr.now ≡ Some (walk_of records).layout) }
         ensures from_start { IfOk result (λ records.
             walk_of records ≡ walk_from_start (walk_of records).layout attr.now allocation) }
         ensures bad { IsErr result ↔ (layout_of attr.now ≡ None) }

@@ -15,15 +15,16 @@ use Rattle.f11_rad50.specs.Name.{IsName, is_name_character, name_of, type_of, ve
 use Rattle.f11_rad50.proofs.Spelled.{both}
 use Rattle.f11_rad50.proofs.Texts.{IsVersion-octal}
 use Rattle.f11_rad50.proofs.Words.{is_name_character-space}
+use Rattle.f11_store.specs.Text.{id_text, octal_digits, uic_text}
 use Rattle.f11_store.specs.declared.callers.Uic.{Uic}
 use Rattle.f11_store.specs.declared.files.FileId.{FileId}
 use Rattle.f11_store.specs.declared.files.Mode.TheVariants as mode
 use Rattle.f11_script.specs.Reading.{words_of}
 use Rattle.f11_script.specs.Fields.{is_hex}
 use Rattle.f11_script.specs.Lines.{is_comment, request_line}
-use Rattle.f11_script.specs.Spelling.{Sentence, create, extend, truncate, delete, grow, access, close, release, read, fill, write, find, enter, remove, attr, set_attr, protect, space, octal_text, file_text, code_text, sentence_words, line_words, line_text, line_call, IsInRange, IsId, SpelledIsRead}
+use Rattle.f11_script.specs.Spelling.{Sentence, create, extend, truncate, delete, grow, access, close, release, read, fill, write, find, enter, remove, attr, set_attr, protect, space, sentence_words, line_words, line_text, line_call, IsInRange, IsId, SpelledIsRead}
 use Rattle.f11_script.proofs.LineLemmas.{call}
-use Rattle.f11_script.proofs.SpellingLemmas.{octal_numeral, words_read}
+use Rattle.f11_script.proofs.SpellingLemmas.{id_text-alone, octal_numeral, uic_text-inside, words_read}
 
 -- a byte that is no space, and a word without one
 abbrev is_plain : ℕ → Bool
@@ -59,18 +60,20 @@ plain_number n small =
     let below : n < 2 ^ 64 = omega (arith, small) in
     plain_digits 10 (decimal n) (omega arith) (decimal_is_IsNumeral n below).0.1
 
-plain_octal : (n : ℕ) → plain (octal_text n) ≡ true
-plain_octal n = plain_digits 8 (octal_text n) (omega arith) (octal_numeral n).0.1
+plain_octal : (n : ℕ) → n ≤ 65535 → plain (octal_digits n) ≡ true
+plain_octal n small = plain_digits 8 (octal_digits n) (omega arith) (octal_numeral n small).0.1
 
-plain_id : (id : FileId) → IsId id → plain (file_text id) ≡ true
+plain_id : (id : FileId) → IsId id → plain (id_text id) ≡ true
 plain_id id h =
-    list_all-append is_plain (decimal id.number) (44 ∷ decimal id.sequence)
+    ap plain (id_text-alone id h)
+    ∙ list_all-append is_plain (decimal id.number) (44 ∷ decimal id.sequence)
     ∙ rw (plain_number id.number (omega (arith, h.number)), plain_number id.sequence (omega (arith, h.sequence))) refl
 
-plain_code : (uic : Uic) → plain (code_text uic) ≡ true
-plain_code uic =
-    list_all-append is_plain (octal_text uic.group ++ (44 ∷ octal_text uic.member)) (93 ∷ [])
-    ∙ rw (list_all-append is_plain (octal_text uic.group) (44 ∷ octal_text uic.member), plain_octal uic.group, plain_octal uic.member) refl
+plain_code : (uic : Uic) → uic.group ≤ 255 → uic.member ≤ 255 → plain (uic_text uic) ≡ true
+plain_code uic group member =
+    ap plain (uic_text-inside uic)
+    ∙ list_all-append is_plain (octal_digits uic.group ++ (44 ∷ octal_digits uic.member)) (93 ∷ [])
+    ∙ rw (list_all-append is_plain (octal_digits uic.group) (44 ∷ octal_digits uic.member), plain_octal uic.group (omega (arith, group)), plain_octal uic.member (omega (arith, member))) refl
 
 plain_part : (cs : List ℕ) → AllPass is_name_character cs → plain cs ≡ true
 plain_part cs h = list_all-from_AllPass is_plain cs (λ k d within. turned _ (ne_eqb _ 32 (is_name_character-space _ (h k d within))))
@@ -102,7 +105,7 @@ plain_hex text h = digits text (both _ _ h).1
     digits (d ∷ ds) k = rw (digit d (both _ _ k).0) (digits ds (both _ _ k).1)
 
 plain_sentence : (s : Sentence) → IsInRange s → list_all plain (sentence_words s) ≡ true
-plain_sentence (create name word) h = rw (plain_name name h.0, plain_octal word) refl
+plain_sentence (create name word) h = rw (plain_name name h.0, plain_octal word h.1) refl
 plain_sentence (extend lun n) h = rw (plain_number lun (omega (arith, h.0)), plain_number n h.1) refl
 plain_sentence (truncate lun n) h = rw (plain_number lun (omega (arith, h.0)), plain_number n h.1) refl
 plain_sentence (delete f) h = rw (plain_id f h) refl
@@ -113,7 +116,7 @@ plain_sentence (access f mode.Write lun) h = rw (plain_id f h.0, plain_number lu
 plain_sentence (close lun) h = rw (plain_number lun (omega (arith, h))) refl
 plain_sentence release h = refl
 plain_sentence (read lun vbn) h = rw (plain_number lun (omega (arith, h.0)), plain_number vbn h.1) refl
-plain_sentence (fill lun vbn byte) h = rw (plain_number lun (omega (arith, h.0)), plain_number vbn h.1, plain_octal byte) refl
+plain_sentence (fill lun vbn byte) h = rw (plain_number lun (omega (arith, h.0)), plain_number vbn h.1, plain_octal byte (omega (arith, h.2))) refl
 plain_sentence (write lun vbn hex) h = rw (plain_number lun (omega (arith, h.0)), plain_number vbn h.1, plain_hex hex h.2) refl
 plain_sentence (find d name) h = rw (plain_id d h.0, plain_name name h.1) refl
 plain_sentence (enter d name f) h = rw (plain_id d h.0, plain_name name h.1, plain_id f h.2) refl
@@ -129,13 +132,13 @@ plain_sentence (set_attr f rtyp ratt rsiz hibk efbk ffby) h =
       plain_number efbk h.5,
       plain_number ffby (omega (arith, h.6)),
     ) refl
-plain_sentence (protect f word) h = rw (plain_id f h.0, plain_octal word) refl
+plain_sentence (protect f word) h = rw (plain_id f h.0, plain_octal word h.1) refl
 plain_sentence space h = refl
 
 -- the words of a line
-words_of-line : (task : ℕ) (uic : Uic) (s : Sentence) → IsInRange s → words_of (line_text task uic s) ≡ line_words task uic s
-words_of-line task uic s h =
-    words_of-joined (octal_text task) (code_text uic ∷ sentence_words s) (rw (plain_octal task, plain_code uic) (plain_sentence s h))
+words_of-line : (task : ℕ) (uic : Uic) (s : Sentence) → task ≤ 7 → uic.group ≤ 255 → uic.member ≤ 255 → IsInRange s → words_of (line_text task uic s) ≡ line_words task uic s
+words_of-line task uic s t group member h =
+    words_of-joined (octal_digits task) (uic_text uic ∷ sentence_words s) (rw (plain_octal task (omega (arith, t)), plain_code uic group member) (plain_sentence s h))
 
 -- a line begins with a digit
 no_comment : (digits rest : List ℕ) → 0 < length digits → AllDigits 8 digits → is_comment (digits ++ rest) ≡ false
@@ -148,7 +151,7 @@ no_comment (d ∷ ds) rest some h =
 
 pub spelled_is_read : SpelledIsRead
 spelled_is_read task uic s block t group member h short =
-    let digits = (octal_numeral task).0 in
+    let digits = (octal_numeral task (omega (arith, t))).0 in
     sym (call (line_text task uic s) block (line_words task uic s) (Some (request_line (line_call task uic s block))) short
-    (no_comment (octal_text task) (32 ∷ join_with_byte 32 (code_text uic ∷ sentence_words s)) digits.0 digits.1)
-    (sym (words_of-line task uic s h)) (ap (option_map request_line) (words_read task uic s block t group member h)) _ refl)
+    (no_comment (octal_digits task) (32 ∷ join_with_byte 32 (uic_text uic ∷ sentence_words s)) digits.0 digits.1)
+    (sym (words_of-line task uic s t group member h)) (ap (option_map request_line) (words_read task uic s block t group member h)) _ refl)

@@ -1,21 +1,21 @@
 -- What is spelled is read.
-use Rattle.std.proofs.Common.{◌≡◌, ℕ, ◌+◌, ◌<◌, ◌≤◌, ◌==◌, ◌^◌, Bool, true, false, List, [], ◌∷◌, ◌++◌, length, take, get_or, map, nat_le, ◌-◌, Option, Some, None, if◌then◌else◌, refl, sym, ◌∙◌, ap, arith, length-append}
+use Rattle.std.proofs.Common.{◌≡◌, inl, inr, ℕ, ◌+◌, ◌<◌, ◌≤◌, ◌==◌, ◌^◌, true, false, List, [], ◌∷◌, ◌++◌, length, take, get_or, nat_le, ◌-◌, ◌/◌, ◌%◌, zero, suc, Option, Some, None, refl, sym, subst, ◌∙◌, ap, arith, append_assoc, length-append}
 use Rattle.std.specs.Char.{digit_value, is_digit}
-use Rattle.std.specs.Fmt.{decimal}
-use Rattle.std.specs.Int.Digits.{digits_of}
+use Rattle.std.specs.Fmt.{decimal, digit_glyph, digits, digits_onto}
 use Rattle.std.specs.List.{list_all}
 use Rattle.std.specs.Str.Parse.{AllDigits, IsNumeral, digits_value}
-use Rattle.std.proofs.lemmas.Bool.{lt-ltb, le-leb}
+use Rattle.std.proofs.lemmas.Bool.{cases_Bool, cond-false, cond-true, eq-eqb, lt-ltb, le-leb}
 use Rattle.std.proofs.lemmas.Bool.Decides.{nat_tests}
-use Rattle.std.proofs.lemmas.Fmt.{decimal_is_IsNumeral, length-decimal-le}
-use Rattle.std.proofs.lemmas.Int.Digits.{all_below_base_digits_of, length-digits_of-le, length-digits_of_step}
+use Rattle.std.proofs.lemmas.Fmt.{decimal_is_IsNumeral, digits_is_IsNumeral, length-decimal-le}
+use Rattle.std.proofs.Math.Nat.{pow-suc}
 use Rattle.std.proofs.Math.Seq.{take-append_seam}
-use Rattle.std.proofs.lemmas.List.{length-map, get_or-append-add}
+use Rattle.std.proofs.lemmas.List.{append-nil, get_or-append-add}
 use Rattle.std.proofs.lemmas.List.Sums.{AllPass-from_list_all}
 use Rattle.std.proofs.lemmas.Str.Parse.{digit_from_value}
-use Rattle.f11_rad50.specs.Name.{IsName, is_name_character, name_text, octal, words_spelled}
+use Rattle.f11_rad50.specs.Name.{IsName, is_name_character, name_text, words_spelled}
 use Rattle.f11_rad50.proofs.Spelled.{cut_at-front, words_spelled-every}
-use Rattle.f11_rad50.proofs.Texts.{Spells-name_text, digits-written, digits_value-octal}
+use Rattle.f11_rad50.proofs.Texts.{Spells-name_text}
+use Rattle.f11_store.specs.Text.{id_text, octal_digits, uic_text, volume_text}
 use Rattle.f11_store.specs.declared.callers.Uic.{Uic}
 use Rattle.f11_store.specs.declared.files.FileId.{FileId}
 use Rattle.f11_store.specs.declared.files.Mode.TheVariants as mode
@@ -25,7 +25,7 @@ use Rattle.f11_script.specs.Fields.{numeral, value_up_to, id_of, mode_of, bracke
 use Rattle.f11_script.specs.Lines.{call_of}
 use Rattle.f11_script.specs.Verbs.{verb_of}
 use Rattle.f11_script.specs.Requests.{create_asks, extend_asks, truncate_asks, delete_asks, grow_asks, access_asks, close_asks, release_asks, read_asks, fill_asks, write_asks, find_asks, enter_asks, remove_asks, attr_asks, set_attr_asks, protect_asks, space_asks, Ask, verb_asks}
-use Rattle.f11_script.specs.Spelling.{create, extend, truncate, delete, grow, access, close, release, read, fill, find, enter, remove, attr, write, set_attr, protect, space, octal_text, file_text, code_text, Sentence, sentence_words, sentence_asks, IsInRange, IsId, line_words, line_call}
+use Rattle.f11_script.specs.Spelling.{create, extend, truncate, delete, grow, access, close, release, read, fill, find, enter, remove, attr, write, set_attr, protect, space, Sentence, sentence_words, sentence_asks, IsInRange, IsId, line_words, line_call}
 
 digits_pass : (radix : ℕ) (ds : List ℕ) → AllDigits radix ds → list_all (λ c. is_digit c radix) ds ≡ true
 digits_pass radix [] h = refl
@@ -46,36 +46,37 @@ number_read most n bound small =
     numeral_of 10 10 most n (decimal n) is.0 (length-decimal-le 10 n (omega arith) ten below) is.1 small
 
 -- a number in octal
-pub octal_numeral : (n : ℕ) → IsNumeral 8 (octal_text n) × (digits_value 8 (octal_text n) ≡ n)
-unfolding octal_text octal
-octal_numeral n = by_test (n == 0) refl
-  where
-    by_test : (b : Bool) → (n == 0) ≡ b →
-        IsNumeral 8 (if b then 48 ∷ [] else map (λ d. 48 + d) (digits_of 8 n)) × (digits_value 8 (if b then 48 ∷ [] else map (λ d. 48 + d) (digits_of 8 n)) ≡ n)
-    by_test true e = let zero : n ≡ 0 = grind (arith, nat_tests) in ((omega arith, (omega arith, tt)), sym zero)
-    by_test false e =
-        let some : 0 < n = grind (arith, nat_tests) in
-        ((rw (length-map, length-digits_of_step 8 n (omega arith) some) (omega arith), (digits-written (digits_of 8 n) (all_below_base_digits_of 8 n (omega arith))).0), digits_value-octal n)
+pub octal_numeral : (n : ℕ) → n ≤ 65535 → IsNumeral 8 (octal_digits n) × (digits_value 8 (octal_digits n) ≡ n)
+octal_numeral n small = digits_is_IsNumeral 8 false (omega arith) (omega arith) n (omega (arith, small))
 
-length-octal_text : (k n : ℕ) → 0 < k → n < 8 ^ k → length (octal_text n) ≤ k
-unfolding octal_text octal
-length-octal_text k n some below = by_test (n == 0)
-  where
-    by_test : (b : Bool) → length (if b then 48 ∷ [] else map (λ d. 48 + d) (digits_of 8 n)) ≤ k
-    by_test true = omega (arith, some)
-    by_test false = rw length-map (length-digits_of-le 8 k n (omega arith) below)
+length-onto : (k j n : ℕ) (last : List ℕ) → n < 8 ^ suc j → length (digits_onto k 8 false n last) ≤ suc j + length last
+length-onto zero j n last below = omega arith
+length-onto (suc k) zero n last below =
+    let more : List ℕ = digit_glyph false (n % 8) ∷ last in
+    omega (arith, ap length (cond-true (n / 8 == 0) more (digits_onto k 8 false (n / 8) more) (eq-eqb (n / 8) 0 (omega (arith, below)))))
+length-onto (suc k) (suc j) n last below =
+    let more : List ℕ = digit_glyph false (n % 8) ∷ last in
+    let longer = length-onto k j (n / 8) more (omega (arith, below, pow-suc 8 (suc j))) in
+    elim (cases_Bool (n / 8 == 0)) [
+      | inl is ↦ omega (arith, ap length (cond-true (n / 8 == 0) more (digits_onto k 8 false (n / 8) more) is))
+      | inr is ↦ omega (arith, longer, ap length (cond-false (n / 8 == 0) more (digits_onto k 8 false (n / 8) more) is))
+    ]
 
-word_read : (n : ℕ) → n ≤ 65535 → numeral 8 6 65535 (octal_text n) ≡ Some n
+length-octal_digits : (j n : ℕ) → n < 8 ^ suc j → length (octal_digits n) ≤ suc j
+unfolding digits
+length-octal_digits j n below =
+    let none : suc j + length {A = ℕ} [] ≡ suc j = omega arith in
+    subst (λ (m : ℕ). length (digits_onto 64 8 false n []) ≤ m) none (length-onto 64 j n [] below)
+
+word_read : (n : ℕ) → n ≤ 65535 → numeral 8 6 65535 (octal_digits n) ≡ Some n
 word_read n small =
-    let is = octal_numeral n in
-    let below : n < 8 ^ 6 = omega (arith, small) in
-    numeral_of 8 6 65535 n (octal_text n) is.0 (length-octal_text 6 n (omega arith) below) is.1 small
+    let is = octal_numeral n small in
+    numeral_of 8 6 65535 n (octal_digits n) is.0 (length-octal_digits 5 n (omega (arith, small))) is.1 small
 
-byte_read : (n : ℕ) → n ≤ 255 → numeral 8 3 255 (octal_text n) ≡ Some n
+byte_read : (n : ℕ) → n ≤ 255 → numeral 8 3 255 (octal_digits n) ≡ Some n
 byte_read n small =
-    let is = octal_numeral n in
-    let below : n < 8 ^ 3 = omega (arith, small) in
-    numeral_of 8 3 255 n (octal_text n) is.0 (length-octal_text 3 n (omega arith) below) is.1 small
+    let is = octal_numeral n (omega (arith, small)) in
+    numeral_of 8 3 255 n (octal_digits n) is.0 (length-octal_digits 2 n (omega (arith, small))) is.1 small
 
 -- decimal digits may stand in a name, and a comma may not
 pub name_digit : (c : ℕ) → digit_value c < 10 → is_name_character c ≡ true
@@ -97,14 +98,21 @@ comma_out = refl
 same_id : (id : FileId) → IsId id → record { number = id.number; sequence = id.sequence; volume = 0 } ≡ id
 same_id id h = λ i. record { number = id.number; sequence = id.sequence; volume = sym h.volume i }
 
-id_read : (id : FileId) → IsId id → id_of (file_text id) ≡ Some id
+-- an identification on a volume that stands alone
+pub id_text-alone : (id : FileId) → IsId id → id_text id ≡ decimal id.number ++ (44 ∷ decimal id.sequence)
+id_text-alone id h =
+    ap (λ v. decimal id.number ++ (44 ∷ (decimal id.sequence ++ volume_text v))) h.volume
+    ∙ ap (λ t. decimal id.number ++ (44 ∷ t)) (append-nil (decimal id.sequence))
+
+id_read : (id : FileId) → IsId id → id_of (id_text id) ≡ Some id
 unfolding id_of
 id_read id h =
+    let alone : List ℕ = decimal id.number ++ (44 ∷ decimal id.sequence) in
     let below : id.number < 2 ^ 64 = omega (arith, h.number) in
     let digits = (decimal_is_IsNumeral id.number below).0 in
-    let cut = cut_at-front 44 (file_text id) (decimal id.number) (decimal id.sequence)
+    let cut = cut_at-front 44 alone (decimal id.number) (decimal id.sequence)
     (AllPass-from_list_all is_name_character (decimal id.number) (name_digits (decimal id.number) digits.1)) comma_out refl in
-    rw (cut, number_read 65535 id.number (omega arith) h.number, number_read 65535 id.sequence (omega arith) h.sequence) (ap Some (same_id id h))
+    ap id_of (id_text-alone id h) ∙ rw (cut, number_read 65535 id.number (omega arith) h.number, number_read 65535 id.sequence (omega arith) h.sequence) (ap Some (same_id id h))
 
 -- a name
 name_read : (words : List ℕ) → IsName words → words_spelled (name_text words) ≡ Some words
@@ -174,19 +182,22 @@ asked_then : {B : Type 0} (o : Option (Verb × List (List ℕ))) (ask : Ask) (g 
 asked_then None ask g h = absurd (cc)
 asked_then (Some v) ask g h = rw h refl
 
-task_read : (n : ℕ) → n ≤ 7 → numeral 8 1 7 (octal_text n) ≡ Some n
+task_read : (n : ℕ) → n ≤ 7 → numeral 8 1 7 (octal_digits n) ≡ Some n
 task_read n small =
-    let is = octal_numeral n in
-    let below : n < 8 ^ 1 = omega (arith, small) in
-    numeral_of 8 1 7 n (octal_text n) is.0 (length-octal_text 1 n (omega arith) below) is.1 small
+    let is = octal_numeral n (omega (arith, small)) in
+    numeral_of 8 1 7 n (octal_digits n) is.0 (length-octal_digits 0 n (omega (arith, small))) is.1 small
 
-code_read : (uic : Uic) → uic.group ≤ 255 → uic.member ≤ 255 → uic_of (code_text uic) ≡ Some uic
+-- a user's code is what stands between its brackets
+pub uic_text-inside : (uic : Uic) → uic_text uic ≡ 91 ∷ (octal_digits uic.group ++ (44 ∷ octal_digits uic.member)) ++ 93 ∷ []
+uic_text-inside uic = ap (λ t. 91 ∷ t) (sym (append_assoc (octal_digits uic.group) (44 ∷ octal_digits uic.member) (93 ∷ [])))
+
+code_read : (uic : Uic) → uic.group ≤ 255 → uic.member ≤ 255 → uic_of (uic_text uic) ≡ Some uic
 unfolding uic_of
 code_read uic group member =
-    let digits = (octal_numeral uic.group).0 in
-    let cut = cut_at-front 44 (octal_text uic.group ++ (44 ∷ octal_text uic.member)) (octal_text uic.group) (octal_text uic.member)
-    (AllPass-from_list_all is_name_character (octal_text uic.group) (name_octal_digits (octal_text uic.group) digits.1)) comma_out refl in
-    rw (bracketed-inside (octal_text uic.group ++ (44 ∷ octal_text uic.member)), cut, byte_read uic.group group, byte_read uic.member member) refl
+    let digits = (octal_numeral uic.group (omega (arith, group))).0 in
+    let cut = cut_at-front 44 (octal_digits uic.group ++ (44 ∷ octal_digits uic.member)) (octal_digits uic.group) (octal_digits uic.member)
+    (AllPass-from_list_all is_name_character (octal_digits uic.group) (name_octal_digits (octal_digits uic.group) digits.1)) comma_out refl in
+    ap uic_of (uic_text-inside uic) ∙ rw (bracketed-inside (octal_digits uic.group ++ (44 ∷ octal_digits uic.member)), cut, byte_read uic.group group, byte_read uic.member member) refl
 
 pub words_read : (task : ℕ) (uic : Uic) (s : Sentence) (block : List ℕ) → task ≤ 7 → uic.group ≤ 255 → uic.member ≤ 255 → IsInRange s →
     call_of (line_words task uic s) block ≡ Some (line_call task uic s block)

@@ -1,9 +1,10 @@
 -- How requests are spelled as lines, apart from how lines are read (profile).
-use Rattle.std.specs.Prelude.{◌≡◌, ℕ, ◌≤◌, ◌==◌, true, length, List, [], ◌∷◌, ◌++◌, codes, if◌then◌else◌}
+use Rattle.std.specs.Prelude.{◌≡◌, ℕ, ◌≤◌, true, length, List, [], ◌∷◌, codes}
 use Rattle.std.specs.Fmt.{decimal}
 use Rattle.std.specs.List.{join_with_byte}
-use Rattle.f11_rad50.specs.Name.{IsName, name_text, octal}
+use Rattle.f11_rad50.specs.Name.{IsName, name_text}
 use Rattle.f11_store.specs.Run.{Call}
+use Rattle.f11_store.specs.Text.{id_text, octal_digits, uic_text}
 use Rattle.f11_store.specs.declared.callers.Uic.{Uic}
 use Rattle.f11_store.specs.declared.files.FileId.{FileId}
 use Rattle.f11_store.specs.declared.files.Mode.{Mode}
@@ -35,14 +36,7 @@ pub data Sentence : Type 0 where
   protect : FileId → ℕ → Sentence
   space : Sentence
 
--- a number in octal digits; 0 is `0`
-unfoldable pub octal_text : ℕ → List ℕ
-octal_text n = if n == 0 then 48 ∷ [] else octal n
-
--- an identification on a volume that stands alone, and a mode of access
-abbrev pub file_text : FileId → List ℕ
-file_text id = decimal id.number ++ (44 ∷ decimal id.sequence)
-
+-- a mode of access
 abbrev pub mode_text : Mode → List ℕ
 mode_text mode.Read = codes "R"
 mode_text mode.Locked = codes "L"
@@ -50,24 +44,24 @@ mode_text mode.Write = codes "W"
 
 -- its words: a verb and its arguments
 abbrev pub sentence_words : Sentence → List (List ℕ)
-sentence_words (create name word) = codes "CREATE" ∷ name_text name ∷ octal_text word ∷ []
+sentence_words (create name word) = codes "CREATE" ∷ name_text name ∷ octal_digits word ∷ []
 sentence_words (extend lun n) = codes "EXTEND" ∷ decimal lun ∷ decimal n ∷ []
 sentence_words (truncate lun n) = codes "TRUNCATE" ∷ decimal lun ∷ decimal n ∷ []
-sentence_words (delete f) = codes "DELETE" ∷ file_text f ∷ []
+sentence_words (delete f) = codes "DELETE" ∷ id_text f ∷ []
 sentence_words (grow n) = codes "GROW" ∷ decimal n ∷ []
-sentence_words (access f m lun) = codes "ACCESS" ∷ file_text f ∷ mode_text m ∷ decimal lun ∷ []
+sentence_words (access f m lun) = codes "ACCESS" ∷ id_text f ∷ mode_text m ∷ decimal lun ∷ []
 sentence_words (close lun) = codes "CLOSE" ∷ decimal lun ∷ []
 sentence_words release = codes "RELEASE" ∷ []
 sentence_words (read lun vbn) = codes "READ" ∷ decimal lun ∷ decimal vbn ∷ []
-sentence_words (fill lun vbn byte) = codes "FILL" ∷ decimal lun ∷ decimal vbn ∷ octal_text byte ∷ []
+sentence_words (fill lun vbn byte) = codes "FILL" ∷ decimal lun ∷ decimal vbn ∷ octal_digits byte ∷ []
 sentence_words (write lun vbn hex) = codes "WRITE" ∷ decimal lun ∷ decimal vbn ∷ hex ∷ []
-sentence_words (find d name) = codes "FIND" ∷ file_text d ∷ name_text name ∷ []
-sentence_words (enter d name f) = codes "ENTER" ∷ file_text d ∷ name_text name ∷ file_text f ∷ []
-sentence_words (remove d name) = codes "REMOVE" ∷ file_text d ∷ name_text name ∷ []
-sentence_words (attr f) = codes "ATTR" ∷ file_text f ∷ []
+sentence_words (find d name) = codes "FIND" ∷ id_text d ∷ name_text name ∷ []
+sentence_words (enter d name f) = codes "ENTER" ∷ id_text d ∷ name_text name ∷ id_text f ∷ []
+sentence_words (remove d name) = codes "REMOVE" ∷ id_text d ∷ name_text name ∷ []
+sentence_words (attr f) = codes "ATTR" ∷ id_text f ∷ []
 sentence_words (set_attr f rtyp ratt rsiz hibk efbk ffby) =
-    codes "SETATTR" ∷ file_text f ∷ decimal rtyp ∷ decimal ratt ∷ decimal rsiz ∷ decimal hibk ∷ decimal efbk ∷ decimal ffby ∷ []
-sentence_words (protect f word) = codes "PROTECT" ∷ file_text f ∷ octal_text word ∷ []
+    codes "SETATTR" ∷ id_text f ∷ decimal rtyp ∷ decimal ratt ∷ decimal rsiz ∷ decimal hibk ∷ decimal efbk ∷ decimal ffby ∷ []
+sentence_words (protect f word) = codes "PROTECT" ∷ id_text f ∷ octal_digits word ∷ []
 sentence_words space = codes "SPACE" ∷ []
 
 -- what it asks
@@ -119,13 +113,9 @@ IsInRange (set_attr f rtyp ratt rsiz hibk efbk ffby) =
 IsInRange (protect f word) = IsId f × (word ≤ 65535)
 IsInRange space = Unit {0}
 
--- a user's code
-abbrev pub code_text : Uic → List ℕ
-code_text uic = 91 ∷ (octal_text uic.group ++ (44 ∷ octal_text uic.member)) ++ 93 ∷ []
-
 -- the words of a line: a task, a user's code and a sentence
 abbrev pub line_words : ℕ → Uic → Sentence → List (List ℕ)
-line_words task uic s = octal_text task ∷ code_text uic ∷ sentence_words s
+line_words task uic s = octal_digits task ∷ uic_text uic ∷ sentence_words s
 
 -- the call that they ask for, with the caller's block before it
 abbrev pub line_call : ℕ → Uic → Sentence → List ℕ → Call

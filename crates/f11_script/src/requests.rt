@@ -13,56 +13,64 @@ impl<'a> Words<'a> {
     ghost use Rattle.f11_script.specs.Requests.{asks, attr_asks, close_asks, access_asks, create_asks, delete_asks, enter_asks, extend_asks, fill_asks, find_asks, grow_asks, hex_of, protect_asks, read_asks, release_asks, remove_asks, set_attr_asks, space_asks, truncate_asks, verb_asks, with_block, write_asks};
 
     fn number(self) -> Option<(u32, Words<'a>)>
-        ensures { Gives (λ next. (next.0, words_left next.1)) result (argument number_of (words_left self.entry)) }
+        ensures { Gives (λ next. (next.0, words_left next.1)) result
+            (argument number_of (words_left self.entry)) }
     {
         let (word, rest) = self.next()?;
         Some((fields::number(word)?, rest))
     }
 
     fn word(self) -> Option<(u16, Words<'a>)>
-        ensures { Gives (λ next. (next.0, words_left next.1)) result (argument word_of (words_left self.entry)) }
+        ensures { Gives (λ next. (next.0, words_left next.1)) result
+            (argument word_of (words_left self.entry)) }
     {
         let (word, rest) = self.next()?;
         Some((fields::word(word)?, rest))
     }
 
     fn byte(self) -> Option<(u8, Words<'a>)>
-        ensures { Gives (λ next. (next.0, words_left next.1)) result (argument byte_of (words_left self.entry)) }
+        ensures { Gives (λ next. (next.0, words_left next.1)) result
+            (argument byte_of (words_left self.entry)) }
     {
         let (word, rest) = self.next()?;
         Some((fields::byte(word)?, rest))
     }
 
     fn protection(self) -> Option<(u16, Words<'a>)>
-        ensures { Gives (λ next. (next.0, words_left next.1)) result (argument protection_of (words_left self.entry)) }
+        ensures { Gives (λ next. (next.0, words_left next.1)) result
+            (argument protection_of (words_left self.entry)) }
     {
         let (word, rest) = self.next()?;
         Some((fields::protection(word)?, rest))
     }
 
     fn octal_byte(self) -> Option<(u8, Words<'a>)>
-        ensures { Gives (λ next. (next.0, words_left next.1)) result (argument octal_byte_of (words_left self.entry)) }
+        ensures { Gives (λ next. (next.0, words_left next.1)) result
+            (argument octal_byte_of (words_left self.entry)) }
     {
         let (word, rest) = self.next()?;
         Some((fields::octal_byte(word)?, rest))
     }
 
     fn id(self) -> Option<(FileId, Words<'a>)>
-        ensures { Gives (λ next. (next.0, words_left next.1)) result (argument id_of (words_left self.entry)) }
+        ensures { Gives (λ next. (next.0, words_left next.1)) result
+            (argument id_of (words_left self.entry)) }
     {
         let (word, rest) = self.next()?;
         Some((fields::id(word)?, rest))
     }
 
     fn mode(self) -> Option<(Mode, Words<'a>)>
-        ensures { Gives (λ next. (next.0, words_left next.1)) result (argument mode_of (words_left self.entry)) }
+        ensures { Gives (λ next. (next.0, words_left next.1)) result
+            (argument mode_of (words_left self.entry)) }
     {
         let (word, rest) = self.next()?;
         Some((fields::mode(word)?, rest))
     }
 
     fn hex(self) -> Option<(&'a [u8], Words<'a>)>
-        ensures exact { Gives (λ next. (next.0.now, words_left next.1)) result (argument hex_of (words_left self.entry)) }
+        ensures exact { Gives (λ next. (next.0.now, words_left next.1)) result
+            (argument hex_of (words_left self.entry)) }
         ensures digits { IfSome result (λ next. AreHexDigits next.0.now) }
     {
         let (word, rest) = self.next()?;
@@ -251,7 +259,8 @@ impl<'a> Words<'a> {
     /// `FILL lun vbn octal`
     #[tactic(auto, unfolding(crate::specs::Requests::fill_asks))]
     fn fill(self, block: &mut [u8; 512]) -> Option<Request>
-        ensures exact { Gives (λ r. (r, block.new)) result (with_block block.old (fill_asks (words_left self.entry))) }
+        ensures exact { Gives (λ r. (r, block.new)) result
+            (with_block block.old (fill_asks (words_left self.entry))) }
         ensures stays { IfNone result (block.new ≡ block.old) }
     {
         let (word, words) = self.next()?;
@@ -268,7 +277,8 @@ impl<'a> Words<'a> {
     /// `WRITE lun vbn hex`
     #[tactic(auto, unfolding(crate::specs::Requests::write_asks))]
     fn write(self, block: &mut [u8; 512]) -> Option<Request>
-        ensures exact { Gives (λ r. (r, block.new)) result (with_block block.old (write_asks (words_left self.entry))) }
+        ensures exact { Gives (λ r. (r, block.new)) result
+            (with_block block.old (write_asks (words_left self.entry))) }
         ensures stays { IfNone result (block.new ≡ block.old) }
     {
         let (word, words) = self.next()?;
@@ -285,7 +295,8 @@ impl<'a> Words<'a> {
     /// The request of a verb with these words behind it; the block becomes that of `FILL` and `WRITE`.
     #[tactic(auto, using(crate::proofs::AskLemmas::kept))]
     pub(crate) fn request(self, verb: Verb, block: &mut [u8; 512]) -> Option<Request>
-        ensures exact { Gives (λ r. (r, block.new)) result (with_block block.old (verb_asks verb (words_left self.entry))) }
+        ensures exact { Gives (λ r. (r, block.new)) result
+            (with_block block.old (verb_asks verb (words_left self.entry))) }
         ensures stays { IfNone result (block.new ≡ block.old) }
     {
         let words = self;

@@ -22,7 +22,8 @@ impl<'a> Words<'a> {
 
     /// The next word, and those behind it.
     pub(crate) fn next(self) -> Option<(&'a [u8], Words<'a>)>
-        ensures { Gives (λ next. (next.0.now, words_left next.1)) result (next_word (words_left self.entry)) }
+        ensures { Gives (λ next. (next.0.now, words_left next.1)) result
+            (next_word (words_left self.entry)) }
     {
         let text = self.rest?;
         let Some(at) = first_space(text) else {
@@ -38,7 +39,8 @@ impl<'a> Words<'a> {
 
     /// Whether no word is left.
     pub(crate) fn is_empty(self) -> bool
-        ensures { (ask : Ask) → at_end (words_left self.entry) ask ≡ (if result then Some ask else None) }
+        ensures { (ask : Ask) → at_end (words_left self.entry) ask
+            ≡ (if result then Some ask else None) }
     {
         self.rest.is_none()
     }
