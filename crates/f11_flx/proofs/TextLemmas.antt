@@ -138,15 +138,6 @@ reads-within layout left pad byte rest more fits = let some : 0 < left = some-le
   few = ending_at-few (place.Within (left - 1) pad);
 }
 
--- a pad byte
-pub reads-pad : (layout : Layout) (byte rest : ℕ) → IsTrue (has_place layout place.Record) → ReadsByte layout place.Pad place.Record byte rest None
-reads-pad layout byte rest placed = record {
-  text = λ bytes is. sym (option_map_id (text_in layout bytes));
-  wanted = omega arith;
-  placed = placed;
-  few = omega arith;
-}
-
 -- a byte that is refused by how many are behind it is refused where as many follow
 pub refuses-on : (layout : Layout) (at : Place) (byte rest : ℕ) → 0 < rest → RefusesByte layout at byte (rest - 1) → (bytes : List ℕ) → rest ≤ length bytes + 1 → text_from layout at (take rest (byte ∷ bytes)) ≡ None
 refuses-on layout at byte rest some refuses bytes long =

@@ -1,14 +1,14 @@
 -- Bytes that are read piece by piece.
 use Rattle.std.proofs.Common.{◌≡◌, ◌≢◌, ◌⊎◌, inl, inr, All, ℕ, ◌+◌, ◌<◌, ◌≤◌, List, [], ◌∷◌, ◌++◌, length, take, drop, get_or, Option, Some, None, Bool, true, false, ◌==◌, ◌-◌, if◌then◌else◌, refl, sym, ◌∙◌, ap, subst, arith, add-one, drop-cons, length-append}
 use Rattle.std.specs.Io.KnownBytes.{Consumes, Keeps, IsAtEnd}
-use Rattle.std.proofs.KnownBytes.{Consumes-nil, Consumes-trans, Consumes-kept}
+use Rattle.std.proofs.KnownBytes.{Consumes-trans, Consumes-kept}
 use Rattle.std.proofs.lemmas.Bool.{cases_lt, ne_eqb}
 use Rattle.std.proofs.lemmas.List.{length-take-le, get_or-take, take_all, take-append-le, length-take, append-nil}
 use Rattle.std.proofs.lemmas.List.Elements.{All-append, All-replicate}
 use Rattle.std.specs.List.{slice_split, onto_first, slice_index}
 use Rattle.std.specs.Str.Lines.{lines, lines_of_parts, strip_carriage_return}
 use Rattle.std.proofs.lemmas.List.Splits.{slice_split_at, slice_split_none}
-use Rattle.f11_script.specs.Input.{bytes_left, HasByte, HasFirst, IsLine, TakesLine, TakesNoLine, TakesNone}
+use Rattle.f11_script.specs.Input.{bytes_left, HasByte, HasFirst, IsLine, TakesLine, TakesNone}
 
 -- the byte at hand, and those behind it
 next_of_piece : (piece : List ℕ) (at end : ℕ) → at < end → end ≤ length piece →
@@ -36,9 +36,6 @@ pub record Collected (old new : Option (List ℕ)) (count counted : ℕ) (line :
   pub number : counted ≡ count + length bytes
   pub kept : line ≡ take 1202 bytes
 
-pub collected_none : (a : Option (List ℕ)) (n : ℕ) → Collected a a n n []
-collected_none a n = record { bytes = []; taken = Consumes-nil a; no_end = λ k d h. absurd (omega (arith, h)); number = omega arith; kept = refl }
-
 -- what is kept of one byte more
 clip : (bytes : List ℕ) (x : ℕ) → take 1202 (take 1202 bytes ++ x ∷ []) ≡ take 1202 (bytes ++ x ∷ [])
 clip bytes x = by_length (cases_lt 1202 (length bytes))
@@ -59,15 +56,6 @@ collected_more a b c n m k x line more h next other counted is = record {
   no_end = All-append (λ y. y ≢ 10) h.bytes (x ∷ []) h.no_end (All-replicate (λ y. y ≢ 10) 1 x other);
   number = omega (arith, h.number, counted, length-append h.bytes (x ∷ []));
   kept = is ∙ ap (λ t. take 1202 (t ++ x ∷ [])) h.kept ∙ clip h.bytes x;
-}
-
--- a fault amid a line
-pub collected_failed : (a b c : Option (List ℕ)) (n m k : ℕ) (line : List ℕ) → Collected a b n m line → Keeps b c → k ≡ m → TakesNoLine a c n k
-collected_failed a b c n m k line h kept same = record {
-  bytes = h.bytes;
-  taken = Consumes-kept a b c h.bytes h.taken kept;
-  no_end = h.no_end;
-  number = same ∙ h.number;
 }
 
 -- what is kept of a byte, where there is room and where there is none
