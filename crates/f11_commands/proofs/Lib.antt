@@ -1,2 +1,1 @@
 pub mod DumpLemmas
-pub mod LabelLemmas

@@ -2,11 +2,11 @@
 use Rattle.std.specs.Prelude.{◌≡◌, ◌≢◌, ℕ, List, [], ◌∷◌, ◌++◌, codes}
 use Rattle.std.specs.Fmt.{decimal}
 use Rattle.std.specs.List.{concat, flat_map}
-use Rattle.f11_bytes.specs.Words.{word}
 use Rattle.f11_header.specs.Fields.{file_number, file_sequence, owner_group, owner_member, protection, characteristics, check_word, ident_area, map_area}
 use Rattle.f11_header.specs.Header.{IsDead, IsHeader}
 use Rattle.f11_map.specs.MapArea.{link, runs_of, segment}
 use Rattle.f11_rad50.specs.Name.{IsName, name_text}
+use Rattle.f11_store.specs.File.{name_words}
 use Rattle.f11_store.specs.Text.{octal_digits, uic_text, id_text}
 use Rattle.f11_commands.specs.declared.dump.Fields.{Fields}
 
@@ -37,10 +37,6 @@ fields_line n fields = concat (codes "header " ∷ decimal n
 -- the line of a valid header n
 abbrev pub header_line : List ℕ → ℕ → List ℕ
 header_line b n = fields_line n (fields_of b)
-
--- the five words at the front of an ident area: three of the name, type, version
-abbrev pub name_words : List ℕ → List ℕ
-name_words ident = word ident 0 ∷ word ident 2 ∷ word ident 4 ∷ word ident 6 ∷ word ident 8 ∷ []
 
 -- the line of a name
 abbrev pub name_line : List ℕ → List ℕ

@@ -1,17 +1,17 @@
 //! What a block holds, line by line.
-ghost use Rattle.std.specs.Prelude.{◌≡◌, length, IfErr, IfOk, OnOk};
+ghost use Rattle.std.specs.Prelude.{◌≡◌, IfErr, IfOk, OnOk};
 ghost use Rattle.f11_header.specs.Fields.{file_number};
 ghost use Rattle.f11_header.specs.Header.{IsHeader};
 ghost use Rattle.f11_map.specs.Map.{area_of};
-ghost use Rattle.f11_commands.specs.Dump.{IsDump, IsHeaderText, IsNamePart, fields_line, map_lines, name_line, name_words};
+ghost use Rattle.f11_commands.specs.Dump.{IsDump, IsHeaderText, IsNamePart, fields_line, map_lines, name_line};
 ghost use Rattle.f11_commands.specs.Output.{Takes, TakesSome};
 
 use crate::outcome::{Answer, Failure};
-use f11_bytes::{Block, read_word};
+use f11_bytes::Block;
 use f11_header::{Header, check};
 use f11_map::Map;
 use f11_rad50::Name;
-use f11_store::{FileId, Uic};
+use f11_store::{FileId, Uic, name_words};
 use std::io::{self, Write};
 
 /// The fields of a header that its line shows.
@@ -116,7 +116,7 @@ fn write_name<W: Write>(writer: &mut W, block: &Block) -> io::Result<()>
     if Map::of(&header).segment() != 0 {
         return Ok(());
     }
-    match Name::from_words(words_of(header.ident())) {
+    match Name::from_words(name_words(header.ident())) {
         Some(name) => write_name_line(writer, &name),
         None => writeln!(writer, "name ?"),
     }
@@ -127,20 +127,6 @@ fn write_name_line<W: Write>(writer: &mut W, name: &Name) -> io::Result<()>
     ensures { OnOk result (Takes W.contents writer.old writer.new (name_line name.now)) }
 {
     writeln!(writer, "name {name}")
-}
-
-/// The five words at the front of an ident area.
-fn words_of(ident: &[u8]) -> [u16; 5]
-    requires { length ident.now ≡ 46 }
-    ensures { result ≡ name_words ident.now }
-{
-    [
-        read_word(ident, 0),
-        read_word(ident, 2),
-        read_word(ident, 4),
-        read_word(ident, 6),
-        read_word(ident, 8),
-    ]
 }
 
 /// Writes the lines of the retrieval pointers.

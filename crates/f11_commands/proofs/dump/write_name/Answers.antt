@@ -19,7 +19,7 @@ returns-then-segment-ne0 g c =
 pub returns-in-None : goal.returns-in-None
 returns-in-None g c =
     let same = c.segment.ensures ∙ ap segment (c.of.ensures ∙ ap map_area c.new-header.ensures) in
-    let none = rw (c.words_of.ensures, c.ident.ensures.area, c.new-header.ensures) at c.in-None.ensures.name in
+    let none = rw (c.name_words.ensures, c.ident.ensures.area, c.new-header.ensures) at c.in-None.ensures.name in
     on_ok_weaker c.writeln.result (λ line. record {
       text = _;
       is = record {
