@@ -213,6 +213,19 @@ fn blocks_are_written(rt: HostRuntime) -> Result<(), Fail> {
 }
 
 #[test]
+fn a_full_block_is_written(rt: HostRuntime) -> Result<(), Fail> {
+    let lun = Lun::new(0).ok_or("lun")?;
+    let request = Request::ReadBlock(lun, 1);
+    let mut lines = Cursor::new([0; 1034]);
+    reply(&mut lines, &request, &Ok(Reply::Done), &[255; 512])?;
+    let written = lines.get_ref();
+    assert_eq!(rt; &written[..8], b"ok data ".as_slice());
+    assert!(rt; written[8..1032].iter().all(|digit| *digit == b'f'));
+    assert_eq!(rt; &written[1032..], b"\n\0".as_slice());
+    Ok(())
+}
+
+#[test]
 fn attributes_are_written(rt: HostRuntime) -> Result<(), Fail> {
     let mut attr = [0; 32];
     (attr[0], attr[2], attr[10], attr[12]) = (1, 16, 2, 16);
@@ -346,5 +359,35 @@ fn interrupts_have_an_end(rt: HostRuntime) -> Result<(), Fail> {
         bad_line(&mut Cursor::new([0; 3])),
         Err(ScriptError::WriteFault)
     );
+    Ok(())
+}
+
+/// A reader of so many line feeds.
+#[derive(Drop)]
+struct LineFeeds {
+    left: u64,
+}
+
+impl Read for LineFeeds {
+    fn read(&mut self, buf: &mut [u8]) -> io::Result<usize> {
+        let count = self.left.min(buf.len() as u64);
+        self.left = self.left.saturating_sub(count);
+        let count = count as usize;
+        buf[..count].fill(b'\n');
+        Ok(count)
+    }
+}
+
+#[test]
+fn lines_end_with_pieces(rt: HostRuntime) -> Result<(), Fail> {
+    for bytes in [0, 1, 4095, 4096, 4097, 8192] {
+        let mut script = ScriptReader::new(LineFeeds { left: bytes });
+        let mut line = Line::new();
+        for _ in 0..bytes {
+            assert!(rt; script.read_line(&mut line)?);
+            assert!(rt; line.is_empty());
+        }
+        assert!(rt; !script.read_line(&mut line)?);
+    }
     Ok(())
 }

@@ -1,5 +1,8 @@
 //! Text records.
+ghost use Rattle.std.specs.Prelude.{◌≤◌};
+
 use crate::fixtures::ZEROS;
+use arrayvec::ArrayVec;
 use f11_bytes::Block;
 use f11_flx::{
     BadRecord, LineTooLong, Records, ToRecords, ToText, image_attributes, image_blocks,
@@ -123,6 +126,8 @@ fn text_becomes_records(rt: HostRuntime) -> Result<(), Fail> {
         (b"A\nB\rC", b"\x05\0A\nB\rC\0", 5),
         (b"A\r\r\n", b"\x02\0A\r", 2),
         (b"A\r", b"\x02\0A\r", 2),
+        (b"\r\r\r", b"\x03\0\r\r\r\0", 3),
+        (b"\r\r\r\n", b"\x02\0\r\r", 2),
     ] {
         assert_eq!(rt;
             records_of(text)?,
@@ -166,5 +171,110 @@ fn attributes_of_copies(rt: HostRuntime) {
         (attributes(1, 0, 0, 0, 9), 0),
     ] {
         assert_eq!(rt; image_blocks(&attr, 2), blocks, "{attr:?}");
+    }
+}
+
+/// Bytes that are put together.
+type Bytes = ArrayVec<u8, 2048>;
+
+/// The first bytes of what is left of others, at most so many.
+fn piece_of(bytes: &[u8], used: usize, size: usize) -> &[u8] {
+    let rest = bytes.get(used..).unwrap_or(&[]);
+    rest.get(..size).unwrap_or(rest)
+}
+
+/// The text of a file of three blocks whose bytes come in pieces of so many.
+fn text_in_pieces(attr: &[u8; 32], bytes: &[u8], size: usize) -> Result<Bytes, BadRecord> {
+    let mut conversion = ToText::new(attr, 3)?;
+    let (mut text, mut block) = (Bytes::new(), ZEROS);
+    let mut used = 0usize;
+    for _ in 0..2000 {
+        let (read, to) = conversion.convert(piece_of(bytes, used, size), &mut block, 0)?;
+        used = used.saturating_add(read);
+        let _ = text.try_extend_from_slice(&block[..to]);
+    }
+    Ok(text)
+}
+
+/// The records of a text that comes in pieces of so many bytes.
+fn records_in_pieces(text: &[u8], size: usize) -> Result<Bytes, LineTooLong> {
+    let mut conversion = ToRecords::new();
+    let (mut records, mut block) = (Bytes::new(), ZEROS);
+    let mut used = 0usize;
+    for _ in 0..2000 {
+        let (read, to) = conversion.convert(piece_of(text, used, size), &mut block, 0)?;
+        used = used.saturating_add(read);
+        let _ = records.try_extend_from_slice(&block[..to]);
+        if used >= text.len() && to == 0 {
+            conversion.finish()?;
+        }
+    }
+    Ok(records)
+}
+
+/// A line of so many `A`, and one of a `B`: the text, and the variable records.
+fn two_lines(count: usize) -> (Bytes, Bytes) {
+    let (mut text, mut records) = (Bytes::new(), Bytes::new());
+    let line = [b'A'; 600];
+    let line = line.get(..count).unwrap_or(&[]);
+    let _ = text.try_extend_from_slice(line);
+    let _ = text.try_extend_from_slice(b"\r\nB\r\n");
+    let _ = records.try_extend_from_slice(&[(count % 256) as u8, (count / 256 % 256) as u8]);
+    let _ = records.try_extend_from_slice(line);
+    let _ = records.try_extend_from_slice(&[0][..count % 2]);
+    let _ = records.try_extend_from_slice(b"\x01\0B\0");
+    (text, records)
+}
+
+#[test]
+fn lines_cross_the_ends_of_blocks(rt: HostRuntime) -> Result<(), Fail> {
+    for count in 505..=515 {
+        let (text, records) = two_lines(count);
+        let end = records.len();
+        let attr = attributes(2, 2, 0, (end / 512 + 1) as u16, (end % 512) as u16);
+        for size in [1, 2, 3, 511, 512, 513] {
+            let converted = text_in_pieces(&attr, records.as_slice(), size)?;
+            assert!(rt; converted == text, "{count} {size}");
+            let converted = records_in_pieces(text.as_slice(), size)?;
+            assert!(rt; converted == records, "{count} {size}");
+        }
+    }
+    Ok(())
+}
+
+/// How many bytes the text of a file has whose first block is this and each other one that.
+fn text_length(attr: &[u8; 32], blocks: u32, first: &Block, other: &Block) -> Result<u64, BadRecord>
+    requires { blocks ≤ 516096 }
+{
+    let mut conversion = ToText::new(attr, blocks)?;
+    let (mut text, mut count) = (ZEROS, 0u64);
+    for k in 0..blocks {
+        let source = if k == 0 { first } else { other };
+        let mut used = 0usize;
+        for _ in 0..4 {
+            let (read, to) = conversion.convert(piece_of(source, used, 512), &mut text, 0)?;
+            used = used.saturating_add(read);
+            count = count.saturating_add(to as u64);
+        }
+    }
+    Ok(count)
+}
+
+#[test]
+fn large_files_become_text(rt: HostRuntime) {
+    let other = [b'A'; 512];
+    let mut first = other;
+    (first[0], first[1]) = (255, 255);
+    for (attr, blocks, length) in [
+        (attributes(2, 0, 0, 129, 2), 129, Ok(65_537)),
+        (attributes(2, 0, 0, 129, 1), 129, Ok(65_537)),
+        (attributes(2, 0, 0, 129, 0), 129, Err(BadRecord)),
+        (attributes(1, 0, 512, 600, 512), 600, Ok(600 * 514)),
+    ] {
+        assert_eq!(rt;
+            text_length(&attr, blocks, &first, &other),
+            length,
+            "{blocks}"
+        );
     }
 }
