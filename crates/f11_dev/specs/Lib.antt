@@ -5,7 +5,7 @@ pub mod Went
 pub mod Outcomes
 pub mod Memory
 pub mod Written
-pub mod FileDisk
+mod FileDisk
 pub mod FileImage
 pub mod Fuse
 pub mod FailOnce

@@ -1,7 +1,7 @@
 //! A device in a file.
 ghost use Rattle.std.specs.Prelude.{◌≡◌, ◌*◌, min, ◌≤◌, ◌<◌, ◌^◌, IfOk, Some, codes, length};
-ghost use Rattle.f11_dev.specs.Disk.{fresh};
-ghost use Rattle.f11_dev.specs.FileDisk.{disk_of_file, is_file_honest};
+ghost use Rattle.f11_dev.specs.Disk.{fresh, Reads};
+ghost use Rattle.f11_dev.specs.FileDisk.{disk_of_file, is_file_honest, FileReads, file_reads};
 ghost use Rattle.f11_dev.specs.Image.{IsImage, IsImageOf};
 ghost use Rattle.f11_dev.specs.Written.{written_image};
 ghost use Rattle.f11_dev.specs.declared.file_image.TheConstants.{MAX_BLOCKS};
@@ -147,14 +147,37 @@ impl<F: FileExt> Device for FileImage<F> {
     }
 
     fn read(&mut self, lbn: u32, into: &mut Block) -> Result<(), DeviceFault> {
-        let done = self.file.read_exact_at(into, byte_of(lbn));
-        self.outcomes.add(done.is_ok());
-        done.map_err(|_| DeviceFault)
+        self.read_as::<AnyRead>(lbn, into)
     }
 
     fn write(&mut self, lbn: u32, from: &Block) -> Result<(), DeviceFault> {
         let done = self.file.write_all_at(from, byte_of(lbn));
         self.written.add(lbn, from, done.is_ok());
+        self.outcomes.add(done.is_ok());
+        done.map_err(|_| DeviceFault)
+    }
+}
+
+/// What a read of a file is, known to this module alone.
+trait JudgesReads {
+    ghost reads: { FileReads };
+}
+
+/// Any read.
+struct AnyRead;
+
+impl JudgesReads for AnyRead {
+    ghost reads = { file_reads };
+}
+
+impl<F: FileExt> FileImage<F> {
+    ghost use Rattle.f11_dev.specs.FileImage.{file_disk};
+
+    /// Reads a block.
+    fn read_as<J: JudgesReads>(&mut self, lbn: u32, into: &mut Block) -> Result<(), DeviceFault>
+        ensures { Reads result lbn into.new (file_disk self.old) (file_disk self.new) }
+    {
+        let done = self.file.read_exact_at(into, byte_of(lbn));
         self.outcomes.add(done.is_ok());
         done.map_err(|_| DeviceFault)
     }
