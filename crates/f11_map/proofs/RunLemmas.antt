@@ -51,7 +51,7 @@ with_blocks-apart (r ∷ []) lbn count apart = cond-false (joins r lbn count) _ 
 with_blocks-apart (r ∷ s ∷ runs) lbn count apart = ap (λ (rest : List (ℕ × ℕ)). r ∷ rest) (with_blocks-apart (s ∷ runs) lbn count apart)
 
 -- two runs of blocks, one behind the other
-range_with_len-append : (from few more : ℕ) → range_with_len from (few + more) ≡ range_with_len from few ++ range_with_len (from + few) more
+pub range_with_len-append : (from few more : ℕ) → range_with_len from (few + more) ≡ range_with_len from few ++ range_with_len (from + few) more
 range_with_len-append from zero more = rw (zero-add, add-zero) refl
 range_with_len-append from (suc few) more =
     let counts : suc few + more ≡ suc (few + more) = omega arith in
@@ -76,7 +76,7 @@ blocks_in-with_blocks (r ∷ s ∷ runs) lbn count =
     ∙ sym (append_assoc (range_with_len r.0 r.1) (blocks_in (s ∷ runs)) (range_with_len lbn count))
 
 -- the first of a run of blocks
-take-range_with_len : (from n k : ℕ) → k ≤ n → take k (range_with_len from n) ≡ range_with_len from k
+pub take-range_with_len : (from n k : ℕ) → k ≤ n → take k (range_with_len from n) ≡ range_with_len from k
 take-range_with_len from n k few =
     ap (take k) (sym (map-id (range_with_len from n))) ∙ take-map-range_with_len (λ x. x) from n k few ∙ map-id (range_with_len from k)
 

@@ -88,9 +88,10 @@ impl<'a> Map<'a> {
         most / 2 - self.runs()
     }
 
-    /// The number of blocks that the pointers name.
+    /// The number of blocks that the pointers name: 127 pointers of 256 blocks at most.
     pub fn len_blocks(&self) -> u32
-        ensures { result ≡ length (blocks_of (area_of self.now)) }
+        ensures count { result ≡ length (blocks_of (area_of self.now)) }
+        ensures few { result ≤ 32512 }
     {
         let mut blocks = 0;
         for i in 0..self.runs() {

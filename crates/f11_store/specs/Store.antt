@@ -66,9 +66,13 @@ file_held s task lun = file_named s (id_held s task lun)
 abbrev pub index_file : Store → File
 index_file s = unwrap_or (s.file 1) no_file
 
--- the free slots, from 6 up (profile)
+-- the free ones of so many slots, from 6 up (profile)
+abbrev pub free_among : ℕ → (ℕ → Bool) → List ℕ
+free_among slots in_use = filter (λ n. not (in_use n)) (range_with_len 6 (slots - 5))
+
+-- the free slots
 unfoldable pub free_slots : Store → List ℕ
-free_slots s = filter (λ n. not (s.in_use n)) (range_with_len 6 (s.slots - 5))
+free_slots s = free_among s.slots s.in_use
 
 -- the number of free headers
 abbrev pub free_headers : Store → ℕ
