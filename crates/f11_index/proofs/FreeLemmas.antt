@@ -1,0 +1,162 @@
+-- Facts about free slots.
+use Rattle.std.proofs.Common.{◌≡◌, inl, inr, ℕ, zero, suc, ◌+◌, ◌-◌, ◌*◌, ◌/◌, ◌%◌, ◌<◌, ◌≤◌, min, max, Bool, true, false, not, List, [], ◌∷◌, ◌++◌, length, get_or, filter, cond, Some, None, refl, sym, ap, ◌∙◌, arith}
+use Rattle.std.specs.List.{slice_get, range_with_len}
+use Rattle.std.proofs.lemmas.Bool.{cases_lt, cond-true, cond-false}
+use Rattle.std.proofs.lemmas.List.{append-nil, length-append}
+use Rattle.std.proofs.lemmas.List.Elements.{filter-append}
+use Rattle.std.proofs.lemmas.List.Sums.{count_by-le-length, length-filter}
+use Rattle.std.proofs.lemmas.List.FromFn.{length-range_with_len}
+use Rattle.std.specs.Prelude.{nat_eq}
+use Rattle.std.specs.Int.{bit_at}
+use Rattle.std.proofs.lemmas.Nat.Bits.{bit_at_ones}
+use Rattle.f11_bytes.specs.Bits.{bit}
+use Rattle.f11_bytes.specs.Words.{word}
+use Rattle.f11_index.specs.IndexFile.{Index, slots, is_in_use, bit_of_slot, free_slots}
+use Rattle.f11_index.specs.Slots.{free_between}
+use Rattle.f11_index.proofs.BitLemmas.{is_in_use-within}
+use Rattle.f11_index.proofs.PlaceLemmas.{slice_get-append_front}
+use Rattle.f11_map.proofs.RunLemmas.{range_with_len-append}
+
+-- a list without a first element
+no-first : (xs : List ℕ) → None ≡ slice_get xs 0 → xs ≡ []
+no-first [] is = refl
+no-first (x ∷ xs) is = cc
+
+module _ (index : Index) where
+  abbrev free : ℕ → Bool
+  free n = not (is_in_use index n)
+
+  pub between-none : (from end : ℕ) → end ≤ from → free_between index from end ≡ []
+  between-none from end past = let none : end - from ≡ 0 = omega arith in ap (λ (n : ℕ). filter free (range_with_len from n)) none
+
+  pub between-append : (a b c : ℕ) → a ≤ b → b ≤ c → free_between index a c ≡ free_between index a b ++ free_between index b c
+  between-append a b c first second =
+      let sum : c - a ≡ (b - a) + (c - b) = omega arith in
+      let next : a + (b - a) ≡ b = omega arith in
+      ap (λ (n : ℕ). filter free (range_with_len a n)) sum
+      ∙ ap (filter free) (range_with_len-append a (b - a) (c - b))
+      ∙ filter-append free (range_with_len a (b - a)) (range_with_len (a + (b - a)) (c - b))
+      ∙ ap (λ (n : ℕ). free_between index a b ++ filter free (range_with_len n (c - b))) next
+
+  -- one slot
+  between-one : (n : ℕ) → free_between index n (n + 1) ≡ cond (free n) (n ∷ []) []
+  between-one n = let one : n + 1 - n ≡ 1 = omega arith in ap (λ (k : ℕ). filter free (range_with_len n k)) one
+
+  -- one slot more, whose bit is 1, or 0
+  pub between-used : (from n : ℕ) → from ≤ n → 0 < n → n ≤ slots index → bit_of_slot index.bitmap n ≡ true → free_between index from (n + 1) ≡ free_between index from n
+  between-used from n behind some within is =
+      between-append from n (n + 1) behind (omega arith)
+      ∙ ap (λ (xs : List ℕ). free_between index from n ++ xs) (between-one n ∙ cond-false (free n) _ _ (ap not (is_in_use-within index n some within ∙ is)))
+      ∙ append-nil (free_between index from n)
+
+  pub between-free : (from n : ℕ) → from ≤ n → 0 < n → n ≤ slots index → bit_of_slot index.bitmap n ≡ false → free_between index from (n + 1) ≡ free_between index from n ++ n ∷ []
+  between-free from n behind some within is =
+      between-append from n (n + 1) behind (omega arith)
+      ∙ ap (λ (xs : List ℕ). free_between index from n ++ xs) (between-one n ∙ cond-true (free n) _ _ (ap not (is_in_use-within index n some within ∙ is)))
+
+  -- the first of them
+  pub between-first : (from n end : ℕ) → from ≤ n → n < end → 0 < n → n ≤ slots index → free_between index from n ≡ [] → bit_of_slot index.bitmap n ≡ false → slice_get (free_between index from end) 0 ≡ Some n
+  between-first from n end behind before some within none is =
+      let first : slice_get (free_between index from (n + 1)) 0 ≡ Some n =
+      ap (λ (xs : List ℕ). slice_get xs 0) (between-free from n behind some within is ∙ ap (λ (xs : List ℕ). xs ++ n ∷ []) none) in
+      ap (λ (xs : List ℕ). slice_get xs 0) (between-append from (n + 1) end (omega arith) (omega arith))
+      ∙ slice_get-append_front (free_between index from (n + 1)) (free_between index (n + 1) end) 0 n first
+
+  -- slots whose bits are all 1
+  pub between-full : (count from : ℕ) → 0 < from → from + count ≤ slots index + 1 → ((n : ℕ) → from ≤ n → n < from + count → bit_of_slot index.bitmap n ≡ true) → free_between index from (from + count) ≡ []
+  between-full zero from some within bits = between-none from (from + 0) (omega arith)
+  between-full (suc count) from some within bits =
+      let next : from + suc count ≡ from + count + 1 = omega arith in
+      ap (free_between index from) next ∙ between-used from (from + count) (omega arith) (omega arith) (omega arith) (bits (from + count) (omega arith) (omega arith))
+      ∙ between-full count from some (omega arith) (λ n low high. bits n low (omega arith))
+
+  -- slots whose bits are all 0
+  pub between-empty : (count from : ℕ) → 0 < from → from + count ≤ slots index + 1 → ((n : ℕ) → from ≤ n → n < from + count → bit_of_slot index.bitmap n ≡ false) → length (free_between index from (from + count)) ≡ count
+  between-empty zero from some within bits = ap length (between-none from (from + 0) (omega arith))
+  between-empty (suc count) from some within bits =
+      let next : from + suc count ≡ from + count + 1 = omega arith in
+      let more = ap (free_between index from) next ∙ between-free from (from + count) (omega arith) (omega arith) (omega arith) (bits (from + count) (omega arith) (omega arith)) in
+      omega (arith, ap length more, length-append (free_between index from (from + count)) ((from + count) ∷ []), between-empty count from some (omega arith) (λ n low high. bits n low (omega arith)))
+
+  -- the slots of one word more
+  pub between-next : (word : ℕ) → 16 ≤ slots index → 16 * word < slots index
+      → free_between index 6 (min (slots index + 1) (16 * (word + 1) + 1)) ≡ free_between index 6 (min (slots index + 1) (16 * word + 1)) ++ free_between index (max 6 (16 * word + 1)) (min (slots index + 1) (16 * word + 17))
+  between-next zero first some =
+      let last : min (slots index + 1) (16 * (zero + 1) + 1) ≡ 17 = omega arith in
+      let here : min (slots index + 1) (16 * zero + 17) ≡ 17 = omega arith in
+      let from : max 6 (16 * zero + 1) ≡ 6 = omega arith in
+      ap (free_between index 6) (last ∙ sym here) ∙ ap (λ (n : ℕ). free_between index n (min (slots index + 1) (16 * zero + 17))) (sym from)
+      ∙ ap (λ (xs : List ℕ). xs ++ free_between index (max 6 (16 * zero + 1)) (min (slots index + 1) (16 * zero + 17))) (sym (between-none 6 (min (slots index + 1) (16 * zero + 1)) (omega arith)))
+  between-next (suc word) first some =
+      let from : max 6 (16 * suc word + 1) ≡ min (slots index + 1) (16 * suc word + 1) = omega arith in
+      let last : min (slots index + 1) (16 * (suc word + 1) + 1) ≡ min (slots index + 1) (16 * suc word + 17) = omega arith in
+      ap (free_between index 6) last
+      ∙ between-append 6 (min (slots index + 1) (16 * suc word + 1)) (min (slots index + 1) (16 * suc word + 17)) (omega arith) (omega arith)
+      ∙ ap (λ (n : ℕ). free_between index 6 (min (slots index + 1) (16 * suc word + 1)) ++ free_between index n (min (slots index + 1) (16 * suc word + 17))) (sym from)
+
+  -- all words
+  pub between-all : (words : ℕ) → slots index ≤ 16 * words → free_between index 6 (min (slots index + 1) (16 * words + 1)) ≡ free_slots index
+  between-all words all =
+      let count : min (slots index + 1) (16 * words + 1) - 6 ≡ slots index - 5 = omega arith in
+      ap (λ (n : ℕ). filter free (range_with_len 6 n)) count
+
+  -- the first free slot is in this word, where none is in those before it
+  pub word-first : (word n : ℕ) → 16 ≤ slots index → 16 * word < slots index → free_between index 6 (min (slots index + 1) (16 * word + 1)) ≡ []
+      → Some n ≡ slice_get (free_between index (max 6 (16 * word + 1)) (min (slots index + 1) (16 * word + 17))) 0 → Some n ≡ slice_get (free_slots index) 0
+  word-first word n first some none here =
+      let last : ℕ = min (slots index + 1) (16 * (word + 1) + 1) in
+      let so_far : free_between index 6 last ≡ free_between index (max 6 (16 * word + 1)) (min (slots index + 1) (16 * word + 17)) =
+      between-next word first some ∙ ap (λ (xs : List ℕ). xs ++ free_between index (max 6 (16 * word + 1)) (min (slots index + 1) (16 * word + 17))) none in
+      let all : free_slots index ≡ free_between index 6 last ++ free_between index last (slots index + 1) =
+      sym (between-all (slots index) (omega arith)) ∙ ap (free_between index 6) (omega arith) ∙ between-append 6 last (slots index + 1) (omega arith) (omega arith) in
+      sym (ap (λ (xs : List ℕ). slice_get xs 0) all ∙ slice_get-append_front (free_between index 6 last) (free_between index last (slots index + 1)) 0 n (ap (λ (xs : List ℕ). slice_get xs 0) so_far ∙ sym here))
+
+  -- no slot of one word more is free
+  pub word-none : (word : ℕ) → 16 ≤ slots index → 16 * word < slots index → free_between index 6 (min (slots index + 1) (16 * word + 1)) ≡ []
+      → None ≡ slice_get (free_between index (max 6 (16 * word + 1)) (min (slots index + 1) (16 * word + 17))) 0 → free_between index 6 (min (slots index + 1) (16 * (word + 1) + 1)) ≡ []
+  word-none word first some none here =
+      between-next word first some ∙ ap (λ (xs : List ℕ). xs ++ free_between index (max 6 (16 * word + 1)) (min (slots index + 1) (16 * word + 17))) none ∙ no-first _ here
+
+  -- a word's slots, from their first to the last of all
+  abbrev start : ℕ → ℕ
+  start word = max 6 (16 * word + 1)
+
+  abbrev end : ℕ → ℕ
+  end word = min (slots index + 1) (16 * word + 17)
+
+  -- the slots of a word whose bits are all 1, or all 0
+  pub word-full : (word : ℕ) → ((n : ℕ) → 16 * word < n → n < 16 * word + 17 → bit_of_slot index.bitmap n ≡ true) → free_between index (start word) (end word) ≡ []
+  word-full word bits = elim (cases_lt (end word) (start word)) [
+    | inl none ↦ between-none (start word) (end word) (omega arith)
+    | inr some ↦
+        let sum : end word ≡ start word + (end word - start word) = omega arith in
+        ap (free_between index (start word)) sum ∙ between-full (end word - start word) (start word) (omega arith) (omega arith) (λ n low high. bits n (omega arith) (omega arith))
+  ]
+
+  pub word-empty : (word : ℕ) → start word ≤ end word → ((n : ℕ) → 16 * word < n → n < 16 * word + 17 → bit_of_slot index.bitmap n ≡ false) → end word - start word ≡ length (free_between index (start word) (end word))
+  word-empty word some bits =
+      let sum : end word ≡ start word + (end word - start word) = omega arith in
+      sym (ap (λ (n : ℕ). length (free_between index (start word) n)) sum ∙ between-empty (end word - start word) (start word) (omega arith) (omega arith) (λ n low high. bits n (omega arith) (omega arith)))
+
+  -- no more are free than there are
+  pub between-few : (from end : ℕ) → length (free_between index from end) ≤ end - from
+  between-few from end =
+      omega (arith, length-filter free (range_with_len from (end - from)), count_by-le-length free (range_with_len from (end - from)), length-range_with_len from (end - from))
+
+-- the bits of a word of the bitmap, as those of its slots
+pub bit_of_slot-word : (bitmap : List (List ℕ)) (block : List ℕ) (word : ℕ) (value : Bool) → get_or bitmap (word / 256) [] ≡ block
+    → ((k : ℕ) → 16 * (word % 256) ≤ k → k < 16 * (word % 256) + 16 → bit block k ≡ value)
+    → (n : ℕ) → 16 * word < n → n < 16 * word + 17 → bit_of_slot bitmap n ≡ value
+unfolding bit_of_slot
+bit_of_slot-word bitmap block word value is bits n low high =
+    let place : (n - 1) / 4096 ≡ word / 256 = omega arith in
+    ap (λ (p : ℕ). bit (get_or bitmap p []) ((n - 1) % 4096)) place ∙ ap (λ (b : List ℕ). bit b ((n - 1) % 4096)) is ∙ bits ((n - 1) % 4096) (omega arith) (omega arith)
+
+-- a word whose bits are all 1
+pub bit-full : (b : List ℕ) (i : ℕ) → word b (2 * i) ≡ 65535 → get_or b (2 * i) 0 < 256 → get_or b (2 * i + 1) 0 < 256 → (k : ℕ) → 16 * i ≤ k → k < 16 * i + 16 → bit b k ≡ true
+bit-full b i is low high k from to =
+    let byte : get_or b (k / 8) 0 ≡ 255 = elim (cases_lt k (16 * i + 8)) [
+      | inl first ↦ let place : k / 8 ≡ 2 * i = omega arith in ap (λ (n : ℕ). get_or b n 0) place ∙ omega (arith, is, low, high)
+      | inr second ↦ let place : k / 8 ≡ 2 * i + 1 = omega arith in ap (λ (n : ℕ). get_or b n 0) place ∙ omega (arith, is, low, high)
+    ] in
+    ap (λ (n : ℕ). nat_eq (bit_at n (k % 8)) 1) byte ∙ ap (λ (n : ℕ). nat_eq n 1) (bit_at_ones 8 (k % 8) (omega arith))

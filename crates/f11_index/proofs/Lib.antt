@@ -1,0 +1,13 @@
+pub mod BitLemmas
+pub mod BlockLemmas
+pub mod ChainLemmas
+pub mod FollowLemmas
+pub mod ForLemmas
+pub mod FreeLemmas
+pub mod InUseLemmas
+pub mod LawLemmas
+pub mod LoadLemmas
+pub mod PlaceLemmas
+pub mod SameLemmas
+pub mod StayLemmas
+pub mod WalkLemmas

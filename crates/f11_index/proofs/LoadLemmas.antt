@@ -1,0 +1,89 @@
+-- What was loaded is what the image's index file says.
+use Rattle.std.proofs.Common.{◌≡◌, ℕ, ◌+◌, ◌<◌, ◌≤◌, IsTrue, List, length, drop, sym, ap, subst, ◌∙◌, arith}
+use Rattle.std.specs.List.{All}
+use Rattle.std.proofs.lemmas.List.Elements.{All-take, All-drop}
+use Rattle.std.proofs.lemmas.Option.{slice_get_within}
+use Rattle.f11_dev.specs.Disk.{Disk}
+use Rattle.f11_dev.specs.Image.{Image}
+use Rattle.f11_dev.specs.Looked.{Looked}
+use Rattle.f11_dev.proofs.LookedLemmas.{looked_more, looked_within}
+use Rattle.f11_home.specs.Home.{HomeFields, IsSound}
+use Rattle.f11_index.specs.Calls.{Loads, FindsMisplaced, FindsPast, most_reads}
+use Rattle.f11_index.specs.IndexFile.{Index, index_of, index_file, headers_among, most_slots, IsFirstPast, HasNonePast}
+use Rattle.f11_index.specs.Sound.{IsPlaced, IsIndexFile}
+use Rattle.f11_index.specs.Walk.{first_place, ReadsBitmap, Follows}
+use Rattle.f11_index.specs.declared.blocks.Blocks.{Blocks}
+use Rattle.f11_index.proofs.BlockLemmas.{IsPlaced-fit, All-fit}
+use Rattle.f11_index.proofs.FollowLemmas.{HomeFacts, home_facts, Adds-start}
+
+module _ (old now new : Disk) (home : HomeFields) (bitmap : List (List ℕ)) (blocks : Blocks) (sound : IsSound home (length old.image)) (reads : ReadsBitmap home bitmap old now) (f : Follows home blocks now new) where
+  looked : Looked old new (most_reads home) 0
+  looked = looked_within (looked_more reads.looked f.looked) (omega arith)
+
+  facts : HomeFacts home (length old.image)
+  facts = home_facts home (length old.image) sound
+
+  headers_are : blocks.headers.items ≡ headers_among home f.lbns
+  headers_are = (Adds-start home f.lbns f.adds).1
+
+  file_is : IsTrue old.honest → f.lbns ≡ index_file old.image home
+  file_is honest = f.is_file (reads.looked.honest ∙ honest) ∙ ap (λ (image : Image). index_file image home) reads.looked.image
+
+  -- too few blocks
+  pub finds_few : blocks.places < first_place home + 16 → FindsMisplaced home old new
+  finds_few few = record {
+    misplaced = λ honest good.
+        let last = slice_get_within (index_file old.image home) _ _ (good.placed.bitmap_and_headers (home.index_blocks + 15) (omega arith)) in
+        absurd (omega (arith, last, few, (Adds-start home f.lbns f.adds).0, ap length (file_is honest)));
+    looked = looked;
+  }
+
+  module _ (enough : first_place home + 16 ≤ blocks.places) where
+    placed : IsPlaced home f.lbns
+    placed = IsPlaced-fit home (length now.image) f.lbns f.fit (omega (arith, enough, (Adds-start home f.lbns f.adds).0))
+
+    good : IsTrue old.honest → IsIndexFile old.image home
+    good honest =
+        let is = f.is_file (reads.looked.honest ∙ honest) in
+        let one = f.whole (reads.looked.honest ∙ honest) placed in
+        subst (λ (image : Image). IsIndexFile image home) reads.looked.image record {
+          whole = one.whole;
+          sequence = one.sequence;
+          within = subst (All (λ lbn. lbn < length now.image)) is (All-fit home (length now.image) f.lbns f.fit);
+          placed = subst (IsPlaced home) is placed;
+        }
+
+    -- what is kept then
+    abbrev kept : Index
+    kept = record { bitmap_lbn = home.index_lbn; bitmap = bitmap; headers = blocks.headers.items }
+
+    kept_is : IsTrue old.honest → kept ≡ index_of old.image home
+    unfolding index_of
+    kept_is honest =
+        ap (λ (b : List (List ℕ)). record { bitmap_lbn = home.index_lbn; bitmap = b; headers = blocks.headers.items }) (reads.blocks honest)
+        ∙ ap (λ (h : List ℕ). record { bitmap_lbn = home.index_lbn; bitmap = (index_of old.image home).bitmap; headers = h }) (headers_are ∙ ap (headers_among home) (file_is honest))
+
+    -- a bit past the slots is 1
+    pub finds_past : (n : ℕ) → IsFirstPast kept n → FindsPast home n old new
+    finds_past n is = record {
+      sound = good;
+      first = λ honest. subst (λ (index : Index). IsFirstPast index n) (kept_is honest) is;
+      looked = looked;
+    }
+
+    -- none is
+    pub loads : HasNonePast kept → Loads home kept old new
+    loads none = record {
+      sound = good;
+      none_past = none;
+      is_for = record {
+        within = record {
+          bitmap = omega (arith, ap length looked.image, reads.size, facts.within);
+          headers = subst (All (λ lbn. lbn < length new.image)) (sym headers_are)
+              (All-take (λ lbn. lbn < length new.image) (most_slots home) (drop (2 + home.index_blocks) f.lbns) (All-drop (λ lbn. lbn < length new.image) (2 + home.index_blocks) f.lbns
+              (subst (λ (n : ℕ). All (λ lbn. lbn < n) f.lbns) (sym (ap length f.looked.image)) (All-fit home (length now.image) f.lbns f.fit))));
+        };
+        keeps = λ honest. kept_is (sym looked.honest ∙ honest) ∙ ap (λ (image : Image). index_of image home) (sym looked.image);
+      };
+      looked = looked;
+    }

@@ -1,0 +1,79 @@
+-- What each call of an index file does to a disk, by its outcome.
+use Rattle.std.specs.Prelude.{◌≡◌, ◌≢◌, ℕ, ◌+◌, ◌-◌, ◌*◌, ◌/◌, ◌<◌, Bool, IsTrue, List, [], ◌++◌, length, take, slice_set, slice_index_or, min}
+use Rattle.std.specs.List.{range_with_len}
+use Rattle.f11_dev.specs.Disk.{Disk}
+use Rattle.f11_dev.specs.Image.{Image}
+use Rattle.f11_dev.specs.Looked.{Looked}
+use Rattle.f11_dev.specs.Went.{Went}
+use Rattle.f11_home.specs.Home.{HomeFields}
+use Rattle.f11_index.specs.IndexFile.{Index, index_of, slot_bit, IsFirstPast, HasNonePast}
+use Rattle.f11_index.specs.Kept.{IsFor}
+use Rattle.f11_index.specs.Sound.{IsIndexFile}
+
+-- each block of the index bitmap and each header of file 1 is read once at most
+abbrev pub most_reads : HomeFields → ℕ
+most_reads home = home.index_blocks + 256
+
+-- The index file was loaded: it is as it should be where the disk is honest, and no bit past the slots is 1.
+pub record Loads (home : HomeFields) (index : Index) (old new : Disk) : Type 0 where
+  pub sound : IsTrue old.honest → IsIndexFile old.image home
+  pub none_past : HasNonePast index
+  pub is_for : IsFor index home new
+  pub looked : Looked old new (most_reads home) 0
+
+-- It is not as it should be.
+pub record FindsMisplaced (home : HomeFields) (old new : Disk) : Type 0 where
+  pub misplaced : IsTrue old.honest → ¬ IsIndexFile old.image home
+  pub looked : Looked old new (most_reads home) 0
+
+-- It is, but the bit of n, past the slots, is 1, and n is the least.
+pub record FindsPast (home : HomeFields) (n : ℕ) (old new : Disk) : Type 0 where
+  pub sound : IsTrue old.honest → IsIndexFile old.image home
+  pub first : IsTrue old.honest → IsFirstPast (index_of old.image home) n
+  pub looked : Looked old new (most_reads home) 0
+
+-- A transfer failed.
+abbrev pub FailsToLoad : HomeFields → Disk → Disk → Type 0
+FailsToLoad home old new = Looked old new (most_reads home) 1
+
+-- There was no memory, and no transfer failed.
+abbrev pub LacksMemory : HomeFields → Disk → Disk → Type 0
+LacksMemory home old new = Looked old new (most_reads home) 0
+
+-- the number of the bitmap block that has the bit of slot n, from 0
+abbrev pub bitmap_place : ℕ → ℕ
+bitmap_place n = (n - 1) / 4096
+
+-- that block
+abbrev pub bitmap_block : Index → ℕ → List ℕ
+bitmap_block index n = slice_index_or index.bitmap (bitmap_place n) []
+
+-- The bit of slot n is this, and all else is as it was.
+pub record SetsBit (value : Bool) (n : ℕ) (old new : Index) : Type 0 where
+  pub one_block : new ≡ record old { bitmap = slice_set old.bitmap (bitmap_place n) (bitmap_block new n) }
+  pub bit : slot_bit new n ≡ value
+  pub others : (m : ℕ) → 0 < m → m ≢ n → slot_bit new m ≡ slot_bit old m
+
+-- the image with the bitmap block of slot n as this index has it
+abbrev pub with_bitmap_block : Image → Index → ℕ → Image
+with_bitmap_block image index n = slice_set image (index.bitmap_lbn + bitmap_place n) (bitmap_block index n)
+
+-- An image in which the bit of slot n is this in the bitmap block that was written, and no other bit of it changed.
+pub record HasBitWritten (value : Bool) (n : ℕ) (index : Index) (old image : Image) : Type 0 where
+  pub written : Index
+  pub bit : SetsBit value n index written
+  pub image_is : image ≡ with_bitmap_block old written n
+
+-- The bit of slot n was written, in one transfer: the image has the bitmap block that is kept.
+pub record WritesBit (value : Bool) (n : ℕ) (before after : Index) (old new : Disk) : Type 0 where
+  pub bit : SetsBit value n before after
+  pub image : new.image ≡ with_bitmap_block old.image after n
+  pub went : Went (HasBitWritten value n before old.image) old new 1 0
+
+-- The transfer failed, and the bitmap block was written or wasn't.
+abbrev pub FailsToWriteBit : Bool → ℕ → Index → Disk → Disk → Type 0
+FailsToWriteBit value n before old new = Went (HasBitWritten value n before old.image) old new 1 1
+
+-- The index file has these blocks too, behind its others, as far as there can be headers.
+abbrev pub grown : Index → ℕ → ℕ → Index
+grown index lbn count = record index { headers = take (min (4096 * length index.bitmap) 65535) (index.headers ++ range_with_len lbn count) }

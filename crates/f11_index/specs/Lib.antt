@@ -1,0 +1,15 @@
+pub mod HeaderBlock
+pub mod IndexFile
+pub mod Table
+pub mod Sound
+pub mod Slots
+pub mod Kept
+pub mod Walk
+pub mod Calls
+pub mod Laws
+pub mod IndexFault
+pub use Rattle.f11_dev.specs.Image
+pub use Rattle.f11_dev.specs.Disk
+pub use Rattle.f11_dev.specs.Looked
+pub use Rattle.f11_dev.specs.Went
+pub use Rattle.f11_home.specs.Home
