@@ -1,0 +1,273 @@
+-- What holds of a device while the headers of a file are read one after another.
+use Rattle.std.proofs.Common.{◌≡◌, ◌≢◌, ℕ, zero, suc, ◌+◌, ◌-◌, ◌<◌, ◌≤◌, IsTrue, List, [], ◌∷◌, ◌++◌, length, Some, None, Err, refl, sym, ap, subst, ◌∙◌, inl, inr, arith}
+use Rattle.std.specs.Prelude.{Result, Ok, IsErrAnd, IsErrOf}
+use Rattle.std.proofs.lemmas.Bool.{cases_lt}
+use Rattle.std.specs.List.{slice_get}
+use Rattle.std.proofs.lemmas.List.{length-append}
+use Rattle.std.proofs.lemmas.Option.{slice_get_within, get_or_from_slice_get}
+use Rattle.std.proofs.lemmas.Grind.{flat_map-append}
+use Rattle.f11_dev.specs.Disk.{Disk}
+use Rattle.f11_dev.specs.Image.{Image}
+use Rattle.f11_dev.specs.Looked.{Looked}
+use Rattle.f11_dev.proofs.LookedLemmas.{looked_more}
+use Rattle.f11_header.specs.Fields.{file_sequence}
+use Rattle.f11_header.specs.Header.{IsHeader}
+use Rattle.f11_map.proofs.MapLemmas.{slice_get-append_back}
+use Rattle.f11_index.specs.HeaderBlock.{segment_number, link_of, blocks_named}
+use Rattle.f11_index.specs.IndexFile.{Index}
+use Rattle.f11_index.specs.Table.{Table, table_in, IsLive, IsNext, LinksRightly}
+use Rattle.f11_index.proofs.InUseLemmas.{in_use-some}
+use Rattle.f11_chain.specs.FileHeaders.{headers_from, blocks_by, file_blocks, block_by_vbn}
+use Rattle.f11_chain.specs.Calls.{table, HoldsHeader, ReadsFirst, FindsNoFile, ReadsNext, FindsLast, FindsWrongLink, IsNextOf, FailsToReadNext, next_reads, LooksAlong, FindsBreak, FindsDamage, ReadsLast, Locates, FindsEnd}
+use Rattle.f11_chain.proofs.StepLemmas.{table-in_use, wrong-link}
+use Rattle.f11_chain.proofs.ReachedLemmas.{Reached, Reached-first, Reached-next, Reached-count, Reached-count-next, Reached-whole, headers-some, blocks-last, blocks-split, link_number}
+
+-- The block is header m, that of segment k of file n, and each header up to it was read once. These are the headers before it.
+pub record Along (index : Index) (n m k : ℕ) (behind : List ℕ) (block : List ℕ) (old now : Disk) : Type 0 where
+  pub header : HoldsHeader index m block old
+  pub segment : segment_number block ≡ k
+  pub few : k < 256
+  pub reached : IsTrue old.honest → Reached (table index old) n m k behind
+  pub looked : Looked old now (k + 1) 0
+
+-- a header in hand is live where the device is honest
+pub HoldsHeader-live : (index : Index) (m : ℕ) (block : List ℕ) (disk : Disk) → HoldsHeader index m block disk → IsTrue disk.honest → IsLive (table index disk) m
+HoldsHeader-live index m block disk holds honest = record {
+  in_use = table-in_use index disk m ∙ holds.in_use;
+  valid = subst (λ (b : List ℕ). IsHeader b m) (holds.block_is honest) holds.valid;
+}
+
+-- a device that was looked at has the headers that it had, and is as honest
+module _ (index : Index) (old now : Disk) (most : ℕ) (looked : Looked old now most 0) where
+  pub table-stays : table index now ≡ table index old
+  table-stays = ap (λ (i : Image). table_in i index) looked.image
+
+  pub honest-stays : IsTrue old.honest → IsTrue now.honest
+  honest-stays honest = looked.honest ∙ honest
+
+  pub holds-stays : (m : ℕ) (block : List ℕ) → HoldsHeader index m block now → HoldsHeader index m block old
+  holds-stays m block holds = record {
+    in_use = holds.in_use;
+    valid = holds.valid;
+    block_is = λ honest. holds.block_is (honest-stays honest) ∙ ap (λ (t : Table). t.header m) table-stays;
+  }
+
+-- the first header was read
+pub Along-first : (index : Index) (n : ℕ) (block : List ℕ) (old now : Disk) → ReadsFirst index n block old now → Along index n n 0 [] block old now
+Along-first index n block old now reads = record {
+  header = reads.header;
+  segment = reads.first;
+  few = omega arith;
+  reached = λ honest. Reached-first (table index old) n (record {
+    live = HoldsHeader-live index n block old reads.header honest;
+    first = ap segment_number (sym (reads.header.block_is honest)) ∙ reads.first;
+  });
+  looked = reads.looked;
+}
+
+-- it wasn't one of a file, or couldn't be read
+first-looked : (index : Index) (n : ℕ) (old new : Disk) (faults : ℕ) → 0 < n → Looked old new 1 faults → LooksAlong index n old new faults
+first-looked index n old new faults some looked = record {
+  headers = 1;
+  few = omega arith;
+  each_once = λ honest. headers-some (table index old) n some;
+  looked = looked;
+}
+
+-- a file that isn't whole is damaged
+pub damage-break : (index : Index) (n : ℕ) (old new : Disk) → FindsBreak index n old new → FindsDamage index n old new
+damage-break index n old new finds = record { damaged = λ honest sound. finds.broken honest sound.whole; looked = finds.looked }
+
+pub break-first : (index : Index) (n : ℕ) (old new : Disk) → 0 < n → FindsNoFile index n old new → FindsBreak index n old new
+break-first index n old new some finds = record {
+  broken = λ honest whole. finds.no_file honest whole.file;
+  looked = first-looked index n old new 0 some finds.looked;
+}
+
+pub failed-first : (index : Index) (n : ℕ) (old new : Disk) → 0 < n → Looked old new 1 1 → LooksAlong index n old new 1
+failed-first index n old new some looked = first-looked index n old new 1 some looked
+
+-- a place in the front of a list
+slice_get-append_front : (xs ys : List ℕ) (i x : ℕ) → slice_get xs i ≡ Some x → slice_get (xs ++ ys) i ≡ Some x
+slice_get-append_front [] ys i x is = cc
+slice_get-append_front (y ∷ xs) ys zero x is = is
+slice_get-append_front (y ∷ xs) ys (suc i) x is = slice_get-append_front xs ys i x is
+
+-- a place past its end
+pub past-none : (xs : List ℕ) (i : ℕ) → None ≡ slice_get xs i → length xs ≤ i
+past-none [] i is = omega arith
+past-none (x ∷ xs) zero is = cc
+past-none (x ∷ xs) (suc i) is = let rest = past-none xs i is in omega (arith, rest)
+
+-- an error handed on is the one that came
+same_error : {T E : Type 0} (e f : E) → IsErrOf {T = T} (Err e) f → e ≡ f
+same_error e f is = cc
+
+pub handed-on : {T U E : Type 0} (r : Result T E) (e f : E) → IsErrAnd r (λ x. x ≡ e) → IsErrOf r f → IsErrOf {T = U} (Err e) f
+handed-on (Ok x) e f is of = absurd is
+handed-on (Err x) e f is of = ap Err (sym is ∙ same_error x f of)
+
+module _ (index : Index) (n m k : ℕ) (behind : List ℕ) (block : List ℕ) (old now : Disk) (along : Along index n m k behind block old now) where
+  pub header-some : 0 < m
+  header-some = in_use-some index m along.header.in_use
+
+  -- it is the disk's
+  pub block-is : IsTrue old.honest → block ≡ (table index old).header m
+  block-is honest = along.header.block_is honest
+
+  -- the headers read so far
+  pub along-looked : LooksAlong index n old now 0
+  along-looked = record {
+    headers = k + 1;
+    few = omega (arith, along.few);
+    each_once = λ honest. Reached-count (table index old) n m k behind (along.reached honest) header-some along.few;
+    looked = along.looked;
+  }
+
+  -- and those read for the next one, where there is a link
+  pub along-more : (new : Disk) (faults : ℕ) → (IsTrue old.honest → (link_of block).number ≢ 0) → Looked now new (next_reads block) faults → LooksAlong index n old new faults
+  along-more new faults link looked = record {
+    headers = k + 1 + next_reads block;
+    few = omega (arith, along.few, along.segment);
+    each_once = λ honest. elim (cases_lt k 255) [
+      | inl below ↦
+          let here = Reached-count-next (table index old) n m k behind (along.reached honest) header-some along.few below
+          (λ none. link honest (ap (λ (b : List ℕ). (link_of b).number) (block-is honest) ∙ none)) in
+          omega (arith, here)
+      | inr last ↦
+          let here = Reached-count (table index old) n m k behind (along.reached honest) header-some along.few in
+          omega (arith, here, last, along.segment)
+    ];
+    looked = looked_more along.looked looked;
+  }
+
+  -- the next one was read
+  pub Along-next : (to : ℕ) (after : List ℕ) (new : Disk) → ReadsNext index to block after now new → Along index n to (k + 1) (behind ++ m ∷ []) after old new
+  Along-next to after new reads = record {
+    header = header;
+    segment = reads.segment ∙ ap (λ (s : ℕ). s + 1) along.segment;
+    few = omega (arith, reads.not_last, along.segment);
+    reached = λ honest. Reached-next (table index old) n m k behind (along.reached honest) header-some along.few to (is_next honest);
+    looked = looked_more along.looked reads.looked;
+  }
+    where
+      header : HoldsHeader index to after old
+      header = holds-stays index old now (k + 1) along.looked to after reads.header
+
+      is_next : IsTrue old.honest → IsNext (table index old) m to
+      is_next honest =
+          let here : block ≡ (table index old).header m = block-is honest in
+          let there : after ≡ (table index old).header to = header.block_is honest in
+          record {
+            from = HoldsHeader-live index m block old along.header honest;
+            to = HoldsHeader-live index to after old header honest;
+            number = ap (λ (b : List ℕ). (link_of b).number) (sym here) ∙ reads.number;
+            sequence = ap (λ (b : List ℕ). (link_of b).sequence) (sym here) ∙ reads.sequence ∙ ap file_sequence there;
+            segment = ap segment_number (sym there) ∙ reads.segment ∙ ap (λ (b : List ℕ). segment_number b + 1) here;
+          }
+
+  -- its link is wrong
+  pub break-next : (new : Disk) → FindsWrongLink index block now new → FindsBreak index n old new
+  break-next new finds = record {
+    broken = λ honest whole. wrong honest (whole.links m (along.reached honest).of);
+    looked = along-more new 0 (λ honest. finds.some_link) finds.looked;
+  }
+    where
+      wrong : IsTrue old.honest → ¬ LinksRightly (table index old) m
+      wrong honest =
+          let same : table index now ≡ table index old = table-stays index old now (k + 1) along.looked in
+          let none : (m : ℕ) → ¬ IsNextOf (table index old) block m =
+          subst (λ (t : Table). (m : ℕ) → ¬ IsNextOf t block m) same (finds.wrong (honest-stays index old now (k + 1) along.looked honest)) in
+          wrong-link (table index old) m block (block-is honest) finds.some_link none
+
+  -- it couldn't be read
+  pub failed-next : (new : Disk) → FailsToReadNext block now new → LooksAlong index n old new 1
+  failed-next new fails = along-more new 1 (λ honest. fails.some_link) fails.looked
+
+  -- the blocks named up to this header
+  pub counted-more : (blocks here : ℕ) → (IsTrue old.honest → blocks ≡ length (blocks_by (table index old) behind)) → here ≡ length (blocks_named block)
+      → IsTrue old.honest → blocks + here ≡ length (blocks_by (table index old) (behind ++ m ∷ []))
+  counted-more blocks here so_far is honest =
+      let t : Table = table index old in
+      let split = ap length (flat_map-append (λ (n : ℕ). blocks_named (t.header n)) behind (m ∷ [])) ∙ length-append (blocks_by t behind) (blocks_by t (m ∷ [])) in
+      let one = length-append (blocks_named (t.header m)) [] in
+      let named = ap (λ (b : List ℕ). length (blocks_named b)) (block-is honest) in
+      omega (arith, split, one, named, is, so_far honest)
+
+  -- it is the last header, and the file's blocks were counted
+  pub reads-last : (blocks here : ℕ) (after : List ℕ) (new : Disk) → (IsTrue old.honest → blocks ≡ length (blocks_by (table index old) behind)) → here ≡ length (blocks_named block)
+      → FindsLast block after now new → ReadsLast index n m (blocks + here) after old new
+  reads-last blocks here after new so_far is finds = rw (finds.block_stays, finds.disk_stays) (record {
+    header = along.header;
+    last = finds.no_link;
+    of_file = λ honest. (along.reached honest).of;
+    whole = λ honest. Reached-whole (table index old) n m k behind (along.reached honest) header-some along.few (none honest);
+    blocks_are = λ honest.
+        let t : Table = table index old in
+        let all = ap length (blocks-last t n m k behind (along.reached honest) header-some along.few (none honest)) ∙ length-append (blocks_by t behind) (blocks_named (t.header m)) in
+        let named = ap (λ (b : List ℕ). length (blocks_named b)) (block-is honest) in
+        omega (arith, all, named, is, so_far honest);
+    looked = along-looked;
+  })
+    where
+      none : IsTrue old.honest → (link_of ((table index old).header m)).number ≡ 0
+      none honest = ap (λ (b : List ℕ). (link_of b).number) (sym (block-is honest)) ∙ finds.no_link
+
+  -- it names the block
+  pub block-located : (vbn left lbn : ℕ) → (IsTrue old.honest → vbn ≡ length (blocks_by (table index old) behind) + left + 1) → Some lbn ≡ slice_get (blocks_named block) left
+      → IsTrue old.honest → block_by_vbn (table index old) n vbn ≡ Some lbn
+  block-located vbn left lbn behind-is is honest =
+      let t : Table = table index old in
+      let front : List ℕ = blocks_by t behind in
+      let here : List ℕ = blocks_named (t.header m) in
+      let rest : List ℕ = blocks_by t (headers_from (255 - k) t (link_number t m)) in
+      let place : vbn - 1 ≡ length front + left = omega (arith, behind-is honest) in
+      let named : slice_get here left ≡ Some lbn = ap (λ (b : List ℕ). slice_get (blocks_named b) left) (sym (block-is honest)) ∙ sym is in
+      ap (λ (bs : List ℕ). slice_get bs (vbn - 1)) (blocks-split t n m k behind (along.reached honest) header-some along.few)
+      ∙ ap (slice_get (front ++ (here ++ rest))) place
+      ∙ slice_get-append_back front (here ++ rest) (length front + left) (length front) refl (omega arith)
+      ∙ ap (slice_get (here ++ rest)) (omega arith)
+      ∙ slice_get-append_front here rest left lbn named
+
+  pub locates : (vbn left lbn : ℕ) → (IsTrue old.honest → vbn ≡ length (blocks_by (table index old) behind) + left + 1) → Some lbn ≡ slice_get (blocks_named block) left
+      → lbn < length now.image → Locates index n vbn lbn old now
+  locates vbn left lbn behind-is is within = record {
+    header = m;
+    of_file = λ honest. (along.reached honest).of;
+    named = λ honest.
+        let here : List ℕ = blocks_named ((table index old).header m) in
+        let at : slice_get here left ≡ Some lbn = ap (λ (b : List ℕ). slice_get (blocks_named b) left) (sym (block-is honest)) ∙ sym is in
+        (left, slice_get_within here left lbn at, get_or_from_slice_get here left lbn lbn at);
+    block_is = block-located vbn left lbn behind-is is;
+    within = rw (ap (λ (i : Image). length i) along.looked.image) at within;
+    looked = along-looked;
+  }
+
+  -- but it isn't on the device
+  pub damage-outside : (vbn left lbn : ℕ) → (IsTrue old.honest → vbn ≡ length (blocks_by (table index old) behind) + left + 1) → Some lbn ≡ slice_get (blocks_named block) left
+      → length now.image ≤ lbn → FindsDamage index n old now
+  damage-outside vbn left lbn behind-is is past = record {
+    damaged = λ honest sound.
+        let at : slice_get (file_blocks (table index old) n) (vbn - 1) ≡ Some lbn = block-located vbn left lbn behind-is is honest in
+        let within = sound.within (vbn - 1) 0 (slice_get_within _ _ _ at) in
+        let here = get_or_from_slice_get (file_blocks (table index old) n) (vbn - 1) lbn 0 at in
+        let size = ap (λ (i : Image). length i) along.looked.image in
+        absurd (omega (arith, within, here, past, size));
+    looked = along-looked;
+  }
+
+  -- it is the last, and names fewer blocks
+  pub finds-end : (vbn left : ℕ) (after : List ℕ) (new : Disk) → (IsTrue old.honest → vbn ≡ length (blocks_by (table index old) behind) + left + 1) → length (blocks_named block) ≤ left
+      → FindsLast block after now new → FindsEnd index n vbn old new
+  finds-end vbn left after new behind-is few finds = rw finds.disk_stays (record {
+    whole = λ honest. Reached-whole (table index old) n m k behind (along.reached honest) header-some along.few (none honest);
+    fewer = λ honest.
+        let t : Table = table index old in
+        let all = ap length (blocks-last t n m k behind (along.reached honest) header-some along.few (none honest)) ∙ length-append (blocks_by t behind) (blocks_named (t.header m)) in
+        let named = ap (λ (b : List ℕ). length (blocks_named b)) (block-is honest) in
+        omega (arith, all, named, few, behind-is honest);
+    looked = along-looked;
+  })
+    where
+      none : IsTrue old.honest → (link_of ((table index old).header m)).number ≡ 0
+      none honest = ap (λ (b : List ℕ). (link_of b).number) (sym (block-is honest)) ∙ finds.no_link

@@ -1,0 +1,4 @@
+pub mod AlongLemmas
+pub mod ReachedLemmas
+pub mod SegmentLemmas
+pub mod StepLemmas

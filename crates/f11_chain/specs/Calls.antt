@@ -1,0 +1,119 @@
+-- What each call along a file's headers does, by its outcome. The headers are those of an index file that was loaded.
+use Rattle.std.specs.Prelude.{◌≡◌, ◌≢◌, ℕ, ◌+◌, ◌-◌, ◌<◌, ◌≤◌, min, Bool, true, false, IsTrue, List, length, Contains, Some}
+use Rattle.f11_dev.specs.Disk.{Disk}
+use Rattle.f11_dev.specs.Looked.{Looked}
+use Rattle.f11_header.specs.Fields.{file_sequence}
+use Rattle.f11_header.specs.Header.{IsHeader}
+use Rattle.f11_index.specs.HeaderBlock.{segment_number, link_of, blocks_named}
+use Rattle.f11_index.specs.IndexFile.{Index, is_in_use}
+use Rattle.f11_index.specs.Table.{Table, table_in, IsLive, IsFile, IsHeaderOf, IsWholeFile}
+use Rattle.f11_chain.specs.FileHeaders.{headers_of, file_blocks, block_by_vbn, IsSoundFile}
+
+-- the headers that a disk has by this index
+abbrev pub table : Index → Disk → Table
+table index disk = table_in disk.image index
+
+-- The block is header n, as a valid one in a slot in use; it is the disk's where that is honest.
+pub record HoldsHeader (index : Index) (n : ℕ) (block : List ℕ) (disk : Disk) : Type 0 where
+  pub in_use : is_in_use index n ≡ true
+  pub valid : IsHeader block n
+  pub block_is : IsTrue disk.honest → block ≡ (table index disk).header n
+
+-- Slot n's header was read where it is in use; it is live, or isn't.
+pub record ReadsHeader (index : Index) (n : ℕ) (live : Bool) (block : List ℕ) (old new : Disk) : Type 0 where
+  pub holds : IsTrue live → HoldsHeader index n block old
+  pub not_live : live ≡ false → IsTrue old.honest → ¬ IsLive (table index old) n
+  pub looked : Looked old new 1 0
+
+-- The first header of file n was read.
+pub record ReadsFirst (index : Index) (n : ℕ) (block : List ℕ) (old new : Disk) : Type 0 where
+  pub header : HoldsHeader index n block old
+  pub first : segment_number block ≡ 0
+  pub looked : Looked old new 1 0
+
+-- Slot n has no file's first header.
+pub record FindsNoFile (index : Index) (n : ℕ) (old new : Disk) : Type 0 where
+  pub no_file : IsTrue old.honest → ¬ IsFile (table index old) n
+  pub looked : Looked old new 1 0
+
+-- Header m was read, which the header before it links to.
+pub record ReadsNext (index : Index) (m : ℕ) (before block : List ℕ) (old new : Disk) : Type 0 where
+  pub number : (link_of before).number ≡ m
+  pub sequence : (link_of before).sequence ≡ file_sequence block
+  pub segment : segment_number block ≡ segment_number before + 1
+  pub not_last : segment_number before < 255
+  pub header : HoldsHeader index m block old
+  pub looked : Looked old new 1 0
+
+-- The header links to none, and nothing was read.
+pub record FindsLast (before block : List ℕ) (old new : Disk) : Type 0 where
+  pub no_link : (link_of before).number ≡ 0
+  pub block_stays : block ≡ before
+  pub disk_stays : new ≡ old
+
+-- how many headers are read for the next one: none for that of a header of the last segment, 255
+abbrev pub next_reads : List ℕ → ℕ
+next_reads before = min 1 (255 - segment_number before)
+
+-- Header m is the next of a header in hand.
+pub record IsNextOf (t : Table) (before : List ℕ) (m : ℕ) : Type 0 where
+  pub to : IsLive t m
+  pub number : (link_of before).number ≡ m
+  pub sequence : (link_of before).sequence ≡ file_sequence (t.header m)
+  pub segment : segment_number (t.header m) ≡ segment_number before + 1
+
+-- The header links to one that isn't its next.
+pub record FindsWrongLink (index : Index) (before : List ℕ) (old new : Disk) : Type 0 where
+  pub some_link : (link_of before).number ≢ 0
+  pub wrong : IsTrue old.honest → (m : ℕ) → ¬ IsNextOf (table index old) before m
+  pub looked : Looked old new (next_reads before) 0
+
+-- The header links to one that couldn't be read.
+pub record FailsToReadNext (before : List ℕ) (old new : Disk) : Type 0 where
+  pub some_link : (link_of before).number ≢ 0
+  pub looked : Looked old new (next_reads before) 1
+
+-- Headers of file n were read, each once at most; so many transfers failed.
+pub record LooksAlong (index : Index) (n : ℕ) (old new : Disk) (faults : ℕ) : Type 0 where
+  pub headers : ℕ
+  pub few : headers ≤ 256
+  pub each_once : IsTrue old.honest → headers ≤ length (headers_of (table index old) n)
+  pub looked : Looked old new headers faults
+
+-- Block `vbn` of file n was found, which a header of the file names.
+pub record Locates (index : Index) (n vbn lbn : ℕ) (old new : Disk) : Type 0 where
+  pub header : ℕ
+  pub of_file : IsTrue old.honest → IsHeaderOf (table index old) n header
+  pub named : IsTrue old.honest → Contains (blocks_named ((table index old).header header)) lbn
+  pub block_is : IsTrue old.honest → block_by_vbn (table index old) n vbn ≡ Some lbn
+  pub within : lbn < length old.image
+  pub looked : LooksAlong index n old new 0
+
+-- File n is whole and has fewer blocks.
+pub record FindsEnd (index : Index) (n vbn : ℕ) (old new : Disk) : Type 0 where
+  pub whole : IsTrue old.honest → IsWholeFile (table index old) n
+  pub fewer : IsTrue old.honest → length (file_blocks (table index old) n) < vbn
+  pub looked : LooksAlong index n old new 0
+
+-- File n isn't whole.
+pub record FindsBreak (index : Index) (n : ℕ) (old new : Disk) : Type 0 where
+  pub broken : IsTrue old.honest → ¬ IsWholeFile (table index old) n
+  pub looked : LooksAlong index n old new 0
+
+-- File n isn't whole, or has a block off the device.
+pub record FindsDamage (index : Index) (n : ℕ) (old new : Disk) : Type 0 where
+  pub damaged : IsTrue old.honest → ¬ IsSoundFile (table index old) n (length old.image)
+  pub looked : LooksAlong index n old new 0
+
+-- The last header of file n was read, m, and the file's blocks were counted.
+pub record ReadsLast (index : Index) (n m blocks : ℕ) (block : List ℕ) (old new : Disk) : Type 0 where
+  pub header : HoldsHeader index m block old
+  pub last : (link_of block).number ≡ 0
+  pub of_file : IsTrue old.honest → IsHeaderOf (table index old) n m
+  pub whole : IsTrue old.honest → IsWholeFile (table index old) n
+  pub blocks_are : IsTrue old.honest → blocks ≡ length (file_blocks (table index old) n)
+  pub looked : LooksAlong index n old new 0
+
+-- A transfer failed.
+abbrev pub FailsAlong : Index → ℕ → Disk → Disk → Type 0
+FailsAlong index n old new = LooksAlong index n old new 1

@@ -1,0 +1,94 @@
+//! A file's blocks by virtual block number (VBN), and its last header.
+ghost use Rattle.std.specs.Prelude.{◌≡◌, ◌<◌, ◌≤◌, length, IfOk, IsErrOf};
+ghost use Rattle.f11_chain.specs.Calls.{Locates, FindsEnd, FindsDamage, FindsBreak, FailsAlong, ReadsLast};
+ghost use Rattle.f11_index.specs.IndexFile.{slots};
+ghost use Rattle.f11_index.specs.Kept.{index_kept, LiesWithin};
+
+use crate::fault::ChainFault;
+use crate::header::{lbn_of, len_blocks};
+use crate::step::{first, next};
+use f11_bytes::{BLOCK_SIZE, Block};
+use f11_dev::Device;
+use f11_index::IndexFile;
+
+/// How many headers a file has at most (profile).
+const MOST_HEADERS: u32 = 256;
+
+/// The LBN of block `vbn`, from 1, of file `n`, a slot from 1 to the number of slots. It reads the file's headers up to the one that
+/// names the block, each once.
+///
+/// # Errors
+///
+/// `EndOfFile` where the file has fewer blocks; `Damaged` where one of its headers or links, or the block's place, isn't as it
+/// should be; `DeviceFault` where a transfer failed.
+pub fn locate<D: Device>(
+    device: &mut D,
+    index: &IndexFile,
+    n: u16,
+    vbn: u32,
+) -> Result<u32, ChainFault>
+    requires slot { (0 < n) × (n ≤ slots (index_kept index.now)) }
+    requires some { 0 < vbn }
+    requires within { LiesWithin (index_kept index.now) (length (D.disk device.old).image) }
+    ensures locates { IfOk result (λ lbn.
+        Locates (index_kept index.now) n vbn lbn (D.disk device.old) (D.disk device.new)) }
+    ensures end { IsErrOf result ChainFault.EndOfFile
+        → FindsEnd (index_kept index.now) n vbn (D.disk device.old) (D.disk device.new) }
+    ensures damaged { IsErrOf result ChainFault.Damaged
+        → FindsDamage (index_kept index.now) n (D.disk device.old) (D.disk device.new) }
+    ensures failed { IsErrOf result ChainFault.DeviceFault
+        → FailsAlong (index_kept index.now) n (D.disk device.old) (D.disk device.new) }
+{
+    let mut block = [0; BLOCK_SIZE];
+    let mut left = vbn - 1;
+    first(device, index, n, &mut block)?;
+    for _ in 0..MOST_HEADERS {
+        if let Some(lbn) = lbn_of(&block, left) {
+            return if lbn < device.blocks() {
+                Ok(lbn)
+            } else {
+                Err(ChainFault::Damaged)
+            };
+        }
+        left -= len_blocks(&block);
+        let Some(_) = next(device, index, &mut block)? else {
+            return Err(ChainFault::EndOfFile);
+        };
+    }
+    Err(ChainFault::Damaged)
+}
+
+/// Reads the last header of file `n`, a slot from 1 to the number of slots, into the block, and gives its number and the number of the
+/// file's blocks. It reads each header of the file once.
+///
+/// # Errors
+///
+/// `Damaged` where one of its headers or links isn't as it should be; `DeviceFault` where a transfer failed. What the block holds
+/// then is open.
+pub fn last<D: Device>(
+    device: &mut D,
+    index: &IndexFile,
+    n: u16,
+    block: &mut Block,
+) -> Result<(u16, u32), ChainFault>
+    requires slot { (0 < n) × (n ≤ slots (index_kept index.now)) }
+    requires within { LiesWithin (index_kept index.now) (length (D.disk device.old).image) }
+    ensures reads { IfOk result (λ found. ReadsLast (index_kept index.now) n found.0 found.1 block.new
+        (D.disk device.old) (D.disk device.new)) }
+    ensures damaged { IsErrOf result ChainFault.Damaged
+        → FindsBreak (index_kept index.now) n (D.disk device.old) (D.disk device.new) }
+    ensures failed { IsErrOf result ChainFault.DeviceFault
+        → FailsAlong (index_kept index.now) n (D.disk device.old) (D.disk device.new) }
+    ensures no_end { ¬ IsErrOf result ChainFault.EndOfFile }
+{
+    let (mut number, mut blocks) = (n, 0);
+    first(device, index, n, block)?;
+    for _ in 0..MOST_HEADERS {
+        blocks += len_blocks(block);
+        let Some(m) = next(device, index, block)? else {
+            return Ok((number, blocks));
+        };
+        number = m;
+    }
+    Err(ChainFault::Damaged)
+}

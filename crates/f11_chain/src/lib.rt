@@ -1,0 +1,16 @@
+//! The headers of a file along their links, and its blocks by virtual block number (Files-11 On-Disk Structure Level 1, "File
+//! Header").
+//!
+//! Each call goes along the headers of an index file that was loaded, judges each header that it reads, and reads none twice
+//! and 256 at most. The crate stands on [`f11_index`].
+#![tactic(auto)]
+
+mod blocks;
+mod fault;
+mod header;
+pub mod laws;
+mod step;
+
+pub use blocks::{last, locate};
+pub use fault::ChainFault;
+pub use step::{first, next};
