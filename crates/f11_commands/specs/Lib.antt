@@ -1,4 +1,5 @@
 pub mod Dump
+pub mod DumpCommand
 pub mod Home
 pub mod Label
 pub mod Name

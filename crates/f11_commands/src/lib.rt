@@ -12,6 +12,8 @@ mod label;
 mod name;
 mod outcome;
 mod rights;
+mod volume;
+mod volume_dump;
 
 pub use dump::dump_header;
 pub use home::print_home;
@@ -19,3 +21,5 @@ pub use label::Label;
 pub use name::print_name;
 pub use outcome::{Answer, Failure};
 pub use rights::print_rights;
+pub use volume::VolumeFault;
+pub use volume_dump::print_header;

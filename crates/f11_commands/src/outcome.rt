@@ -21,6 +21,8 @@ pub enum Failure {
     DeviceFault,
     /// The writer takes no more.
     CannotWrite,
+    /// No memory is left.
+    NoMemory,
 }
 
 impl From<DeviceFault> for Failure {

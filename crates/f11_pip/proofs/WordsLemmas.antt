@@ -8,10 +8,10 @@ use Rattle.f11_pip.specs.declared.outcome.Failure.{Failure}
 use Rattle.f11_pip.specs.declared.outcome.Failure.TheVariants.{NoMemory}
 use Rattle.f11_pip.specs.Outcome.{failure_of_kind}
 use Rattle.f11_store.specs.declared.callers.Uic.{Uic}
-use Rattle.f11_pip.specs.Commands.{MeetsRights, command_and_word, program_app}
+use Rattle.f11_pip.specs.Commands.{MeetsDump, MeetsRights, command_and_word, program_app}
 use Rattle.f11_pip.specs.Octal.{SpellsUic}
 use Rattle.f11_pip.specs.Words.{AskNoRights, is_option}
-use Rattle.f11_pip.specs.declared.words.Words.TheVariants.{Home, Name, Rights}
+use Rattle.f11_pip.specs.declared.words.Words.TheVariants.{Dump, Home, Name, Rights}
 
 pub is_simple-program : is_simple program_app ≡ true
 unfolding clap_on_literals
@@ -63,6 +63,22 @@ subcommand_of-rights program (a ∷ xs) [] (d ∷ zs) p q r = (rw (p, p, r, r) r
 subcommand_of-rights program (a ∷ xs) (b ∷ ys) [] p q r = (rw (p, p, q, q) refl, rw (p, p, q, q) refl, rw (p, p, q, q) refl)
 subcommand_of-rights program (a ∷ xs) (b ∷ ys) (d ∷ zs) p q r = (rw (p, p, q, q, r, r) refl, rw (p, p, q, q, r, r) refl, rw (p, p, q, q, r, r) refl)
 
+pub takes-dump : (program image number : Text) → is_option image ≡ false → is_option number ≡ false
+    → takes program_app (program ∷ codes "dump" ∷ image ∷ number ∷ []) ≡ true
+unfolding clap_on_literals
+takes-dump program [] [] p q = refl
+takes-dump program [] (b ∷ ys) p q = rw (q, q) refl
+takes-dump program (a ∷ xs) [] p q = rw (p, p) refl
+takes-dump program (a ∷ xs) (b ∷ ys) p q = rw (p, p, q, q) refl
+
+pub subcommand_of-dump : (program image number : Text) → is_option image ≡ false → is_option number ≡ false
+    → MeetsDump image number (subcommand_of program_app (program ∷ codes "dump" ∷ image ∷ number ∷ []))
+unfolding clap_on_literals
+subcommand_of-dump program [] [] p q = (refl, refl)
+subcommand_of-dump program [] (b ∷ ys) p q = (rw (q, q) refl, rw (q, q) refl)
+subcommand_of-dump program (a ∷ xs) [] p q = (rw (p, p) refl, rw (p, p) refl)
+subcommand_of-dump program (a ∷ xs) (b ∷ ys) p q = (rw (p, p, q, q) refl, rw (p, p, q, q) refl)
+
 pub subcommand_of-none : {X : Type 0} (text : X → Text) (words : List X) → length words ≤ 1 → subcommand_of program_app (map text words) ≡ None
 unfolding clap_on_literals
 subcommand_of-none text [] few = refl
@@ -101,11 +117,13 @@ uic_or_none (Some uic) out failure text is spelled every = rw is spelled
 
 -- a text that spells no user's code asks for no rights
 pub no_caller : (caller owner word : Text) → ((uic : Uic) → SpellsUic caller uic → ⊥) → AskNoRights caller owner word
+no_caller caller owner word none (Dump image number) asks = asks
 no_caller caller owner word none (Home image) asks = asks
 no_caller caller owner word none (Name text) asks = asks
 no_caller caller owner word none (Rights c o w) asks = none c asks.0
 
 pub no_owner : (caller owner word : Text) → ((uic : Uic) → SpellsUic owner uic → ⊥) → AskNoRights caller owner word
+no_owner caller owner word none (Dump image number) asks = asks
 no_owner caller owner word none (Home image) asks = asks
 no_owner caller owner word none (Name text) asks = asks
 no_owner caller owner word none (Rights c o w) asks = none o asks.1

@@ -21,8 +21,13 @@ abbrev pub rights_app : App
 rights_app = with_rule (with_rule (with_rule (new_app (codes "rights")) (needed_rule (codes "uic")))
     (needed_rule (codes "owner"))) (needed_rule (codes "word"))
 
+-- `dump IMAGE NUMBER`
+abbrev pub dump_app : App
+dump_app = with_rule (with_rule (new_app (codes "dump")) (needed_rule (codes "image"))) (needed_rule (codes "number"))
+
 abbrev pub program_app : App
-program_app = with_subcommand (with_subcommand (with_subcommand (new_app (codes "f11_pip")) home_app.top) name_app.top) rights_app.top
+program_app = with_subcommand (with_subcommand (with_subcommand (with_subcommand (new_app (codes "f11_pip")) home_app.top) name_app.top)
+    rights_app.top) dump_app.top
 
 -- the name of the command that was met, and its word of this name
 abbrev pub command_and_word : Text → Option (Text × List Row) → Option (Text × Option Text)
@@ -37,6 +42,10 @@ abbrev pub MeetsRights : Text → Text → Text → Option (Text × List Row) �
 MeetsRights caller owner word met = MeetsWord (codes "rights") (codes "uic") caller met
     × MeetsWord (codes "rights") (codes "owner") owner met × MeetsWord (codes "rights") (codes "word") word met
 
+-- `dump` was met, with these two words
+abbrev pub MeetsDump : Text → Text → Option (Text × List Row) → Type 0
+MeetsDump image number met = MeetsWord (codes "dump") (codes "image") image met × MeetsWord (codes "dump") (codes "number") number met
+
 -- a command has this word of this name
 abbrev pub HasWord : Text → Text → ArgMatches → Type 0
 HasWord id word given = first_value (found_of given) id ≡ Some word
@@ -44,3 +53,7 @@ HasWord id word given = first_value (found_of given) id ≡ Some word
 -- `rights` has these three words
 abbrev pub HasRightsWords : Text → Text → Text → ArgMatches → Type 0
 HasRightsWords caller owner word given = HasWord (codes "uic") caller given × HasWord (codes "owner") owner given × HasWord (codes "word") word given
+
+-- `dump` has these two words
+abbrev pub HasDumpWords : Text → Text → ArgMatches → Type 0
+HasDumpWords image number given = HasWord (codes "image") image given × HasWord (codes "number") number given

@@ -36,3 +36,4 @@ failure_of_kind _ = Usage
 abbrev pub failure_of_command : CommandFailure → Failure
 failure_of_command commands.DeviceFault = DeviceFault
 failure_of_command commands.CannotWrite = CannotWrite
+failure_of_command commands.NoMemory = NoMemory

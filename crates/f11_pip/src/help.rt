@@ -8,7 +8,12 @@ struct Synopsis {
     does: &'static str,
 }
 
-const COMMANDS: [Synopsis; 3] = [
+const COMMANDS: [Synopsis; 4] = [
+    Synopsis {
+        name: "dump",
+        words: "f11_pip dump IMAGE NUMBER",
+        does: "shows the file header of this number of a Files-11 volume",
+    },
     Synopsis {
         name: "home",
         words: "f11_pip home IMAGE",

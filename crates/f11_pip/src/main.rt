@@ -5,12 +5,13 @@
 //! what words spell, and on [`clap`], for the words.
 #![tactic(auto)]
 
+mod decimal;
 mod help;
 mod octal;
 mod outcome;
 mod words;
 
-use f11_commands::{Answer, print_home, print_name, print_rights};
+use f11_commands::{Answer, print_header, print_home, print_name, print_rights};
 use f11_dev::FileImage;
 use outcome::{Failure, status};
 use std::env;
@@ -88,6 +89,12 @@ fn answer(rt: &HostRuntime, words: &[String]) -> Result<Answer, Failure> {
 /// Opens the files that the words name, in their order, and does the work.
 fn run<W: Write>(rt: &HostRuntime, words: Words<'_>, writer: &mut W) -> Result<Answer, Failure> {
     let answer = match words {
+        Words::Dump { image, number } => print_header(
+            rt.alloc(),
+            &mut FileImage::open_to_read(rt, image)?,
+            writer,
+            number,
+        )?,
         Words::Home { image } => print_home(&mut FileImage::open_to_read(rt, image)?, writer)?,
         Words::Name { text } => print_name(text, writer)?,
         Words::Rights {

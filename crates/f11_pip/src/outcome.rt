@@ -60,6 +60,7 @@ impl From<f11_commands::Failure> for Failure {
         match failure {
             f11_commands::Failure::DeviceFault => Failure::DeviceFault,
             f11_commands::Failure::CannotWrite => Failure::CannotWrite,
+            f11_commands::Failure::NoMemory => Failure::NoMemory,
         }
     }
 }

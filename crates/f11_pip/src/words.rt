@@ -3,10 +3,12 @@ ghost use Rattle.std.specs.Prelude.{◌≡◌, ◌≤◌, ◌⊎◌, length, ℕ
 ghost use Rattle.std.specs.Result.{result_ok};
 ghost use Rattle.clap.specs.Words.{app_of, first_value, found_of, rule_of, subcommand_rows_of};
 ghost use Rattle.f11_store.specs.declared.callers.Uic.{Uic};
-ghost use Rattle.f11_pip.specs.Words.{AskNoRights, AsksHome, AsksName, AsksRights, FailsToAskRights, IsLine, IsRightsLine};
-ghost use Rattle.f11_pip.specs.Commands.{HasRightsWords, HasWord, MeetsRights, MeetsWord, home_app, name_app, needed_rule, program_app, rights_app};
+ghost use Rattle.f11_pip.specs.Words.{AskNoRights, AsksDump, AsksHome, AsksName, AsksRights, FailsToAskDump, FailsToAskRights, IsDumpLine, IsLine, IsRightsLine};
+ghost use Rattle.f11_pip.specs.Commands.{HasDumpWords, HasRightsWords, HasWord, MeetsDump, MeetsRights, MeetsWord, dump_app, home_app, name_app, needed_rule, program_app, rights_app};
+ghost use Rattle.f11_pip.specs.Decimal.{IsNumber, SpellsNumber};
 ghost use Rattle.f11_pip.specs.Octal.{IsProtection, SpellsProtection, SpellsUic};
 
+use crate::decimal::read_number;
 use crate::octal::{read_protection, read_uic};
 use crate::outcome::Failure;
 use clap::{Arg, ArgAction, ArgMatches, Command};
@@ -17,6 +19,11 @@ use std::convert::AsStr;
 /// What the words of the command line ask for.
 #[derive(Clone, Copy, Debug, PartialEq, Eq)]
 pub enum Words<'a> {
+    /// `dump IMAGE NUMBER`: the number of a file header
+    Dump {
+        image: &'a str,
+        number: u16,
+    },
     /// `home IMAGE`
     Home {
         image: &'a str,
@@ -35,9 +42,12 @@ pub enum Words<'a> {
 
 /// Reads the words of a command line, of which the first is the program's name.
 ///
-/// Words that don't parse, that ask for help, or that are none at all are [`Failure::Usage`], and so are users' codes
-/// and protection words that [`read_uic`] and [`read_protection`] don't read.
+/// Words that don't parse, that ask for help, or that are none at all are [`Failure::Usage`], and so are numbers, users' codes and
+/// protection words that [`read_number`], [`read_uic`] and [`read_protection`] don't read.
 pub fn parse<'a, S: AsStr>(alloc: Global, words: &'a [S]) -> Result<Words<'a>, Failure>
+    ensures dump { (image number : List ℕ)
+        → IsDumpLine image number (map S.text words.entry.now)
+        → MatchResult result (AsksDump image number) (FailsToAskDump number) }
     ensures home { (image : List ℕ) → IsLine (codes "home") image (map S.text words.entry.now)
         → MatchResult result (AsksHome image) (λ failure. failure ≡ Failure.NoMemory) }
     ensures name { (text : List ℕ) → IsLine (codes "name") text (map S.text words.entry.now)
@@ -60,11 +70,15 @@ fn program<'a>(alloc: Global) -> Result<Command<'a>, AllocError>
     Command::new(alloc, "f11_pip")
         .subcommand(home(alloc)?)?
         .subcommand(name(alloc)?)?
-        .subcommand(rights(alloc)?)
+        .subcommand(rights(alloc)?)?
+        .subcommand(dump(alloc)?)
 }
 
 /// The command that the words named.
 fn command_of<'a>(matches: &ArgMatches<'a>) -> Result<Words<'a>, Failure>
+    ensures dump { (image number : List ℕ)
+        → MeetsDump image number (subcommand_rows_of matches.now)
+        → MatchResult result (AsksDump image number) (λ _. ¬ IsNumber number) }
     ensures home { (image : List ℕ)
         → MeetsWord (codes "home") (codes "image") image (subcommand_rows_of matches.now)
         → IsOkAnd result (AsksHome image) }
@@ -79,11 +93,40 @@ fn command_of<'a>(matches: &ArgMatches<'a>) -> Result<Words<'a>, Failure>
     ensures usage { IfErr result (λ failure. failure ≡ Failure.Usage) }
 {
     match matches.subcommand() {
+        Some(("dump", given)) => dump_of(given),
         Some(("home", given)) => home_of(given),
         Some(("name", given)) => name_of(given),
         Some(("rights", given)) => rights_of(given),
         _ => Err(Failure::Usage),
     }
+}
+
+fn dump<'a>(alloc: Global) -> Result<Command<'a>, AllocError>
+    ensures { IfOk result (λ command. app_of command ≡ dump_app) }
+{
+    Command::new(alloc, "dump")
+        .arg(needed(alloc, "image"))?
+        .arg(needed(alloc, "number"))
+}
+
+fn dump_of<'a>(given: &ArgMatches<'a>) -> Result<Words<'a>, Failure>
+    ensures dump { (image number : List ℕ) → HasDumpWords image number given.now
+        → MatchResult result (AsksDump image number) (λ _. ¬ IsNumber number) }
+    ensures usage { IfErr result (λ failure. failure ≡ Failure.Usage) }
+{
+    Ok(Words::Dump {
+        image: word_of(given, "image")?,
+        number: number_of(given)?,
+    })
+}
+
+/// The number among the words.
+fn number_of(given: &ArgMatches<'_>) -> Result<u16, Failure>
+    ensures number { (text : List ℕ) → HasWord (codes "number") text given.now
+        → MatchResult result (SpellsNumber text) (λ _. ¬ IsNumber text) }
+    ensures usage { IfErr result (λ failure. failure ≡ Failure.Usage) }
+{
+    read_number(word_of(given, "number")?).ok_or(Failure::Usage)
 }
 
 fn home<'a>(alloc: Global) -> Result<Command<'a>, AllocError>

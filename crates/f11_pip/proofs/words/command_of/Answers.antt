@@ -21,3 +21,10 @@ returns-in-Some-rights-default-clause-rights c caller owner word met =
       first_value-rows (found_of c.in-Some-rights-default.given.now) (codes "owner") ∙ first_of-met _ _ _ _ owner c.in-Some-rights-default.ensures.rows met.1,
       first_value-rows (found_of c.in-Some-rights-default.given.now) (codes "word") ∙ first_of-met _ _ _ _ word c.in-Some-rights-default.ensures.rows met.2,
     )
+
+pub returns-in-Some-dump-default-clause-dump : goal.returns-in-Some-dump-default-clause-dump
+returns-in-Some-dump-default-clause-dump c image number met =
+    c.dump_of.ensures.dump image number (
+      first_value-rows (found_of c.in-Some-dump-default.given.now) (codes "image") ∙ first_of-met _ _ _ _ image c.in-Some-dump-default.ensures.rows met.0,
+      first_value-rows (found_of c.in-Some-dump-default.given.now) (codes "number") ∙ first_of-met _ _ _ _ number c.in-Some-dump-default.ensures.rows met.1,
+    )

@@ -1,8 +1,9 @@
 use Rattle.std.proofs.Common.{◌∙◌, ap, ap₂, codes, map}
 use Rattle.clap.specs.Words.{is_simple, subcommand_of, takes}
 use Rattle.f11_pip.specs.Commands.{command_and_word}
-use Rattle.f11_pip.specs.Words.{AskNoRights, AsksRights}
-use Rattle.f11_pip.proofs.WordsLemmas.{failure_out_of_memory, match_ok, no_memory_or_none, none_or_no_memory, takes-home, takes-name, takes-rights, subcommand_of-home, subcommand_of-name, subcommand_of-rights, subcommand_of-none, is_simple-program}
+use Rattle.f11_pip.specs.Words.{AskNoRights, AsksDump, AsksRights}
+use Rattle.f11_pip.specs.Decimal.{IsNumber}
+use Rattle.f11_pip.proofs.WordsLemmas.{failure_out_of_memory, match_ok, no_memory_or_none, none_or_no_memory, takes-dump, takes-home, takes-name, takes-rights, subcommand_of-dump, subcommand_of-home, subcommand_of-name, subcommand_of-rights, subcommand_of-none, is_simple-program}
 use Rattle.f11_pip.proofs.words.parse.Goals as goal
 
 pub returns-in_err-matches-clause-home : goal.returns-in_err-matches-clause-home
@@ -44,6 +45,20 @@ returns-clause-rights g c caller owner word line =
       ap (command_and_word (codes "owner")) met ∙ these.1,
       ap (command_and_word (codes "word")) met ∙ these.2,
     ))
+
+pub returns-in_err-matches-clause-dump : goal.returns-in_err-matches-clause-dump
+returns-in_err-matches-clause-dump g c image number line =
+    no_memory_or_none (AsksDump image number) (¬ IsNumber number) c.from_residual-in_err-matches.result
+    (failure_out_of_memory (AsksDump image number) c.from_residual-in_err-matches.result _ c.from_residual-in_err-matches.ensures.1
+    (c.in_err-matches.ensures.passes (ap₂ takes c.in_ok-program.ensures line.is_line ∙ takes-dump line.program image number line.plain_image line.plain_number)))
+
+pub returns-clause-dump : goal.returns-clause-dump
+returns-clause-dump g c image number line =
+    let simple = ap is_simple c.in_ok-program.ensures ∙ is_simple-program in
+    let met = (c.in_ok-matches.ensures.matches simple).1 ∙ ap₂ subcommand_of c.in_ok-program.ensures line.is_line in
+    let these = subcommand_of-dump line.program image number line.plain_image line.plain_number in
+    none_or_no_memory (AsksDump image number) (¬ IsNumber number) c.command_of.result
+    (c.command_of.ensures.dump image number (ap (command_and_word (codes "image")) met ∙ these.0, ap (command_and_word (codes "number")) met ∙ these.1))
 
 pub returns-clause-none : goal.returns-clause-none
 returns-clause-none g c few =

@@ -1,0 +1,62 @@
+-- The index file of a volume is found in two steps: the home block, and then the index file.
+use Rattle.std.proofs.Common.{◌≡◌, ◌⊎◌, ℕ, ◌+◌, ◌/◌, ◌<◌, ◌≤◌, IsTrue, List, Some, length, refl, sym, ap, subst, ◌∙◌, inl, inr, arith}
+use Rattle.std.specs.List.{slice_get}
+use Rattle.std.proofs.lemmas.Bool.Decides.{nat_tests}
+use Rattle.f11_dev.specs.Disk.{Disk}
+use Rattle.f11_dev.specs.Image.{Image, image_block}
+use Rattle.f11_dev.proofs.ImageLemmas.{image_block-read}
+use Rattle.f11_dev.proofs.LookedLemmas.{looked_more, looked_within}
+use Rattle.f11_home.specs.Home.{HomeFields, FindsHome, candidates, IsSound}
+use Rattle.f11_index.specs.Calls.{Loads, most_reads}
+use Rattle.f11_index.specs.IndexFile.{Index, index_of, slots, header_lbn, HasNonePast}
+use Rattle.f11_index.specs.Table.{table_in}
+use Rattle.f11_index.specs.Sound.{IsIndexFile}
+use Rattle.f11_commands.specs.DumpCommand.{FindsIndex, IsHeaderDump, no_header_line}
+use Rattle.f11_commands.specs.Dump.{IsDump}
+
+candidates-counted : (blocks : ℕ) → 1 < blocks → candidates blocks ≡ (blocks + 255) / 256
+candidates-counted blocks some = grind (arith, nat_tests)
+
+-- how many blocks are read
+reads-few : (home : HomeFields) (blocks : ℕ) → IsSound home blocks → home.lbn / 256 + 1 + most_reads home ≤ candidates blocks + 272
+reads-few home blocks sound =
+    let few = sound.valid.fields.small_bitmap in
+    let is = ap (λ (h : HomeFields). h.index_blocks) sound.fields in
+    let many = sound.valid.fields.index_within in
+    let count = candidates-counted blocks (omega (arith, many)) in
+    omega (arith, few, is, many, count, sound.within)
+
+module _ (home : HomeFields) (index : Index) (old mid new : Disk) (finds : FindsHome old mid home) (loads : Loads home index mid new) where
+  image-is : new.image ≡ old.image
+  image-is = loads.looked.image ∙ finds.looked.image
+
+  mid-honest : IsTrue old.honest → IsTrue mid.honest
+  mid-honest honest = finds.looked.honest ∙ honest
+
+  pub FindsIndex-loaded : FindsIndex home index old new
+  FindsIndex-loaded = record {
+    indexed = λ honest. record {
+      is_home = finds.is_home honest;
+      index_file = subst (λ (i : Image). IsIndexFile i home) finds.looked.image (loads.sound (mid-honest honest));
+      none_past = subst HasNonePast
+          (loads.is_for.keeps (loads.looked.honest ∙ mid-honest honest) ∙ ap (λ (i : Image). index_of i home) image-is) loads.none_past;
+    };
+    is_for = loads.is_for;
+    looked = looked_within (looked_more finds.looked loads.looked) (reads-few home (length old.image) finds.sound);
+  }
+
+-- what is said of a header whose slot isn't there, and of one that is
+pub no_slot-dump : (index : Index) (image : Image) (n : ℕ) → (n ≡ 0) ⊎ (slots index < n) → IsHeaderDump (table_in image index) n (no_header_line n)
+unfolding table_in
+no_slot-dump index image n none = record {
+  slot = λ some within. elim none [ inl is ↦ absurd (omega (arith, is, some)) | inr past ↦ absurd (omega (arith, past, within)) ];
+  no_slot = λ _. refl;
+}
+
+pub slot-dump : (index : Index) (image : Image) (n lbn : ℕ) (block text : List ℕ) → 0 < n → n ≤ slots index → lbn ≡ header_lbn index n → slice_get image lbn ≡ Some block
+    → IsDump block n text → IsHeaderDump (table_in image index) n text
+unfolding table_in
+slot-dump index image n lbn block text some within at reads dump = record {
+  slot = λ _ _. subst (λ (b : List ℕ). IsDump b n text) (sym (image_block-read image lbn block reads) ∙ ap (image_block image) at) dump;
+  no_slot = λ none. elim none [ inl is ↦ absurd (omega (arith, is, some)) | inr past ↦ absurd (omega (arith, past, within)) ];
+}
