@@ -1,7 +1,7 @@
 //! What the tests have in common.
-use f11_bytes::{BLOCK_SIZE, Block, NoMemory, zeros};
+use f11_bytes::{BLOCK_SIZE, Block, NoMemory, write_word, zeros};
 use f11_dev::{Device, DeviceFault, Memory};
-use f11_header::blank;
+use f11_header::{HeaderMut, blank};
 use f11_store::{FileId, Uic};
 use std::alloc::Global;
 use std::io::Cursor;
@@ -50,10 +50,34 @@ pub fn put(device: &mut impl Device, lbn: u32, block: &Block) -> Result<(), Devi
     device.write(lbn, block)
 }
 
+/// Writes a block, once more where the first write failed.
+pub fn keep(device: &mut impl Device, lbn: u32, block: &Block) -> Result<(), DeviceFault> {
+    if put(device, lbn, block).is_ok() {
+        return Ok(());
+    }
+    put(device, lbn, block)
+}
+
 /// An empty header of a file that [1,1] owns, not sealed yet.
 pub fn blank_of(id: FileId, protection: u16, segment: u8) -> Block {
     let mut block = zeros();
     blank(&mut block, id, SYSTEM, protection, segment);
+    block
+}
+
+/// A header with this link and these retrieval pointers, an LBN and a count less one each.
+pub fn linked(id: FileId, segment: u8, link: FileId, pointers: &[(u16, u8)]) -> Block {
+    let mut block = blank_of(id, 0, segment);
+    write_word(&mut block, 94, link.number);
+    write_word(&mut block, 96, link.sequence);
+    for (i, (lbn, more)) in pointers.iter().enumerate() {
+        if i < 102 {
+            block[100] = (2 * i + 2) as u8;
+            block[103 + 4 * i] = *more;
+            write_word(&mut block, 104 + 4 * i, *lbn);
+        }
+    }
+    HeaderMut::new(&mut block).seal();
     block
 }
 

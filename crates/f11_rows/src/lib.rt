@@ -13,6 +13,8 @@ mod fixtures;
 #[cfg(test)]
 mod headers;
 #[cfg(test)]
+mod index;
+#[cfg(test)]
 mod lines;
 #[cfg(test)]
 mod names;

@@ -5,29 +5,20 @@ ghost use Rattle.f11_header.specs.Fields.{map_area};
 ghost use Rattle.f11_header.specs.Header.{IsHeader};
 ghost use Rattle.f11_map.specs.MapArea.{IsMapArea, blocks_of};
 
-use crate::fixtures::{SYSTEM, blank_of, file};
-use f11_bytes::{Block, write_word, zeros};
+use crate::fixtures::{SYSTEM, file, linked};
+use f11_bytes::{Block, zeros};
 use f11_header::{Header, HeaderMut, blank, check};
 use f11_map::{Map, MapFull, MapMut, in_hand};
 use f11_store::FileId;
-use std::process::Abort;
 
-/// A sealed header of file 6 with these retrieval pointers, an LBN and a count less one each.
-fn header_of(rt: &impl Abort, pointers: &[(u16, u8)]) -> Block {
-    let mut block = blank_of(file(6, 1), 0, 0);
-    for (i, (lbn, more)) in pointers.iter().enumerate() {
-        assert!(rt; i < 102);
-        block[100] = (2 * i + 2) as u8;
-        block[103 + 4 * i] = *more;
-        write_word(&mut block, 104 + 4 * i, *lbn);
-    }
-    HeaderMut::new(&mut block).seal();
-    block
+/// A header of file 6 with these retrieval pointers, an LBN and a count less one each.
+fn header_of(pointers: &[(u16, u8)]) -> Block {
+    linked(file(6, 1), 0, file(0, 0), pointers)
 }
 
 #[test]
 fn pointers_name_blocks_in_order(rt: HostRuntime) {
-    let mut block = header_of(&rt, &[(22, 255), (278, 43)]);
+    let mut block = header_of(&[(22, 255), (278, 43)]);
     block[46] = 7;
     HeaderMut::new(&mut block).seal();
     assert_eq!(rt; check(&block, 6), Ok(()));
@@ -52,14 +43,14 @@ fn pointers_name_blocks_in_order(rt: HostRuntime) {
 
 #[test]
 fn an_lbn_has_its_high_byte_first(rt: HostRuntime) {
-    let mut block = header_of(&rt, &[(0x3412, 0)]);
+    let mut block = header_of(&[(0x3412, 0)]);
     block[102] = 0x56;
     HeaderMut::new(&mut block).seal();
     assert_eq!(rt; check(&block, 6), Ok(()));
     let map = Map::of(&Header::new(&block));
     assert_eq!(rt; map.runs(), 1);
     assert_eq!(rt; map.run(0), (0x56_3412, 1));
-    let empty = header_of(&rt, &[]);
+    let empty = header_of(&[]);
     assert_eq!(rt; check(&empty, 6), Ok(()));
     let map = Map::of(&Header::new(&empty));
     assert_eq!(rt;
@@ -152,7 +143,7 @@ fn append(block: &mut Block, lbn: u32, count: u32) -> Result<(), MapFull>
 
 #[test]
 fn a_full_header_stays_as_it_is(rt: HostRuntime) {
-    let mut block = header_of(&rt, &[]);
+    let mut block = header_of(&[]);
     for i in 0..102u32 {
         assert_eq!(rt; check(&block, 6), Ok(()), "pointer {i}");
         assert_eq!(rt; append(&mut block, 1000 + 2 * i, 1), Ok(()), "pointer {i}");
@@ -227,7 +218,7 @@ fn pointers_are_cut(rt: HostRuntime) {
 
 #[test]
 fn a_link_names_no_volume(rt: HostRuntime) {
-    let mut block = header_of(&rt, &[(22, 255)]);
+    let mut block = header_of(&[(22, 255)]);
     (block[92], block[93]) = (3, 9);
     HeaderMut::new(&mut block).seal();
     assert_eq!(rt; check(&block, 6), Ok(()));
