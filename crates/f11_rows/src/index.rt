@@ -1,8 +1,12 @@
 //! The index file, and the headers of a file along their links.
-ghost use Rattle.std.specs.Prelude.{length, IfOk};
+ghost use Rattle.std.specs.Prelude.{◌≡◌, ◌<◌, ◌≤◌, length, option_map, IsTrue, IfOk, OnOk, Some};
+ghost use Rattle.f11_chain.specs.Calls.{table};
+ghost use Rattle.f11_chain.specs.FileHeaders.{block_by_vbn};
+ghost use Rattle.f11_dev.specs.Image.{image_block};
+ghost use Rattle.f11_index.specs.IndexFile.{slots};
 ghost use Rattle.f11_index.specs.Kept.{index_kept, LiesWithin};
 
-use crate::fixtures::{ZEROS, file, get, keep, linked, memory, put};
+use crate::fixtures::{SEVENS, ZEROS, file, get, keep, linked, memory, put};
 use f11_bytes::{Block, write_word};
 use f11_chain::{ChainFault, first, last, locate, next};
 use f11_dev::{Device, FailOnce, Liar, Memory};
@@ -219,6 +223,38 @@ fn blocks_are_found_by_number(rt: HostRuntime) -> Result<(), Fail> {
         let made = device.transfers().saturating_sub(before);
         assert_eq!(rt; made, transfers, "{vbn}");
     }
+    Ok(())
+}
+
+/// Reads block `vbn` of file `n`, as where a file is read.
+fn read<D: Device>(
+    device: &mut D,
+    index: &IndexFile,
+    n: u16,
+    vbn: u32,
+    into: &mut Block,
+) -> Result<(), ChainFault>
+    requires slot { (0 < n) × (n ≤ slots (index_kept index.now)) }
+    requires some { 0 < vbn }
+    requires within { LiesWithin (index_kept index.now) (length (D.disk device.old).image) }
+    ensures block { OnOk result (IsTrue (D.disk device.old).honest
+        → option_map (image_block (D.disk device.old).image)
+        (block_by_vbn (table (index_kept index.now) (D.disk device.old)) n vbn) ≡ Some into.new) }
+{
+    let lbn = locate(device, index, n, vbn)?;
+    device.read(lbn, into)?;
+    Ok(())
+}
+
+#[test]
+fn a_file_is_read(rt: HostRuntime) -> Result<(), Fail> {
+    let mut device = two_headers(rt.alloc())?;
+    put(&mut device, 51, &SEVENS)?;
+    let index = load(rt.alloc(), &mut device)?;
+    let mut block = ZEROS;
+    assert!(rt; index.slots() >= 6);
+    read(&mut device, &index, 6, 9, &mut block)?;
+    assert!(rt; block == SEVENS);
     Ok(())
 }
 
