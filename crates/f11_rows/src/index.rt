@@ -1,15 +1,15 @@
 //! The index file, and the headers of a file along their links.
-ghost use Rattle.std.specs.Prelude.{◌≡◌, ◌<◌, ◌≤◌, length, option_map, IsTrue, IfOk, OnOk, Some};
+ghost use Rattle.std.specs.Prelude.{◌≡◌, ◌<◌, ◌≤◌, true, length, option_map, IsTrue, IfOk, IfSome, OnOk, Some};
 ghost use Rattle.f11_chain.specs.Calls.{table};
 ghost use Rattle.f11_chain.specs.FileHeaders.{block_by_vbn};
 ghost use Rattle.f11_dev.specs.Image.{image_block};
-ghost use Rattle.f11_index.specs.IndexFile.{slots};
+ghost use Rattle.f11_index.specs.IndexFile.{slots, is_in_use};
 ghost use Rattle.f11_index.specs.Kept.{index_kept, LiesWithin};
 
 use crate::fixtures::{SEVENS, ZEROS, file, get, keep, linked, memory, put};
 use f11_bytes::{Block, write_word};
 use f11_chain::{ChainFault, first, last, locate, next};
-use f11_dev::{Device, FailOnce, Liar, Memory};
+use f11_dev::{Device, DeviceFault, FailOnce, Liar, Memory};
 use f11_header::HeaderMut;
 use f11_home::{find, seal};
 use f11_index::{IndexFault, IndexFile};
@@ -144,6 +144,28 @@ fn a_bit_is_written_or_not(rt: HostRuntime) -> Result<(), Fail> {
             in_use,
             "at {transfer}"
         );
+    }
+    Ok(())
+}
+
+/// Takes the least free slot into use, as where a header is made.
+fn take_slot<D: Device>(index: &mut IndexFile, device: &mut D) -> Result<Option<u16>, DeviceFault>
+    requires within { LiesWithin (index_kept index.old) (length (D.disk device.old).image) }
+    ensures { IfOk result (λ slot. IfSome slot (λ n. is_in_use (index_kept index.new) n ≡ true)) }
+{
+    let Some(n) = index.least_free() else {
+        return Ok(None);
+    };
+    index.set(device, n)?;
+    Ok(Some(n))
+}
+
+#[test]
+fn slots_are_taken(rt: HostRuntime) -> Result<(), Fail> {
+    let mut device = small_volume(rt.alloc(), 0xfe1f)?;
+    for slot in [Some(6), Some(7), Some(8), Some(9), None] {
+        let mut index = load(rt.alloc(), &mut device)?;
+        assert_eq!(rt; take_slot(&mut index, &mut device)?, slot);
     }
     Ok(())
 }
