@@ -95,11 +95,6 @@ Marks-next free bitmap lbn m start n total old now new same first is sum then ho
     subst (λ (t : ℕ). Marks free bitmap lbn t old.image new.image) sum
     (Marks-more free bitmap lbn m n old.image now.image new.image (first honest) (subst (λ (k : ℕ). Marks free bitmap k n now.image new.image) is (then now_honest)))
 
--- what is said of a failure, where it holds
-pub OnErr-given : {T E P : Type 0} (result : Result T E) → P → OnErr result P
-OnErr-given (Ok value) holds = tt
-OnErr-given (Err error) holds = holds
-
 -- the first n blocks of count are being marked
 pub Went-first : (free : Bool) (bitmap : Bitmap) (lbn n count : ℕ) (old now : Disk) {most faults : ℕ} → n ≤ count → (n ≡ count) ⊎ ((lbn + n) % 4096 ≡ 0)
     → Went (Changing old.honest free bitmap lbn n old.image) old now most faults → Went (Changing old.honest free bitmap lbn count old.image) old now most faults

@@ -75,5 +75,5 @@ abbrev pub FailsToWriteBit : Bool → ℕ → Index → Disk → Disk → Type 0
 FailsToWriteBit value n before old new = Went (HasBitWritten value n before old.image) old new 1 1
 
 -- The index file has these blocks too, behind its others, as far as there can be headers.
-abbrev pub grown : Index → ℕ → ℕ → Index
-grown index lbn count = record index { headers = take (min (4096 * length index.bitmap) 65535) (index.headers ++ range_with_len lbn count) }
+abbrev pub with_blocks_behind : Index → ℕ → ℕ → Index
+with_blocks_behind index lbn count = record index { headers = take (min (4096 * length index.bitmap) 65535) (index.headers ++ range_with_len lbn count) }

@@ -15,7 +15,7 @@ const WORD: u32 = 16;
 const WORDS: u32 = 256;
 
 impl IndexFile {
-    ghost use Rattle.f11_index.specs.Calls.{grown};
+    ghost use Rattle.f11_index.specs.Calls.{with_blocks_behind};
     ghost use Rattle.f11_index.specs.IndexFile.{slots, free_slots};
     ghost use Rattle.f11_index.specs.Kept.{index_kept, room};
     ghost use Rattle.f11_index.specs.Slots.{free_between};
@@ -62,7 +62,7 @@ impl IndexFile {
     pub fn grow(&mut self, lbn: u32, count: u32)
         requires numbers { lbn + count ≤ 2 ^ 32 }
         requires reserved { count ≤ room self.old }
-        ensures grown { index_kept self.new ≡ grown (index_kept self.old) lbn count }
+        ensures grown { index_kept self.new ≡ with_blocks_behind (index_kept self.old) lbn count }
         ensures room { room self.old ≤ room self.new + count }
     {
         let most = (BITS * self.bitmap.len() as u32).min(65535);

@@ -1,12 +1,13 @@
 use Rattle.std.proofs.Common.{◌≡◌, ◌⊎◌, inl, inr, ℕ, ◌+◌, ◌-◌, ◌*◌, ◌/◌, ◌%◌, ◌<◌, ◌≤◌, min, max, true, Bool, IsTrue, subst, arith}
 use Rattle.std.proofs.lemmas.Bool.{cases_lt}
 use Rattle.f11_dev.proofs.WentLemmas.{went_within}
+use Rattle.f11_bytes.proofs.ResultLemmas.{OnErr-given}
 use Rattle.f11_bits.specs.Bitmap.{is_free, Marks}
 use Rattle.f11_bits.specs.Changes.{Changing}
 use Rattle.f11_bits.specs.Storage.{bitmap_of}
 use Rattle.f11_bits.proofs.CountLemmas.{count_below-le}
 use Rattle.f11_bits.proofs.BitmapLemmas.{KeepsOthers-trans, free_blocks-given}
-use Rattle.f11_bits.proofs.StepLemmas.{KeepsOthers-went, LiesWithin-kept, Marks-next, OnErr-given, Went-more}
+use Rattle.f11_bits.proofs.StepLemmas.{KeepsOthers-went, LiesWithin-kept, Marks-next, Went-more}
 use Rattle.f11_bits.proofs.storage.Storage.give.Goals as goal
 
 -- the blocks of one bitmap block, `done` of count before it

@@ -1,9 +1,10 @@
 use Rattle.std.proofs.Common.{◌≢◌, ◌+◌, ◌/◌, ◌<◌, false, inl, inr, refl, subst, Bool, IsTrue, length, arith}
 use Rattle.f11_dev.proofs.WentLemmas.{went_within}
+use Rattle.f11_bytes.proofs.ResultLemmas.{OnErr-given}
 use Rattle.f11_bits.specs.Changes.{Changing}
 use Rattle.f11_bits.specs.Storage.{bitmap_of}
 use Rattle.f11_bits.proofs.BitmapLemmas.{HasBitOf-apart}
-use Rattle.f11_bits.proofs.StepLemmas.{LiesWithin-kept, KeepsOthers-went, Marks-next, OnErr-given, Went-first, Went-more}
+use Rattle.f11_bits.proofs.StepLemmas.{LiesWithin-kept, KeepsOthers-went, Marks-next, Went-first, Went-more}
 use Rattle.f11_bits.proofs.storage.Storage.mark_used.Goals as goal
 
 pub write_bits-requires-then-run-gt0-clause-within : goal.write_bits-requires-then-run-gt0-clause-within

@@ -1,9 +1,10 @@
 use Rattle.std.proofs.Common.{◌+◌, ◌≤◌, false, Bool, IsTrue, subst, arith}
 use Rattle.f11_dev.specs.Image.{Image}
+use Rattle.f11_bytes.proofs.ResultLemmas.{OnErr-given}
 use Rattle.f11_bits.specs.Bitmap.{Marks}
 use Rattle.f11_bits.specs.Storage.{bitmap_of}
 use Rattle.f11_bits.proofs.BitmapLemmas.{free_blocks-taken}
-use Rattle.f11_bits.proofs.StepLemmas.{FailsToTake-marking, KeepsOthers-went, LiesWithin-kept, LiesWithin-looked, OnErr-given}
+use Rattle.f11_bits.proofs.StepLemmas.{FailsToTake-marking, KeepsOthers-went, LiesWithin-kept, LiesWithin-looked}
 use Rattle.f11_bits.proofs.storage.Storage.take.Goals as goal
 
 pub returns-in_err-mark_used-clause-failed : goal.returns-in_err-mark_used-clause-failed
