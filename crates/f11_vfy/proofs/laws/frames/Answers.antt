@@ -1,0 +1,8 @@
+use Rattle.f11_vfy.proofs.FrameLemmas.{frame-none, frame-only}
+use Rattle.f11_vfy.proofs.laws.frames.Goals as goal
+
+pub returns-clause-none : goal.returns-clause-none
+returns-clause-none c = frame-none
+
+pub returns-clause-only : goal.returns-clause-only
+returns-clause-only c = frame-only

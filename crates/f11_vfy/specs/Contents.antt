@@ -1,0 +1,72 @@
+-- The files of a volume, read off its image (Files-11 On-Disk Structure Level 1, "File Header" and "Directories").
+use Rattle.std.specs.Prelude.{ℕ, zero, suc, ◌+◌, ◌-◌, ◌==◌, ◌&&◌, Bool, List, [], ◌∷◌, length, map, sum_by, slice_index_or, Option, Some, None, if◌then◌else◌}
+use Rattle.f11_bytes.specs.Block.{zero_block}
+use Rattle.f11_bytes.specs.Words.{word_sum}
+use Rattle.f11_dev.specs.Image.{Image}
+use Rattle.f11_header.specs.Fields.{file_number, file_sequence, owner, protection, characteristics, attributes, check_word, ident_area, map_area}
+use Rattle.f11_header.specs.Header.{holds_header}
+use Rattle.f11_header.specs.MapFields.{places}
+use Rattle.f11_map.specs.MapArea.{runs_of}
+use Rattle.f11_index.specs.HeaderBlock.{segment_number, link_of}
+use Rattle.f11_index.specs.Table.{Table, last_sequence}
+use Rattle.f11_chain.specs.FileHeaders.{blocks_by}
+use Rattle.f11_store.specs.File.{File}
+
+-- whether header n is live: its slot is in use, and it is valid
+unfoldable pub is_live : Table → ℕ → Bool
+is_live t n =
+    let b = t.header n in
+    t.in_use n && (file_number b == n && (holds_header b && check_word b == word_sum b 255))
+
+-- whether header n has a next one: its link names a header that is live too, with the link's sequence number and a segment number one
+-- more
+unfoldable pub has_next : Table → ℕ → Bool
+has_next t n =
+    let link = link_of (t.header n) in
+    let b = t.header link.number in
+    is_live t n && (is_live t link.number && (link.sequence == file_sequence b && segment_number b == segment_number (t.header n) + 1))
+
+-- the next of header n
+unfoldable pub next_of : Table → ℕ → Option ℕ
+next_of t n = if has_next t n then Some (link_of (t.header n)).number else None
+
+-- this header and those that follow it, each the next of the one before, so many at most
+unfoldable pub following : ℕ → Table → Option ℕ → List ℕ
+following zero t at = []
+following (suc most) t None = []
+following (suc most) t (Some n) = n ∷ following most t (next_of t n)
+
+-- the headers of file n: those that are reached from its first, whatever else a link may name
+abbrev pub headers_reached : Table → ℕ → List ℕ
+headers_reached t n = following 256 t (Some n)
+
+-- a block of an image, which past the device's end counts as zeros (profile)
+abbrev pub block_or_zeros : Image → ℕ → List ℕ
+block_or_zeros image lbn = slice_index_or image lbn zero_block
+
+-- the number of retrieval pointers of header n
+abbrev pub pointer_count : Table → ℕ → ℕ
+pointer_count t n = length (runs_of (map_area (t.header n)))
+
+-- the places for pointers that the last of these headers has left
+abbrev pub room_left : Table → List ℕ → ℕ
+room_left t headers =
+    let last = slice_index_or headers (length headers - 1) 0 in
+    places (map_area (t.header last)) - pointer_count t last
+
+-- file n, as its headers and blocks say, files 1 to 3 with their blocks too
+unfoldable pub file_of : Image → Table → ℕ → File
+file_of image t n =
+    let headers = headers_reached t n in
+    record {
+      sequence = last_sequence t n;
+      owner = owner (t.header n);
+      protection = protection (t.header n);
+      characteristics = characteristics (t.header n);
+      ident = ident_area (t.header n);
+      attr = attributes (t.header n);
+      held = headers;
+      pointers = sum_by (pointer_count t) headers;
+      room = room_left t headers;
+      blocks = map (block_or_zeros image) (blocks_by t headers);
+    }
