@@ -17,6 +17,7 @@ use Rattle.f11_index.specs.HeaderBlock.{segment_number, link_of, blocks_named}
 use Rattle.f11_index.specs.IndexFile.{Index}
 use Rattle.f11_index.specs.Table.{Table, table_in, IsLive, IsNext, LinksRightly}
 use Rattle.f11_index.proofs.InUseLemmas.{in_use-some}
+use Rattle.f11_index.proofs.PlaceLemmas.{slice_get-append_front}
 use Rattle.f11_chain.specs.FileHeaders.{headers_from, blocks_by, file_blocks, block_by_vbn}
 use Rattle.f11_chain.specs.Calls.{table, HoldsHeader, ReadsFirst, FindsNoFile, ReadsNext, FindsLast, FindsWrongLink, IsNextOf, FailsToReadNext, next_reads, LooksAlong, FindsBreak, FindsDamage, ReadsLast, Locates, FindsEnd}
 use Rattle.f11_chain.proofs.StepLemmas.{table-in_use, wrong-link}
@@ -86,12 +87,6 @@ break-first index n old new some finds = record {
 
 pub failed-first : (index : Index) (n : ℕ) (old new : Disk) → 0 < n → Looked old new 1 1 → LooksAlong index n old new 1
 failed-first index n old new some looked = first-looked index n old new 1 some looked
-
--- a place in the front of a list
-slice_get-append_front : (xs ys : List ℕ) (i x : ℕ) → slice_get xs i ≡ Some x → slice_get (xs ++ ys) i ≡ Some x
-slice_get-append_front [] ys i x is = cc
-slice_get-append_front (y ∷ xs) ys zero x is = is
-slice_get-append_front (y ∷ xs) ys (suc i) x is = slice_get-append_front xs ys i x is
 
 -- a place past its end
 pub past-none : (xs : List ℕ) (i : ℕ) → None ≡ slice_get xs i → length xs ≤ i
