@@ -14,14 +14,16 @@ use Rattle.f11_header.specs.Fields.{file_sequence}
 use Rattle.f11_header.specs.Header.{IsHeader}
 use Rattle.f11_map.proofs.MapLemmas.{slice_get-append_back}
 use Rattle.f11_index.specs.HeaderBlock.{segment_number, link_of, blocks_named}
+use Rattle.f11_index.specs.Headers.{headers_from, IsLastOf}
 use Rattle.f11_index.specs.IndexFile.{Index}
 use Rattle.f11_index.specs.Table.{Table, table_in, IsLive, IsNext, LinksRightly}
 use Rattle.f11_index.proofs.InUseLemmas.{in_use-some}
+use Rattle.f11_index.proofs.HeadersLemmas.{link_number, Comes-first, Comes-count, Comes-count-next, last-ends, last-whole}
 use Rattle.f11_index.proofs.PlaceLemmas.{slice_get-append_front}
-use Rattle.f11_chain.specs.FileHeaders.{headers_from, blocks_by, file_blocks, block_by_vbn}
+use Rattle.f11_chain.specs.FileHeaders.{blocks_by, file_blocks, block_by_vbn}
 use Rattle.f11_chain.specs.Calls.{table, HoldsHeader, ReadsFirst, FindsNoFile, ReadsNext, FindsLast, FindsWrongLink, IsNextOf, FailsToReadNext, next_reads, LooksAlong, FindsBreak, FindsDamage, ReadsLast, Locates, FindsEnd}
 use Rattle.f11_chain.proofs.StepLemmas.{table-in_use, wrong-link}
-use Rattle.f11_chain.proofs.ReachedLemmas.{Reached, Reached-first, Reached-next, Reached-count, Reached-count-next, Reached-whole, headers-some, blocks-last, blocks-split, link_number}
+use Rattle.f11_chain.proofs.ReachedLemmas.{Reached, Reached-first, Reached-next, blocks-last, blocks-split}
 
 -- The block is header m, that of segment k of file n, and each header up to it was read once. These are the headers before it.
 pub record Along (index : Index) (n m k : ℕ) (behind : List ℕ) (block : List ℕ) (old now : Disk) : Type 0 where
@@ -71,7 +73,7 @@ first-looked : (index : Index) (n : ℕ) (old new : Disk) (faults : ℕ) → 0 <
 first-looked index n old new faults some looked = record {
   headers = 1;
   few = omega arith;
-  each_once = λ honest. headers-some (table index old) n some;
+  each_once = λ honest. Comes-count (table index old) n n 0 [] (Comes-first (table index old) n) some (omega arith);
   looked = looked;
 }
 
@@ -115,7 +117,7 @@ module _ (index : Index) (n m k : ℕ) (behind : List ℕ) (block : List ℕ) (o
   along-looked = record {
     headers = k + 1;
     few = omega (arith, along.few);
-    each_once = λ honest. Reached-count (table index old) n m k behind (along.reached honest) header-some along.few;
+    each_once = λ honest. Comes-count (table index old) n m k behind (along.reached honest).comes header-some along.few;
     looked = along.looked;
   }
 
@@ -126,11 +128,11 @@ module _ (index : Index) (n m k : ℕ) (behind : List ℕ) (block : List ℕ) (o
     few = omega (arith, along.few, along.segment);
     each_once = λ honest. elim (cases_lt k 255) [
       | inl below ↦
-          let here = Reached-count-next (table index old) n m k behind (along.reached honest) header-some along.few below
+          let here = Comes-count-next (table index old) n m k behind (along.reached honest).comes header-some below
           (λ none. link honest (ap (λ (b : List ℕ). (link_of b).number) (block-is honest) ∙ none)) in
           omega (arith, here)
       | inr last ↦
-          let here = Reached-count (table index old) n m k behind (along.reached honest) header-some along.few in
+          let here = Comes-count (table index old) n m k behind (along.reached honest).comes header-some along.few in
           omega (arith, here, last, along.segment)
     ];
     looked = looked_more along.looked looked;
@@ -189,24 +191,34 @@ module _ (index : Index) (n m k : ℕ) (behind : List ℕ) (block : List ℕ) (o
       let named = ap (λ (b : List ℕ). length (blocks_named b)) (block-is honest) in
       omega (arith, split, one, named, is, so_far honest)
 
-  -- it is the last header, and the file's blocks were counted
+  -- it is the last header
+  ends-file : (link_of block).number ≡ 0 → IsTrue old.honest → IsLastOf (table index old) n m
+  ends-file none honest = record {
+    of = (along.reached honest).of;
+    no_link = ap (λ (b : List ℕ). (link_of b).number) (sym (block-is honest)) ∙ none;
+  }
+
+  -- and the file's headers and blocks were counted
   pub reads-last : (blocks here : ℕ) (after : List ℕ) (new : Disk) → (IsTrue old.honest → blocks ≡ length (blocks_by (table index old) behind)) → here ≡ length (blocks_named block)
-      → FindsLast block after now new → ReadsLast index n m (blocks + here) after old new
+      → FindsLast block after now new → ReadsLast index n (record { number = m; headers = k + 1; blocks = blocks + here }) after old new
   reads-last blocks here after new so_far is finds = rw (finds.block_stays, finds.disk_stays) (record {
     header = along.header;
-    last = finds.no_link;
-    of_file = λ honest. (along.reached honest).of;
-    whole = λ honest. Reached-whole (table index old) n m k behind (along.reached honest) header-some along.few (none honest);
+    no_link = finds.no_link;
+    segment = ap (λ (s : ℕ). s + 1) (sym along.segment);
+    few = omega (arith, along.few);
+    is_last = ends-file finds.no_link;
+    whole = λ honest. last-whole (table index old) n m (ends-file finds.no_link honest);
+    headers_are = λ honest.
+        let segment = (along.reached honest).segment in
+        let all = last-ends (table index old) n m (ends-file finds.no_link honest) (omega (arith, segment, along.few)) in
+        omega (arith, all, segment);
     blocks_are = λ honest.
         let t : Table = table index old in
-        let all = ap length (blocks-last t n m k behind (along.reached honest) header-some along.few (none honest)) ∙ length-append (blocks_by t behind) (blocks_named (t.header m)) in
+        let all = ap length (blocks-last t n m k behind (along.reached honest) header-some along.few (ends-file finds.no_link honest).no_link) ∙ length-append (blocks_by t behind) (blocks_named (t.header m)) in
         let named = ap (λ (b : List ℕ). length (blocks_named b)) (block-is honest) in
         omega (arith, all, named, is, so_far honest);
     looked = along-looked;
   })
-    where
-      none : IsTrue old.honest → (link_of ((table index old).header m)).number ≡ 0
-      none honest = ap (λ (b : List ℕ). (link_of b).number) (sym (block-is honest)) ∙ finds.no_link
 
   -- it names the block
   pub block-located : (vbn left lbn : ℕ) → (IsTrue old.honest → vbn ≡ length (blocks_by (table index old) behind) + left + 1) → Some lbn ≡ slice_get (blocks_named block) left
@@ -255,14 +267,11 @@ module _ (index : Index) (n m k : ℕ) (behind : List ℕ) (block : List ℕ) (o
   pub finds-end : (vbn left : ℕ) (after : List ℕ) (new : Disk) → (IsTrue old.honest → vbn ≡ length (blocks_by (table index old) behind) + left + 1) → length (blocks_named block) ≤ left
       → FindsLast block after now new → FindsEnd index n vbn old new
   finds-end vbn left after new behind-is few finds = rw finds.disk_stays (record {
-    whole = λ honest. Reached-whole (table index old) n m k behind (along.reached honest) header-some along.few (none honest);
+    whole = λ honest. last-whole (table index old) n m (ends-file finds.no_link honest);
     fewer = λ honest.
         let t : Table = table index old in
-        let all = ap length (blocks-last t n m k behind (along.reached honest) header-some along.few (none honest)) ∙ length-append (blocks_by t behind) (blocks_named (t.header m)) in
+        let all = ap length (blocks-last t n m k behind (along.reached honest) header-some along.few (ends-file finds.no_link honest).no_link) ∙ length-append (blocks_by t behind) (blocks_named (t.header m)) in
         let named = ap (λ (b : List ℕ). length (blocks_named b)) (block-is honest) in
         omega (arith, all, named, few, behind-is honest);
     looked = along-looked;
   })
-    where
-      none : IsTrue old.honest → (link_of ((table index old).header m)).number ≡ 0
-      none honest = ap (λ (b : List ℕ). (link_of b).number) (sym (block-is honest)) ∙ finds.no_link

@@ -1,4 +1,5 @@
 pub mod AlongLemmas
+pub mod ChangeLemmas
+pub mod FileOneLemmas
 pub mod ReachedLemmas
-pub mod SegmentLemmas
 pub mod StepLemmas

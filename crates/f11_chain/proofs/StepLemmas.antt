@@ -1,5 +1,5 @@
 -- What one header read tells of the table of headers.
-use Rattle.std.proofs.Common.{◌≡◌, ◌≢◌, ◌↔◌, ℕ, ◌+◌, ◌<◌, Bool, true, false, IsTrue, List, Some, refl, sym, ap, subst, ◌∙◌, inl, inr, arith}
+use Rattle.std.proofs.Common.{◌≡◌, ◌≢◌, ◌↔◌, ℕ, ◌+◌, Bool, true, false, IsTrue, List, Some, refl, sym, ap, subst, ◌∙◌, inl, inr, arith}
 use Rattle.std.specs.List.{slice_get}
 use Rattle.std.proofs.lemmas.Bool.{both_ways}
 use Rattle.f11_dev.specs.Disk.{Disk, with_transfer}
@@ -10,7 +10,7 @@ use Rattle.f11_header.specs.Header.{IsHeader}
 use Rattle.f11_index.specs.IndexFile.{Index, is_in_use, header_lbn}
 use Rattle.f11_index.specs.Table.{Table, table_in, LinksRightly}
 use Rattle.f11_index.specs.HeaderBlock.{segment_number, link_of}
-use Rattle.f11_chain.proofs.SegmentLemmas.{segment_number-byte}
+use Rattle.f11_index.proofs.SegmentLemmas.{table-bytes}
 use Rattle.f11_chain.specs.Calls.{ReadsHeader, FindsWrongLink, IsNextOf, table}
 
 -- a slot in use is one of the table, and the other way round
@@ -22,10 +22,6 @@ pub table-header : (index : Index) (disk : Disk) (n lbn : ℕ) (block : List ℕ
     → block ≡ (table index disk).header n
 unfolding table_in
 table-header index disk n lbn block at reads = sym (image_block-read disk.image lbn block reads) ∙ ap (image_block disk.image) at
-
-table-byte : (index : Index) (disk : Disk) → IsImage disk.image → (n : ℕ) → segment_number ((table index disk).header n) < 256
-unfolding table_in
-table-byte index disk image n = segment_number-byte disk.image (header_lbn index n) image
 
 -- slot n isn't in use, so nothing is read
 pub ReadsHeader-none : (index : Index) (n : ℕ) (block : List ℕ) (disk : Disk) → is_in_use index n ≡ false → ReadsHeader index n false block disk disk
@@ -52,7 +48,7 @@ pub FindsWrongLink-last : (index : Index) (before : List ℕ) (disk : Disk) → 
     → FindsWrongLink index before disk disk
 FindsWrongLink-last index before disk image last some = record {
   some_link = some;
-  wrong = λ honest m next. let byte = table-byte index disk image m in absurd (omega (arith, last, next.segment, byte));
+  wrong = λ honest m next. let byte = table-bytes disk.image index image m in absurd (omega (arith, last, next.segment, byte));
   looked = looked_within (looked_none disk) (omega arith);
 }
 

@@ -5,9 +5,11 @@ use Rattle.f11_dev.specs.Looked.{Looked}
 use Rattle.f11_header.specs.Fields.{file_sequence}
 use Rattle.f11_header.specs.Header.{IsHeader}
 use Rattle.f11_index.specs.HeaderBlock.{segment_number, link_of, blocks_named}
+use Rattle.f11_index.specs.Headers.{headers_of, IsLastOf}
 use Rattle.f11_index.specs.IndexFile.{Index, is_in_use}
 use Rattle.f11_index.specs.Table.{Table, table_in, IsLive, IsFile, IsHeaderOf, IsWholeFile}
-use Rattle.f11_chain.specs.FileHeaders.{headers_of, file_blocks, block_by_vbn, IsSoundFile}
+use Rattle.f11_chain.specs.FileHeaders.{file_blocks, block_by_vbn, IsSoundFile}
+use Rattle.f11_chain.specs.declared.blocks.FileEnd.{FileEnd}
 
 -- the headers that a disk has by this index
 abbrev pub table : Index → Disk → Table
@@ -105,13 +107,16 @@ pub record FindsDamage (index : Index) (n : ℕ) (old new : Disk) : Type 0 where
   pub damaged : IsTrue old.honest → ¬ IsSoundFile (table index old) n (length old.image)
   pub looked : LooksAlong index n old new 0
 
--- The last header of file n was read, m, and the file's blocks were counted.
-pub record ReadsLast (index : Index) (n m blocks : ℕ) (block : List ℕ) (old new : Disk) : Type 0 where
-  pub header : HoldsHeader index m block old
-  pub last : (link_of block).number ≡ 0
-  pub of_file : IsTrue old.honest → IsHeaderOf (table index old) n m
+-- The last header of file n was read, and the file's headers and blocks were counted.
+pub record ReadsLast (index : Index) (n : ℕ) (last : FileEnd) (block : List ℕ) (old new : Disk) : Type 0 where
+  pub header : HoldsHeader index last.number block old
+  pub no_link : (link_of block).number ≡ 0
+  pub segment : last.headers ≡ segment_number block + 1
+  pub few : last.headers ≤ 256
+  pub is_last : IsTrue old.honest → IsLastOf (table index old) n last.number
   pub whole : IsTrue old.honest → IsWholeFile (table index old) n
-  pub blocks_are : IsTrue old.honest → blocks ≡ length (file_blocks (table index old) n)
+  pub headers_are : IsTrue old.honest → last.headers ≡ length (headers_of (table index old) n)
+  pub blocks_are : IsTrue old.honest → last.blocks ≡ length (file_blocks (table index old) n)
   pub looked : LooksAlong index n old new 0
 
 -- A transfer failed.

@@ -12,7 +12,7 @@ use f11_dev::Device;
 use f11_index::IndexFile;
 
 /// How many headers a file has at most (profile).
-const MOST_HEADERS: u32 = 256;
+const MOST_HEADERS: u16 = 256;
 
 /// The LBN of block `vbn`, from 1, of file `n`, a slot from 1 to the number of slots. It reads the file's headers up to the one that
 /// names the block, each once.
@@ -58,8 +58,19 @@ pub fn locate<D: Device>(
     Err(ChainFault::Damaged)
 }
 
-/// Reads the last header of file `n`, a slot from 1 to the number of slots, into the block, and gives its number and the number of the
-/// file's blocks. It reads each header of the file once.
+/// Where a file ends.
+#[derive(Clone, Copy, Debug, PartialEq, Eq)]
+pub struct FileEnd {
+    /// The number of its last header.
+    pub number: u16,
+    /// How many headers it has, 1 to 256.
+    pub headers: u16,
+    /// How many blocks it has.
+    pub blocks: u32,
+}
+
+/// Reads the last header of file `n`, a slot from 1 to the number of slots, into the block, and gives its number, the number of the
+/// file's headers and that of its blocks. It reads each header of the file once.
 ///
 /// # Errors
 ///
@@ -70,10 +81,10 @@ pub fn last<D: Device>(
     index: &IndexFile,
     n: u16,
     block: &mut Block,
-) -> Result<(u16, u32), ChainFault>
+) -> Result<FileEnd, ChainFault>
     requires slot { (0 < n) × (n ≤ slots (index_kept index.now)) }
     requires within { LiesWithin (index_kept index.now) (length (D.disk device.old).image) }
-    ensures reads { IfOk result (λ found. ReadsLast (index_kept index.now) n found.0 found.1 block.new
+    ensures reads { IfOk result (λ last. ReadsLast (index_kept index.now) n last block.new
         (D.disk device.old) (D.disk device.new)) }
     ensures damaged { IsErrOf result ChainFault.Damaged
         → FindsBreak (index_kept index.now) n (D.disk device.old) (D.disk device.new) }
@@ -83,10 +94,14 @@ pub fn last<D: Device>(
 {
     let (mut number, mut blocks) = (n, 0);
     first(device, index, n, block)?;
-    for _ in 0..MOST_HEADERS {
+    for earlier in 0..MOST_HEADERS {
         blocks += len_blocks(block);
         let Some(m) = next(device, index, block)? else {
-            return Ok((number, blocks));
+            return Ok(FileEnd {
+                number,
+                headers: earlier + 1,
+                blocks,
+            });
         };
         number = m;
     }

@@ -1,7 +1,24 @@
-//! Laws of the headers of a file, each the contract of a function that does nothing: layers above cite them.
+//! Laws of a file's headers and blocks, each the contract of a function that does nothing: layers above cite them.
 ghost use Rattle.f11_chain.specs.Laws as laws;
 
-/// Each header of a file is one of the list of its headers.
-pub fn headers()
-    ensures { laws.HeadersAreListed }
+/// The index file's blocks are those of file 1.
+pub fn index_file()
+    ensures { laws.IndexFileIsFileOne }
+{}
+
+/// A file of which no header changes.
+pub fn other_headers()
+    ensures { laws.FileStays }
+{}
+
+/// A file that grows at its end.
+pub fn growth()
+    ensures names { laws.LastNamesMore }
+    ensures links { laws.LastIsLinked }
+{}
+
+/// A file that is cut at one of its headers.
+pub fn cuts()
+    ensures ends { laws.HeaderEndsFile }
+    ensures cut { laws.FileIsCut }
 {}

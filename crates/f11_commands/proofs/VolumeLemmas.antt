@@ -7,7 +7,7 @@ use Rattle.f11_dev.specs.Image.{Image, image_block}
 use Rattle.f11_dev.proofs.ImageLemmas.{image_block-read}
 use Rattle.f11_dev.proofs.LookedLemmas.{looked_more, looked_within}
 use Rattle.f11_home.specs.Home.{HomeFields, FindsHome, candidates, IsSound}
-use Rattle.f11_index.specs.Calls.{Loads, most_reads}
+use Rattle.f11_index.specs.Calls.{Loads}
 use Rattle.f11_index.specs.IndexFile.{Index, index_of, slots, header_lbn, HasNonePast}
 use Rattle.f11_index.specs.Table.{table_in}
 use Rattle.f11_index.specs.Sound.{IsIndexFile}
@@ -18,17 +18,17 @@ candidates-counted : (blocks : ℕ) → 1 < blocks → candidates blocks ≡ (bl
 candidates-counted blocks some = grind (arith, nat_tests)
 
 -- how many blocks are read
-reads-few : (home : HomeFields) (blocks : ℕ) → IsSound home blocks → home.lbn / 256 + 1 + most_reads home ≤ candidates blocks + 272
-reads-few home blocks sound =
+reads-few : (home : HomeFields) (blocks headers : ℕ) → IsSound home blocks → headers ≤ 256 → home.lbn / 256 + 1 + (home.index_blocks + headers) ≤ candidates blocks + 272
+reads-few home blocks headers sound at_most =
     let few = sound.valid.fields.small_bitmap in
     let is = ap (λ (h : HomeFields). h.index_blocks) sound.fields in
     let many = sound.valid.fields.index_within in
     let count = candidates-counted blocks (omega (arith, many)) in
-    omega (arith, few, is, many, count, sound.within)
+    omega (arith, few, is, many, count, sound.within, at_most)
 
 module _ (home : HomeFields) (index : Index) (old mid new : Disk) (finds : FindsHome old mid home) (loads : Loads home index mid new) where
   image-is : new.image ≡ old.image
-  image-is = loads.looked.image ∙ finds.looked.image
+  image-is = loads.looked.looked.image ∙ finds.looked.image
 
   mid-honest : IsTrue old.honest → IsTrue mid.honest
   mid-honest honest = finds.looked.honest ∙ honest
@@ -39,10 +39,10 @@ module _ (home : HomeFields) (index : Index) (old mid new : Disk) (finds : Finds
       is_home = finds.is_home honest;
       index_file = subst (λ (i : Image). IsIndexFile i home) finds.looked.image (loads.sound (mid-honest honest));
       none_past = subst HasNonePast
-          (loads.is_for.keeps (loads.looked.honest ∙ mid-honest honest) ∙ ap (λ (i : Image). index_of i home) image-is) loads.none_past;
+          (loads.is_for.keeps (loads.looked.looked.honest ∙ mid-honest honest) ∙ ap (λ (i : Image). index_of i home) image-is) loads.none_past;
     };
     is_for = loads.is_for;
-    looked = looked_within (looked_more finds.looked loads.looked) (reads-few home (length old.image) finds.sound);
+    looked = looked_within (looked_more finds.looked loads.looked.looked) (reads-few home (length old.image) loads.looked.headers finds.sound loads.looked.few);
   }
 
 -- what is said of a header whose slot isn't there, and of one that is

@@ -1,7 +1,11 @@
 pub mod Dump
 pub mod DumpCommand
 pub mod Home
+pub mod InitCommand
 pub mod Label
 pub mod Name
 pub mod Output
+pub mod Report
 pub mod Rights
+pub mod RtVolume
+pub mod VfyCommand

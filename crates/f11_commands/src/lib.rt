@@ -8,18 +8,27 @@
 
 mod dump;
 mod home;
+mod init;
 mod label;
 mod name;
 mod outcome;
+mod report;
 mod rights;
+mod rt_init;
+mod rt_vfy;
+mod vfy;
 mod volume;
 mod volume_dump;
 
 pub use dump::dump_header;
 pub use home::print_home;
+pub use init::{print_init, refuse_init};
 pub use label::Label;
 pub use name::print_name;
 pub use outcome::{Answer, Failure};
 pub use rights::print_rights;
+pub use rt_init::print_rt_init;
+pub use rt_vfy::print_rt_vfy;
+pub use vfy::print_vfy;
 pub use volume::VolumeFault;
 pub use volume_dump::print_header;

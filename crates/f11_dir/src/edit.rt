@@ -44,8 +44,8 @@ pub fn clear(block: &mut Block, i: usize)
     put_words(block, i, &[0; 8]);
 }
 
-/// Puts eight words in the place of record `i`.
-fn put_words(block: &mut Block, i: usize, words: &[u16; 8])
+/// Puts the eight words of a record in the place of record `i`, which is below 32. The other records stay.
+pub fn put_words(block: &mut Block, i: usize, words: &[u16; 8])
     requires { i < 32 }
     ensures bytes { block.new ≡ with_bytes block.old (16 * i) (flat_map word_bytes words.now) }
     ensures record { record_in block.new i ≡ flat_map word_bytes words.now }

@@ -13,7 +13,7 @@ mod edit;
 mod record;
 mod search;
 
-pub use edit::{clear, put};
+pub use edit::{clear, put, put_words};
 pub use record::Record;
 pub use search::{Found, find, first_empty, records};
 

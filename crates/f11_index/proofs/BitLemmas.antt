@@ -2,7 +2,7 @@
 use Rattle.std.proofs.Common.{◌≡◌, ◌≢◌, ◌⊎◌, inl, inr, ℕ, ◌+◌, ◌-◌, ◌*◌, ◌/◌, ◌%◌, ◌<◌, ◌≤◌, Bool, false, List, [], length, sym, ap, subst, ◌∙◌, arith}
 use Rattle.std.proofs.Math.ListN.{set, get_or}
 use Rattle.std.specs.Prelude.{nat_eq, Result, Ok, Err, OnOk, OnErr}
-use Rattle.std.proofs.lemmas.Bool.{cases_eq}
+use Rattle.std.proofs.lemmas.Bool.{cases_eq, cases_lt}
 use Rattle.std.proofs.lemmas.Bool.Decides.{nat_tests}
 use Rattle.std.proofs.lemmas.List.{get_or-set_same, get_or-set_other, get_or_past}
 use Rattle.std.proofs.lemmas.Nat.Bits.{bit_at-zero}
@@ -67,6 +67,23 @@ SetsBit-block value n place old block some is_place within is others =
         → SetsBit value n old (record old { bitmap = set old.bitmap (bitmap_place n) block })
     one inside rest = SetsBit-here value n old block some inside is rest
 
+-- whether slots are in use then
+pub SetsBit-in_use : (value : Bool) (n : ℕ) (before after : Index) → 0 < n → n ≤ slots before → SetsBit value n before after → is_in_use after n ≡ value
+SetsBit-in_use value n before after some few sets = is_in_use-within after n some (omega (arith, few, ap slots sets.one_block)) ∙ sets.bit
+
+pub SetsBit-others : (before after : Index) (value : Bool) (n m : ℕ) → SetsBit value n before after → m ≢ n → is_in_use after m ≡ is_in_use before m
+SetsBit-others before after value n m sets apart =
+    let same : slots after ≡ slots before = ap slots sets.one_block in
+    elim (cases_eq m 0) [
+      | inl none ↦ sym (is_in_use-none after m (inl none)) ∙ is_in_use-none before m (inl none)
+      | inr some ↦ elim (cases_lt (slots before) m) [
+        | inl past ↦ is_in_use-past after m (omega (arith, past, same)) ∙ sym (is_in_use-past before m past)
+        | inr within ↦
+            is_in_use-within after m (omega (arith, some)) (omega (arith, within, same)) ∙ sets.others m (omega (arith, some)) apart
+            ∙ sym (is_in_use-within before m (omega (arith, some)) within)
+      ]
+    ]
+
 -- the block that has the bit was written
 module _ (value : Bool) (n : ℕ) (before after : Index) (lbn : ℕ) (block : List ℕ) (old new : Disk) where
   is_image : lbn ≡ after.bitmap_lbn + bitmap_place n → block ≡ bitmap_block after n → set old.image lbn block ≡ with_bitmap_block old.image after n
@@ -80,15 +97,16 @@ module _ (value : Bool) (n : ℕ) (before after : Index) (lbn : ℕ) (block : Li
     image_is = is_image at from;
   }
 
-  pub WritesBit-written : {E : Type 0} (result : Result Unit E) → lbn ≡ after.bitmap_lbn + bitmap_place n → block ≡ bitmap_block after n
+  pub WritesBit-written : {E : Type 0} (result : Result Unit E) → 0 < n → n ≤ slots before → lbn ≡ after.bitmap_lbn + bitmap_place n → block ≡ bitmap_block after n
       → SetsBit value n before after → Writes result lbn block old new → OnOk result (WritesBit value n before after old new)
-  WritesBit-written (Ok x) at from sets writes =
+  WritesBit-written (Ok x) some few at from sets writes =
       record {
         bit = sets;
+        in_use = SetsBit-in_use value n before after some few sets;
         image = ap (λ (d : Disk). d.image) writes.ok ∙ is_image at from;
         went = went_write (HasBitWritten value n before old.image) old new lbn block writes.ok (image-written at from sets);
       }
-  WritesBit-written (Err e) at from sets writes = tt
+  WritesBit-written (Err e) some few at from sets writes = tt
 
   pub WritesBit-failed : {E : Type 0} (result : Result Unit E) → lbn ≡ after.bitmap_lbn + bitmap_place n → block ≡ bitmap_block after n
       → SetsBit value n before after → Writes result lbn block old new → OnErr result (FailsToWriteBit value n before old new)

@@ -1,33 +1,32 @@
 -- From header to header of an index file: what the code keeps, and what the image says.
-use Rattle.std.proofs.Common.{◌≡◌, ℕ, suc, ◌+◌, ◌-◌, ◌*◌, ◌<◌, ◌≤◌, Bool, false, IsTrue, List, [], ◌++◌, length, get_or, take, drop, Option, Some, None, refl, sym, ap, subst, ◌∙◌, inl, inr, arith}
+use Rattle.std.proofs.Common.{◌≡◌, ℕ, suc, ◌+◌, ◌-◌, ◌*◌, ◌<◌, ◌≤◌, Bool, false, IsTrue, List, [], ◌∷◌, ◌++◌, length, get_or, take, drop, Option, Some, None, refl, sym, ap, subst, ◌∙◌, inl, inr, arith}
 use Rattle.std.specs.List.{slice_get}
 use Rattle.std.proofs.lemmas.Bool.{both_ways, cases_lt}
-use Rattle.std.proofs.lemmas.List.{get_or_past, length-take, length-drop}
-use Rattle.std.proofs.lemmas.Option.{slice_get_past, slice_get_within}
+use Rattle.std.proofs.lemmas.List.{length-take, length-drop}
+use Rattle.std.proofs.lemmas.Option.{slice_get-get_or, slice_get_past, slice_get_within}
 use Rattle.f11_dev.specs.Disk.{Disk}
 use Rattle.f11_dev.specs.Image.{Image, IsImage, image_block}
 use Rattle.f11_dev.specs.Looked.{Looked}
 use Rattle.f11_dev.proofs.LookedLemmas.{looked_more, looked_within}
-use Rattle.std.specs.Prelude.{slice_range}
-use Rattle.f11_bytes.specs.Block.{IsBlock}
-use Rattle.f11_bytes.proofs.PartLemmas.{slice_index-slice_range}
-use Rattle.f11_dev.proofs.ImageLemmas.{slice_get-image_block}
-use Rattle.f11_header.specs.Fields.{file_sequence, map_offset}
+use Rattle.f11_header.specs.Fields.{file_sequence}
 use Rattle.f11_header.specs.Header.{IsHeader}
 use Rattle.f11_home.specs.Home.{HomeFields, IsSound}
 use Rattle.f11_home.specs.HomeBlock as HomeBlock
 use Rattle.f11_index.specs.HeaderBlock.{segment_number, link_of, blocks_named}
+use Rattle.f11_index.specs.Headers.{headers_of}
 use Rattle.f11_index.specs.IndexFile.{index_of, index_file, blocks_on, bit_of_slot, header_place, header_among, headers_among, most_slots, slots, first_header_lbn}
 use Rattle.f11_index.specs.Sound.{IsPlaced, IsIndexFile}
 use Rattle.f11_index.specs.Table.{table_in, table_of, IsNext}
-use Rattle.f11_index.specs.Walk.{first_place, headers_with, FitFrom, Adds, AddsTo, IsDue, MayStep, IsNextDue, Steps, Misfits, IsFileOne, Follows, Strays}
+use Rattle.f11_index.specs.Walk.{LooksAlong, lbn_due, first_place, headers_with, FitFrom, Adds, AddsTo, IsDue, MayStep, IsNextDue, Steps, Misfits, IsFileOne, Follows, Strays}
 use Rattle.f11_index.specs.declared.blocks.Blocks.{Blocks}
 use Rattle.f11_index.specs.declared.walk.Due.{Due}
 use Rattle.f11_store.specs.declared.files.FileId.{FileId}
 use Rattle.f11_index.proofs.BitLemmas.{is_in_use-within, is_in_use-past}
 use Rattle.f11_index.proofs.BlockLemmas.{Adds-none, Adds-append, Adds-few, FitFrom-none, FitFrom-append, FitFrom-back, fit-IsPlaced}
 use Rattle.f11_index.proofs.PlaceLemmas.{slice_get-header}
-use Rattle.f11_index.proofs.WalkLemmas.{so_far, ends, goes_on, header_among-some, header_is, IsExpected, Arrives, arrives-first, arrives-next, whole-last}
+use Rattle.f11_index.proofs.SegmentLemmas.{segment_number-byte}
+use Rattle.f11_index.proofs.HeadersLemmas.{Comes, Comes-first, Comes-next, Comes-count, Comes-passed}
+use Rattle.f11_index.proofs.WalkLemmas.{IsFirstAt, first-at, so_far, ends, goes_on, header_among-some, header_is, IsExpected, Arrives, arrives-first, arrives-next, whole-last}
 
 -- what was added from the start
 pub Adds-start : (home : HomeFields) (lbns : List ℕ) {p : ℕ} {hs : List ℕ} → Adds home lbns 0 [] p hs → (p ≡ length lbns) × (hs ≡ headers_among home lbns)
@@ -71,14 +70,6 @@ steps_in old now new home bitmap due segment before after next most looked s = r
   next_is = s.next_is;
 }
 
--- a segment number is a byte
-segment-small : (b : List ℕ) → IsBlock b → segment_number b < 256
-unfolding segment_number
-segment-small b block = elim (cases_lt (2 * map_offset b + 0) 510) [
-  | inl within ↦ omega (arith, slice_index-slice_range b (2 * map_offset b) 510 0 within, block.bytes (2 * map_offset b + 0))
-  | inr past ↦ omega (arith, get_or_past (slice_range b (2 * map_offset b) 510) 0 0 (omega (arith, length-take (510 - 2 * map_offset b) (drop (2 * map_offset b) b))))
-]
-
 module _ (image : Image) (honest : Bool) (home : HomeFields) (bitmap : List (List ℕ)) where
   -- The walk before the header of this segment.
   pub record Walking (due : Due) (segment : ℕ) (blocks : Blocks) : Type 0 where
@@ -90,7 +81,9 @@ module _ (image : Image) (honest : Bool) (home : HomeFields) (bitmap : List (Lis
     pub number : due.number ≤ most_slots home
     pub within : due.lbn < length image
     pub walks : IsTrue honest → index_file image home ≡ blocks_on (256 - segment) image home lbns (Some due.lbn)
-    pub arrives : IsTrue honest → IsPlaced home (index_file image home) → Arrives image home due.number due.sequence segment due.lbn
+    pub arrives : IsTrue honest → IsFirstAt home (index_file image home) → Arrives image home due.number due.sequence segment due.lbn
+    pub behind : List ℕ
+    pub comes : IsTrue honest → Comes (table_of image home) 1 due.number segment behind
 
   pub walking-first : (due : Due) (blocks : Blocks) → IsSound home (length image) → blocks.places ≡ 0 → blocks.headers.items ≡ []
       → due ≡ record { lbn = first_header_lbn home; number = 1; sequence = 1 } → Walking due 0 blocks
@@ -104,7 +97,9 @@ module _ (image : Image) (honest : Bool) (home : HomeFields) (bitmap : List (Lis
     number = omega (arith, ap (λ (d : Due). d.number) is, some_slots);
     within = omega (arith, ap (λ (d : Due). d.lbn) is, facts.within);
     walks = λ _. ap (λ (d : Due). blocks_on 256 image home [] (Some d.lbn)) (sym is);
-    arrives = λ _ placed. subst (λ (d : Due). Arrives image home d.number d.sequence 0 d.lbn) (sym is) (arrives-first image home placed some_slots);
+    arrives = λ _ at. subst (λ (d : Due). Arrives image home d.number d.sequence 0 d.lbn) (sym is) (arrives-first image home at some_slots);
+    behind = [];
+    comes = λ _. subst (λ (d : Due). Comes (table_of image home) 1 d.number 0 []) (sym is) (Comes-first (table_of image home) 1);
   }
     where
       facts : HomeFacts home (length image)
@@ -181,6 +176,20 @@ module _ (image : Image) (honest : Bool) (home : HomeFields) (bitmap : List (Lis
         sym (ap (slice_get (more header)) place)
         ∙ slice_get-header (more header) (2 + home.index_blocks) (most_slots home) ((link_of header).number - 1) next.lbn 0 inside there
 
+    -- so header 1 is where it should be
+    first_is : (header : List ℕ) (next : Due) → IsTrue honest → image_block image due.lbn ≡ header → AddsTo home (blocks_named header) before after
+        → IsNextDue after.headers.items (link_of header) (Some next) → FitFrom home (length image) before.places (blocks_named header) → IsFirstAt home (index_file image home)
+    first_is header next is read adds (some, (few, same)) fit =
+        let kept = (Adds-start home (more header) (adds_more header adds)).1 in
+        let inside : header_place home 1 < length (more header) =
+        omega (arith, some, few, ap length kept, length-take (most_slots home) (drop (2 + home.index_blocks) (more header)), length-drop (2 + home.index_blocks) (more header)) in
+        let at = slice_get-get_or (more header) (header_place home 1) 0 inside in
+        let place : 0 + header_place home 1 ≡ suc (suc home.index_blocks) = omega arith in
+        let due_at = ((fit_more header fit).each (header_place home 1) _ at).due (omega arith) ∙ ap (lbn_due home) place in
+        ap (λ (xs : List ℕ). slice_get xs (header_place home 1)) (walks_on header is read)
+        ∙ so_far (256 - (segment + 1)) image home (more header) (header_among home (more header) (link_of header).number) (header_place home 1) _ at
+        ∙ ap Some due_at
+
     pub walking-next : (next : Due) → StepsIn image honest home bitmap due segment before after (Some next) → Walking next (segment + 1) after
     walking-next next s =
         let at = found s.header next s.adds s.next_is in
@@ -199,8 +208,14 @@ module _ (image : Image) (honest : Bool) (home : HomeFields) (bitmap : List (Lis
           walks = λ honest_is.
               walks_on s.header honest_is (s.read honest_is)
               ∙ ap (blocks_on (256 - (segment + 1)) image home (more s.header)) (header_among-some home (more s.header) (link_of s.header).number s.next_is.0 ∙ at);
-          arrives = λ honest_is placed.
-              let here = w.arrives honest_is placed in
+          behind = w.behind ++ due.number ∷ [];
+          comes = λ honest_is.
+              let here = w.arrives honest_is (first_is s.header next honest_is (s.read honest_is) s.adds s.next_is s.may.fit) in
+              let same = table_header due segment s.header here (s.read honest_is) (bits honest_is) in
+              let link_is = ap (λ (b : List ℕ). (link_of b).number) same in
+              Comes-next (table_of image home) 1 due.number segment w.behind (w.comes honest_is) w.some early next.number (link_is ∙ sym number);
+          arrives = λ honest_is at_first.
+              let here = w.arrives honest_is at_first in
               let expected = due-expected due segment s.header here (s.read honest_is) (bits honest_is) s.may.is_due in
               let same = table_header due segment s.header here (s.read honest_is) (bits honest_is) in
               let link_is : link_of ((table_of image home).header due.number) ≡ link_of s.header = ap link_of same in
@@ -236,7 +251,7 @@ module _ (image : Image) (honest : Bool) (home : HomeFields) (bitmap : List (Lis
       fit = fit_more s.header s.may.fit;
       is_file = same;
       whole = λ honest_is placed.
-          let here = w.arrives honest_is (subst (IsPlaced home) (same honest_is) placed) in
+          let here = w.arrives honest_is (subst (IsFirstAt home) (same honest_is) (first-at home (more s.header) placed)) in
           let expected = due-expected due segment s.header here (s.read honest_is) (bits honest_is) s.may.is_due in
           let none : (link_of ((table_of image home).header due.number)).number ≡ 0 =
           ap (λ (b : List ℕ). (link_of b).number) (table_header due segment s.header here (s.read honest_is) (bits honest_is)) ∙ s.next_is in
@@ -265,7 +280,7 @@ module _ (image : Image) (honest : Bool) (home : HomeFields) (bitmap : List (Lis
       }
 
       here : Arrives image home due.number due.sequence segment due.lbn
-      here = w.arrives honest_is good.placed
+      here = w.arrives honest_is (first-at home (index_file image home) good.placed)
 
       expected : IsExpected image home due.number due.sequence segment
       expected = here.due good
@@ -323,11 +338,39 @@ module _ (image : Image) (honest : Bool) (home : HomeFields) (bitmap : List (Lis
   -- A file has no segment 256: its number is a byte.
   pub walking-out : (due : Due) (blocks : Blocks) → Walking due 256 blocks → IsImage image → IsTrue honest → ¬ IsIndexFile image home
   walking-out due blocks w is_image honest_is good =
-      let here = w.arrives honest_is good.placed in
-      let block = image_block image due.lbn in
-      let small = segment-small block (is_image.each due.lbn block (slice_get-image_block image due.lbn w.within)) in
+      let here = w.arrives honest_is (first-at home (index_file image home) good.placed) in
+      let small = segment_number-byte image due.lbn is_image in
       let number = ap segment_number (header_is image home due.number due.lbn here.some here.few here.place) ∙ refl in
       absurd (omega (arith, small, number, (here.due good).segment_is))
+
+-- One header more was read.
+pub looks : (old now new : Disk) (home : HomeFields) (bitmap : List (List ℕ)) (due : Due) (segment : ℕ) (blocks : Blocks) (faults : ℕ)
+    → Looked old now segment 0 → Walking old.image old.honest home bitmap due segment blocks → segment < 256 → Looked now new 1 faults → LooksAlong home 0 old new faults
+looks old now new home bitmap due segment blocks faults looked w early one = record {
+  headers = segment + 1;
+  few = omega (arith, early);
+  each_once = λ honest. Comes-count (table_of old.image home) 1 due.number segment w.behind (w.comes honest) w.some early;
+  looked = looked_within (looked_more looked one) (omega arith);
+}
+
+-- All that there can be were read.
+pub looks-out : (old now : Disk) (home : HomeFields) (bitmap : List (List ℕ)) (due : Due) (blocks : Blocks)
+    → Looked old now 256 0 → Walking old.image old.honest home bitmap due 256 blocks → LooksAlong home 0 old now 0
+looks-out old now home bitmap due blocks looked w = record {
+  headers = 256;
+  few = omega arith;
+  each_once = λ honest. Comes-passed (w.comes honest);
+  looked = looked_within looked (omega arith);
+}
+
+-- Other blocks were read before.
+pub looks-behind : (old now new : Disk) (home : HomeFields) (others faults : ℕ) → Looked old now others 0 → LooksAlong home 0 now new faults → LooksAlong home others old new faults
+looks-behind old now new home others faults looked along = record {
+  headers = along.headers;
+  few = along.few;
+  each_once = λ honest. subst (λ (image : Image). along.headers ≤ length (headers_of (table_of image home) 1)) looked.image (along.each_once (looked.honest ∙ honest));
+  looked = looked_within (looked_more looked along.looked) (omega arith);
+}
 
 -- A header that the walk may not go on from shows that the index file isn't as it should be.
 pub strays_from : (old now new : Disk) (home : HomeFields) (bitmap : List (List ℕ)) (due : Due) (segment : ℕ) (before : Blocks)
@@ -338,7 +381,7 @@ strays_from old now new home bitmap due segment before looked w bits early m = r
       m.misfits (looked.honest ∙ honest)
       (subst (λ (image : Image). MayStep home bitmap (length image) due segment before (image_block image due.lbn)) (sym looked.image)
       (may old.image old.honest home bitmap due segment before before w bits early honest good));
-  looked = looked_within (looked_more looked m.looked) (omega arith);
+  looked = looks old now new home bitmap due segment before 0 looked w early m.looked;
 }
 
 -- Its last header was read.
@@ -353,5 +396,5 @@ follows_from old now new home bitmap due segment before after looked w bits earl
       fit = all.fit;
       is_file = all.is_file;
       whole = all.whole;
-      looked = looked_within (looked_more looked s.looked) (omega arith);
+      looked = looks old now new home bitmap due segment before 0 looked w early s.looked;
     }

@@ -1,17 +1,20 @@
 -- What is kept of an index file is for the disk still.
-use Rattle.std.proofs.Common.{◌≡◌, ℕ, ◌+◌, ◌<◌, ◌≤◌, IsTrue, Bool, List, length, set, sym, ap, subst, ◌∙◌, arith}
-use Rattle.std.specs.List.{All}
+use Rattle.std.proofs.Common.{◌≡◌, ℕ, ◌+◌, ◌*◌, ◌<◌, ◌≤◌, IsTrue, Bool, List, ◌++◌, length, min, set, sym, ap, subst, ◌∙◌, arith}
+use Rattle.std.specs.List.{All, range_with_len}
+use Rattle.std.proofs.lemmas.List.Elements.{All-append, All-take}
 use Rattle.std.proofs.lemmas.List.{length-set}
 use Rattle.f11_dev.specs.Disk.{Disk, with_transfer, with_block_at}
 use Rattle.f11_dev.specs.Image.{Image}
 use Rattle.f11_home.specs.Home.{HomeFields}
-use Rattle.f11_index.specs.Calls.{SetsBit, WritesBit, bitmap_place, bitmap_block}
+use Rattle.f11_index.specs.Calls.{SetsBit, WritesBit, bitmap_place, bitmap_block, with_blocks_behind}
+use Rattle.f11_index.specs.Growth.{GrowsIndexFile, with_header}
 use Rattle.f11_index.specs.IndexFile.{Index, index_of, index_file, slots, header_lbn}
 use Rattle.f11_index.specs.Kept.{IsFor, LiesWithin}
 use Rattle.f11_index.specs.Laws.{LeadsAlike}
 use Rattle.f11_index.specs.Table.{table_of, IsHeaderOf}
 use Rattle.f11_index.specs.Sound.{IsIndexFile, IsNoneOf, AreApart}
 use Rattle.f11_index.proofs.LawLemmas.{other_write, bit_write, header_write}
+use Rattle.f11_index.proofs.PlaceLemmas.{range-below}
 
 -- another block was written
 pub IsFor-other : (index : Index) (home : HomeFields) (disk : Disk) (passed : Bool) (lbn : ℕ) (block : List ℕ)
@@ -51,3 +54,23 @@ IsFor-header index home disk passed n block good leads some few is = record {
       let kept = header_write disk.image home (good honest).0 n block (good honest).1 some (subst (λ (x : Index). n ≤ slots x) same few) (leads honest) in
       same ∙ sym (ap (λ (x : Index). index_of (set disk.image (header_lbn x n) block) home) same ∙ kept.index);
 }
+
+-- the index file grew
+pub IsFor-grown : (index : Index) (home : HomeFields) (disk : Disk) (passed : Bool) (n : ℕ) (block : List ℕ) (lbn count : ℕ)
+    → (IsTrue disk.honest → GrowsIndexFile home n block lbn count disk.image (with_header disk.image home n block))
+    → lbn + count ≤ length disk.image → IsFor index home disk → IsFor (with_blocks_behind index lbn count) home (with_transfer passed (with_block_at (header_lbn index n) block disk))
+IsFor-grown index home disk passed n block lbn count grows within is = record {
+  within = record {
+    bitmap = omega (arith, is.within.bitmap, size);
+    headers = subst (λ (k : ℕ). All (λ l. l < k) (with_blocks_behind index lbn count).headers) (sym size)
+        (All-take (λ l. l < length disk.image) (min (4096 * length index.bitmap) 65535) (index.headers ++ range_with_len lbn count)
+        (All-append (λ l. l < length disk.image) index.headers (range_with_len lbn count) is.within.headers (range-below lbn count (length disk.image) within)));
+  };
+  keeps = λ honest.
+      let same = is.keeps honest in
+      ap (λ (x : Index). with_blocks_behind x lbn count) same ∙ sym (grows honest).index
+      ∙ ap (λ (x : Index). index_of (set disk.image (header_lbn x n) block) home) (sym same);
+}
+  where
+    size : length (set disk.image (header_lbn index n) block) ≡ length disk.image
+    size = length-set disk.image (header_lbn index n) block

@@ -1,7 +1,8 @@
 -- Facts about free slots.
 use Rattle.std.proofs.Common.{◌≡◌, inl, inr, ℕ, zero, suc, ◌+◌, ◌-◌, ◌*◌, ◌/◌, ◌%◌, ◌<◌, ◌≤◌, min, max, Bool, true, false, not, List, [], ◌∷◌, ◌++◌, length, get_or, filter, cond, Some, None, refl, sym, ap, ◌∙◌, arith}
 use Rattle.std.specs.List.{slice_get, range_with_len}
-use Rattle.std.proofs.lemmas.Bool.{cases_lt, cond-true, cond-false}
+use Rattle.std.proofs.lemmas.Bool.{cases_lt, cases_Bool, cond-true, cond-false}
+use Rattle.std.proofs.lemmas.Option.{same_Some}
 use Rattle.std.proofs.lemmas.List.{append-nil, length-append}
 use Rattle.std.proofs.lemmas.List.Elements.{filter-append}
 use Rattle.std.proofs.lemmas.List.Sums.{count_by-le-length, length-filter}
@@ -12,7 +13,7 @@ use Rattle.std.proofs.lemmas.Nat.Bits.{bit_at_ones}
 use Rattle.f11_bytes.specs.Bits.{bit}
 use Rattle.f11_bytes.specs.Words.{word}
 use Rattle.f11_index.specs.IndexFile.{Index, slots, is_in_use, bit_of_slot, free_slots}
-use Rattle.f11_index.specs.Slots.{free_between}
+use Rattle.f11_index.specs.Slots.{IsLeastFree, free_between}
 use Rattle.f11_index.proofs.BitLemmas.{is_in_use-within}
 use Rattle.f11_index.proofs.PlaceLemmas.{slice_get-append_front}
 use Rattle.f11_map.proofs.RunLemmas.{range_with_len-append}
@@ -142,6 +143,28 @@ module _ (index : Index) where
   pub between-few : (from end : ℕ) → length (free_between index from end) ≤ end - from
   between-few from end =
       omega (arith, length-filter free (range_with_len from (end - from)), count_by-le-length free (range_with_len from (end - from)), length-range_with_len from (end - from))
+
+-- the first of those kept of a row of numbers is one of them
+kept-first : (p : ℕ → Bool) (count from n : ℕ) → slice_get (filter p (range_with_len from count)) 0 ≡ Some n → ((from ≤ n) × (n < from + count)) × (p n ≡ true)
+kept-first p zero from n is = cc
+kept-first p (suc count) from n is = elim (cases_Bool (p from)) [
+  | inl kept ↦
+      let same : from ≡ n = same_Some from n (sym (ap (λ (xs : List ℕ). slice_get xs 0) (cond-true (p from) (from ∷ filter p (range_with_len (from + 1) count)) (filter p (range_with_len (from + 1) count)) kept)) ∙ is) in
+      ((omega (arith, same), omega (arith, same)), ap p (sym same) ∙ kept)
+  | inr left ↦
+      let later = kept-first p count (from + 1) n (sym (ap (λ (xs : List ℕ). slice_get xs 0) (cond-false (p from) (from ∷ filter p (range_with_len (from + 1) count)) (filter p (range_with_len (from + 1) count)) left)) ∙ is) in
+      ((omega (arith, later.0.0), omega (arith, later.0.1)), later.1)
+]
+
+not-true : (b : Bool) → not b ≡ true → b ≡ false
+not-true true is = cc
+not-true false is = refl
+
+-- the least free slot
+pub least-free : (index : Index) (n : ℕ) → slice_get (free_slots index) 0 ≡ Some n → IsLeastFree index n
+least-free index n is =
+    let kept = kept-first (λ m. not (is_in_use index m)) (slots index - 5) 6 n is in
+    record { first = is; low = kept.0.0; high = omega (arith, kept.0.0, kept.0.1); unused = not-true (is_in_use index n) kept.1 }
 
 -- the bits of a word of the bitmap, as those of its slots
 pub bit_of_slot-word : (bitmap : List (List ℕ)) (block : List ℕ) (word : ℕ) (value : Bool) → get_or bitmap (word / 256) [] ≡ block

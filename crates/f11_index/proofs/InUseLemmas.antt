@@ -1,7 +1,7 @@
 -- What a slot in use has.
 use Rattle.std.proofs.Common.{◌≡◌, ℕ, ◌-◌, ◌<◌, ◌≤◌, true, arith}
 use Rattle.std.proofs.lemmas.Bool.{and_parts, leb-true, ltb-true}
-use Rattle.f11_index.specs.IndexFile.{Index, slots, slot_bit, is_in_use, header_lbn}
+use Rattle.f11_index.specs.IndexFile.{Index, slots, is_in_use, header_lbn}
 use Rattle.f11_index.specs.Kept.{LiesWithin}
 
 -- it is one of the slots

@@ -56,7 +56,7 @@ module _ (image : Image) (home : HomeFields) (good : IsIndexFile image home) whe
   index = index_of image home
 
   -- where header m is
-  header_at : (m : ℕ) → 0 < m → m ≤ slots index → slice_get all (2 + home.index_blocks + (m - 1)) ≡ Some (header_lbn index m)
+  pub header_at : (m : ℕ) → 0 < m → m ≤ slots index → slice_get all (2 + home.index_blocks + (m - 1)) ≡ Some (header_lbn index m)
   unfolding index_of header_lbn
   header_at m some few = slice_get-header all (2 + home.index_blocks) (most_slots home) (m - 1) (header_lbn index m) 0 (omega arith) refl
 
@@ -82,14 +82,14 @@ module _ (image : Image) (home : HomeFields) (good : IsIndexFile image home) whe
   ]
 
   -- a block of the bitmap
-  bitmap_at : (i : ℕ) → i < home.index_blocks → slice_get all (2 + i) ≡ Some (home.index_lbn + i)
+  pub bitmap_at : (i : ℕ) → i < home.index_blocks → slice_get all (2 + i) ≡ Some (home.index_lbn + i)
   bitmap_at i few = good.placed.bitmap_and_headers i (omega arith)
 
   module _ (lbn : ℕ) (block : List ℕ) where
     abbrev new : Image
     new = set image lbn block
 
-    same : (l : ℕ) → l ≢ lbn → image_block new l ≡ image_block image l
+    pub same : (l : ℕ) → l ≢ lbn → image_block new l ≡ image_block image l
     same l apart = image_block-other image lbn l block apart
 
     alike : (l : ℕ) → l ≢ lbn → LeadsAlike (image_block image l) (image_block new l)
@@ -99,7 +99,7 @@ module _ (image : Image) (home : HomeFields) (good : IsIndexFile image home) whe
     unfolding index_of
     headers_same file = ap (headers_among home) file
 
-    bitmap_same : ((i : ℕ) → i < home.index_blocks → home.index_lbn + i ≢ lbn) → (index_of new home).bitmap ≡ index.bitmap
+    pub bitmap_same : ((i : ℕ) → i < home.index_blocks → home.index_lbn + i ≢ lbn) → (index_of new home).bitmap ≡ index.bitmap
     unfolding index_of
     bitmap_same apart = map-same (image_block new) (image_block image) home.index_blocks home.index_lbn (λ i few. same (home.index_lbn + i) (apart i few))
 
@@ -143,10 +143,10 @@ module _ (image : Image) (home : HomeFields) (good : IsIndexFile image home) whe
 
     -- one of them, which stands at one place only
     module _ (apart : AreApart all) (at_place : ℕ) (at : slice_get all at_place ≡ Some lbn) where
-      elsewhere : (i l : ℕ) → slice_get all i ≡ Some l → i ≢ at_place → l ≢ lbn
+      pub elsewhere : (i l : ℕ) → slice_get all i ≡ Some l → i ≢ at_place → l ≢ lbn
       elsewhere i l here other e = other (apart i at_place lbn (here ∙ ap Some e) at)
 
-      inside : lbn < length image
+      pub inside : lbn < length image
       inside = All-at all at_place lbn good.within at
 
   -- the bitmap block of a slot

@@ -6,19 +6,21 @@ use Rattle.std.proofs.lemmas.Option.{slice_get_within}
 use Rattle.f11_dev.specs.Disk.{Disk}
 use Rattle.f11_dev.specs.Image.{Image}
 use Rattle.f11_dev.specs.Looked.{Looked}
-use Rattle.f11_dev.proofs.LookedLemmas.{looked_more, looked_within}
 use Rattle.f11_home.specs.Home.{HomeFields, IsSound}
-use Rattle.f11_index.specs.Calls.{Loads, FindsMisplaced, FindsPast, most_reads}
+use Rattle.f11_index.specs.Calls.{Reads, Loads, FindsMisplaced, FindsPast, LooksThrough}
 use Rattle.f11_index.specs.IndexFile.{Index, index_of, index_file, headers_among, most_slots, IsFirstPast, HasNonePast}
 use Rattle.f11_index.specs.Sound.{IsPlaced, IsIndexFile}
 use Rattle.f11_index.specs.Walk.{first_place, ReadsBitmap, Follows}
 use Rattle.f11_index.specs.declared.blocks.Blocks.{Blocks}
 use Rattle.f11_index.proofs.BlockLemmas.{IsPlaced-fit, All-fit}
-use Rattle.f11_index.proofs.FollowLemmas.{HomeFacts, home_facts, Adds-start}
+use Rattle.f11_index.proofs.FollowLemmas.{HomeFacts, home_facts, Adds-start, looks-behind}
 
 module _ (old now new : Disk) (home : HomeFields) (bitmap : List (List ℕ)) (blocks : Blocks) (sound : IsSound home (length old.image)) (reads : ReadsBitmap home bitmap old now) (f : Follows home blocks now new) where
-  looked : Looked old new (most_reads home) 0
-  looked = looked_within (looked_more reads.looked f.looked) (omega arith)
+  looks-all : LooksThrough home old new 0
+  looks-all = looks-behind old now new home home.index_blocks 0 reads.looked f.looked
+
+  looked : Looked old new (home.index_blocks + looks-all.headers) 0
+  looked = looks-all.looked
 
   facts : HomeFacts home (length old.image)
   facts = home_facts home (length old.image) sound
@@ -35,7 +37,7 @@ module _ (old now new : Disk) (home : HomeFields) (bitmap : List (List ℕ)) (bl
     misplaced = λ honest good.
         let last = slice_get_within (index_file old.image home) _ _ (good.placed.bitmap_and_headers (home.index_blocks + 15) (omega arith)) in
         absurd (omega (arith, last, few, (Adds-start home f.lbns f.adds).0, ap length (file_is honest)));
-    looked = looked;
+    looked = looks-all;
   }
 
   module _ (enough : first_place home + 16 ≤ blocks.places) where
@@ -63,27 +65,29 @@ module _ (old now new : Disk) (home : HomeFields) (bitmap : List (List ℕ)) (bl
         ap (λ (b : List (List ℕ)). record { bitmap_lbn = home.index_lbn; bitmap = b; headers = blocks.headers.items }) (reads.blocks honest)
         ∙ ap (λ (h : List ℕ). record { bitmap_lbn = home.index_lbn; bitmap = (index_of old.image home).bitmap; headers = h }) (headers_are ∙ ap (headers_among home) (file_is honest))
 
-    -- a bit past the slots is 1
-    pub finds_past : (n : ℕ) → IsFirstPast kept n → FindsPast home n old new
-    finds_past n is = record {
+    pub reads_all : Reads home kept old new
+    reads_all = record {
       sound = good;
-      first = λ honest. subst (λ (index : Index). IsFirstPast index n) (kept_is honest) is;
-      looked = looked;
-    }
-
-    -- none is
-    pub loads : HasNonePast kept → Loads home kept old new
-    loads none = record {
-      sound = good;
-      none_past = none;
       is_for = record {
         within = record {
           bitmap = omega (arith, ap length looked.image, reads.size, facts.within);
           headers = subst (All (λ lbn. lbn < length new.image)) (sym headers_are)
               (All-take (λ lbn. lbn < length new.image) (most_slots home) (drop (2 + home.index_blocks) f.lbns) (All-drop (λ lbn. lbn < length new.image) (2 + home.index_blocks) f.lbns
-              (subst (λ (n : ℕ). All (λ lbn. lbn < n) f.lbns) (sym (ap length f.looked.image)) (All-fit home (length now.image) f.lbns f.fit))));
+              (subst (λ (n : ℕ). All (λ lbn. lbn < n) f.lbns) (sym (ap length f.looked.looked.image)) (All-fit home (length now.image) f.lbns f.fit))));
         };
         keeps = λ honest. kept_is (sym looked.honest ∙ honest) ∙ ap (λ (image : Image). index_of image home) (sym looked.image);
       };
-      looked = looked;
+      looked = looks-all;
     }
+
+-- a bit past the slots is 1
+pub finds_past : (home : HomeFields) (index : Index) (old new : Disk) (n : ℕ) → Reads home index old new → IsFirstPast index n → FindsPast home n old new
+finds_past home index old new n reads is = record {
+  sound = reads.sound;
+  first = λ honest. subst (λ (i : Index). IsFirstPast i n) (reads.is_for.keeps (reads.looked.looked.honest ∙ honest) ∙ ap (λ (image : Image). index_of image home) reads.looked.looked.image) is;
+  looked = reads.looked;
+}
+
+-- none is
+pub loads : (home : HomeFields) (index : Index) (old new : Disk) → Reads home index old new → HasNonePast index → Loads home index old new
+loads home index old new reads none = record { sound = reads.sound; none_past = none; is_for = reads.is_for; looked = reads.looked }

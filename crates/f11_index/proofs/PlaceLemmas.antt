@@ -1,6 +1,6 @@
 -- Facts about the places of blocks in a list.
 use Rattle.std.proofs.Common.{◌≡◌, ℕ, zero, suc, ◌+◌, ◌-◌, ◌<◌, ◌≤◌, List, [], ◌∷◌, ◌++◌, length, get_or, take, drop, min, Some, refl, sym, ap, ◌∙◌, inl, inr, arith}
-use Rattle.std.specs.List.{slice_get, range_with_len}
+use Rattle.std.specs.List.{All, slice_get, range_with_len}
 use Rattle.std.proofs.Math.Seq.{take-append-add}
 use Rattle.std.proofs.lemmas.List.FromFn.{length-range_with_len, get_or-range_with_len}
 use Rattle.std.proofs.lemmas.Bool.{cases_lt}
@@ -76,3 +76,10 @@ slice_get-range from n i x at =
 pub range-slice_get : (from n i : ℕ) → i < n → slice_get (range_with_len from n) i ≡ Some (from + i)
 range-slice_get from n i within =
     slice_get-get_or (range_with_len from n) i 0 (omega (arith, length-range_with_len from n)) ∙ ap Some (get_or-range_with_len from n i 0 within)
+
+-- blocks in a row are below where their end is
+pub range-below : (lbn count end : ℕ) → lbn + count ≤ end → All (λ l. l < end) (range_with_len lbn count)
+range-below lbn count end within = λ i d below.
+    let size = length-range_with_len lbn count in
+    let is = get_or-range_with_len lbn count i d (omega (arith, below, size)) in
+    omega (arith, is, below, size, within)

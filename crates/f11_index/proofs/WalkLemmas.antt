@@ -1,8 +1,9 @@
 -- What is known of an index file while its headers are read, one after another.
-use Rattle.std.proofs.Common.{◌≡◌, ◌≢◌, ℕ, zero, suc, ◌+◌, ◌-◌, ◌<◌, ◌≤◌, List, ◌++◌, drop, true, false, Option, Some, None, refl, sym, ap, subst, ◌∙◌, inl, inr, arith}
+use Rattle.std.proofs.Common.{◌≡◌, ◌≢◌, ℕ, zero, suc, ◌+◌, ◌-◌, ◌<◌, ◌≤◌, ◌⊎◌, List, ◌++◌, length, drop, true, false, Option, Some, None, refl, sym, ap, subst, ◌∙◌, inl, inr, arith}
 use Rattle.std.specs.List.{slice_get}
 use Rattle.std.proofs.lemmas.Bool.{both_ways, cases_lt, cases_eq}
-use Rattle.std.proofs.lemmas.List.{length-take}
+use Rattle.std.proofs.lemmas.List.{length-take, length-drop}
+use Rattle.std.proofs.lemmas.Option.{none-some, slice_get-get_or}
 use Rattle.f11_dev.specs.Image.{Image, image_block}
 use Rattle.f11_header.specs.Fields.{file_sequence}
 use Rattle.f11_home.specs.Home.{HomeFields}
@@ -38,6 +39,15 @@ goes_on most image home known lbn header is =
 pub header_among-some : (home : HomeFields) (known : List ℕ) (n : ℕ) → 0 < n → header_among home known n ≡ slice_get known (header_place home n)
 header_among-some home known zero some = absurd (omega arith)
 header_among-some home known (suc n) some = refl
+
+-- header 1 stands behind the index bitmap
+abbrev pub IsFirstAt : HomeFields → List ℕ → Type 0
+IsFirstAt home blocks = slice_get blocks (header_place home 1) ≡ Some (first_header_lbn home)
+
+pub first-at : (home : HomeFields) (blocks : List ℕ) → IsPlaced home blocks → IsFirstAt home blocks
+first-at home blocks placed =
+    let place : header_place home 1 ≡ 2 + home.index_blocks = omega arith in
+    ap (slice_get blocks) place ∙ placed.bitmap_and_headers home.index_blocks (omega arith)
 
 module _ (image : Image) (home : HomeFields) where
   abbrev t : Table
@@ -86,19 +96,16 @@ module _ (image : Image) (home : HomeFields) where
     pub last : IsExpected n sequence segment → last_sequence t 1 ≡ 1
 
   -- at the start that is header 1
-  pub arrives-first : IsPlaced home all → 0 < most_slots home → Arrives 1 1 0 (first_header_lbn home)
-  arrives-first placed some = record {
+  pub arrives-first : IsFirstAt home all → 0 < most_slots home → Arrives 1 1 0 (first_header_lbn home)
+  arrives-first at some = record {
     some = omega arith;
     few = some;
-    place = ap (slice_get all) place ∙ placed.bitmap_and_headers home.index_blocks (omega arith);
+    place = at;
     due = λ is. record { live = is.whole.file.live; sequence_is = is.sequence; segment_is = is.whole.file.first };
     is_header = λ is. first (record { live = is.live; first = is.segment_is });
     right = λ is m of before. absurd (omega arith);
     last = λ is. is.sequence_is;
   }
-    where
-      place : header_place home 1 ≡ 2 + home.index_blocks
-      place = omega arith
 
   -- and then the one that it links to, where that is found
   pub arrives-next : (n sequence segment lbn next_lbn : ℕ) → Arrives n sequence segment lbn → IsExpected n sequence segment
@@ -153,3 +160,18 @@ module _ (image : Image) (home : HomeFields) where
       ]
     ];
   }
+
+module _ (image : Image) (home : HomeFields) (good : IsIndexFile image home) where
+  -- a header of the index file is a slot, so the walk has found it by its end
+  pub found-there : (known : List ℕ) (m : ℕ) → 0 < m → m ≤ slots (index_of image home) → index_file image home ≡ known → ¬ (header_among home known m ≡ None)
+  unfolding index_of
+  found-there known m some few so none =
+      let all : List ℕ = index_file image home in
+      let within : header_place home m < length known =
+      omega (arith, some, few, ap length so, length-take (most_slots home) (drop (2 + home.index_blocks) all), length-drop (2 + home.index_blocks) all) in
+      none-some _ (sym none ∙ header_among-some home known m some ∙ slice_get-get_or known (header_place home m) 0 within)
+
+  -- the header that one links to
+  pub linked-there : (m : ℕ) → IsHeaderOf (table_of image home) 1 m
+      → ((link_of ((table_of image home).header m)).number ≡ 0) ⊎ IsHeaderOf (table_of image home) 1 (link_of ((table_of image home).header m)).number
+  linked-there m of = elim (good.whole.links m of) [ inl none ↦ inl none | inr goes ↦ inr (next of goes) ]

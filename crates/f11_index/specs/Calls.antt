@@ -3,42 +3,48 @@ use Rattle.std.specs.Prelude.{◌≡◌, ◌≢◌, ℕ, ◌+◌, ◌-◌, ◌*�
 use Rattle.std.specs.List.{range_with_len}
 use Rattle.f11_dev.specs.Disk.{Disk}
 use Rattle.f11_dev.specs.Image.{Image}
-use Rattle.f11_dev.specs.Looked.{Looked}
 use Rattle.f11_dev.specs.Went.{Went}
 use Rattle.f11_home.specs.Home.{HomeFields}
-use Rattle.f11_index.specs.IndexFile.{Index, index_of, slot_bit, IsFirstPast, HasNonePast}
+use Rattle.f11_index.specs.IndexFile.{Index, index_of, slot_bit, is_in_use, IsFirstPast, HasNonePast}
 use Rattle.f11_index.specs.Kept.{IsFor}
 use Rattle.f11_index.specs.Sound.{IsIndexFile}
+use Rattle.f11_index.specs.Walk.{LooksAlong}
 
--- each block of the index bitmap and each header of file 1 is read once at most
-abbrev pub most_reads : HomeFields → ℕ
-most_reads home = home.index_blocks + 256
+-- Blocks of the index bitmap and headers of file 1 were read, each once at most; so many transfers failed.
+abbrev pub LooksThrough : HomeFields → Disk → Disk → ℕ → Type 0
+LooksThrough home old new faults = LooksAlong home home.index_blocks old new faults
+
+-- The index file was read: it is as it should be where the disk is honest, whatever its bits past the slots are.
+pub record Reads (home : HomeFields) (index : Index) (old new : Disk) : Type 0 where
+  pub sound : IsTrue old.honest → IsIndexFile old.image home
+  pub is_for : IsFor index home new
+  pub looked : LooksThrough home old new 0
 
 -- The index file was loaded: it is as it should be where the disk is honest, and no bit past the slots is 1.
 pub record Loads (home : HomeFields) (index : Index) (old new : Disk) : Type 0 where
   pub sound : IsTrue old.honest → IsIndexFile old.image home
   pub none_past : HasNonePast index
   pub is_for : IsFor index home new
-  pub looked : Looked old new (most_reads home) 0
+  pub looked : LooksThrough home old new 0
 
 -- It is not as it should be.
 pub record FindsMisplaced (home : HomeFields) (old new : Disk) : Type 0 where
   pub misplaced : IsTrue old.honest → ¬ IsIndexFile old.image home
-  pub looked : Looked old new (most_reads home) 0
+  pub looked : LooksThrough home old new 0
 
 -- It is, but the bit of n, past the slots, is 1, and n is the least.
 pub record FindsPast (home : HomeFields) (n : ℕ) (old new : Disk) : Type 0 where
   pub sound : IsTrue old.honest → IsIndexFile old.image home
   pub first : IsTrue old.honest → IsFirstPast (index_of old.image home) n
-  pub looked : Looked old new (most_reads home) 0
+  pub looked : LooksThrough home old new 0
 
 -- A transfer failed.
 abbrev pub FailsToLoad : HomeFields → Disk → Disk → Type 0
-FailsToLoad home old new = Looked old new (most_reads home) 1
+FailsToLoad home old new = LooksThrough home old new 1
 
 -- There was no memory, and no transfer failed.
 abbrev pub LacksMemory : HomeFields → Disk → Disk → Type 0
-LacksMemory home old new = Looked old new (most_reads home) 0
+LacksMemory home old new = LooksThrough home old new 0
 
 -- the number of the bitmap block that has the bit of slot n, from 0
 abbrev pub bitmap_place : ℕ → ℕ
@@ -67,6 +73,7 @@ pub record HasBitWritten (value : Bool) (n : ℕ) (index : Index) (old image : I
 -- The bit of slot n was written, in one transfer: the image has the bitmap block that is kept.
 pub record WritesBit (value : Bool) (n : ℕ) (before after : Index) (old new : Disk) : Type 0 where
   pub bit : SetsBit value n before after
+  pub in_use : is_in_use after n ≡ value
   pub image : new.image ≡ with_bitmap_block old.image after n
   pub went : Went (HasBitWritten value n before old.image) old new 1 0
 

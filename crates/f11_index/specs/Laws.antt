@@ -1,21 +1,15 @@
 -- Laws of the index file: what a write of one block leaves of it (Files-11 On-Disk Structure Level 1, "Index File").
-use Rattle.std.specs.Prelude.{◌≡◌, ◌≢◌, ℕ, ◌<◌, ◌≤◌, Bool, true, IsTrue, List, length, slice_set}
+use Rattle.std.specs.Prelude.{◌≡◌, ◌≢◌, ℕ, ◌<◌, ◌≤◌, Bool, IsTrue, List, length, slice_set}
 use Rattle.f11_dev.specs.Disk.{Disk, with_transfer, with_block_at}
 use Rattle.f11_dev.specs.Image.{Image}
-use Rattle.f11_header.specs.Fields.{file_sequence}
-use Rattle.f11_header.specs.Header.{IsHeader}
 use Rattle.f11_home.specs.Home.{HomeFields}
+use Rattle.f11_index.specs.ChangeLaws.{StaysHeader}
 use Rattle.f11_index.specs.Calls.{SetsBit, WritesBit, with_bitmap_block}
-use Rattle.f11_index.specs.HeaderBlock.{segment_number, link_of, blocks_named}
+use Rattle.f11_index.specs.HeaderBlock.{link_of, blocks_named}
 use Rattle.f11_index.specs.IndexFile.{Index, index_of, index_file, slots, is_in_use, header_lbn}
 use Rattle.f11_index.specs.Kept.{IsFor}
 use Rattle.f11_index.specs.Sound.{IsIndexFile, IsNoneOf, AreApart}
-use Rattle.f11_index.specs.Table.{Table, table_of, IsHeaderOf}
-
--- two headers of one file with the same segment number are one
-abbrev pub SegmentIsOne : Type 0
-SegmentIsOne =
-    (t : Table) (f n m : ℕ) → IsHeaderOf t f n → IsHeaderOf t f m → segment_number (t.header n) ≡ segment_number (t.header m) → n ≡ m
+use Rattle.f11_index.specs.Table.{table_of, IsHeaderOf}
 
 -- The index file is as it was, and says what it said.
 pub record KeepsIndexFile (home : HomeFields) (old new : Image) : Type 0 where
@@ -51,6 +45,11 @@ BitWriteKeeps =
     IsIndexFile image home → AreApart (index_file image home) → 0 < n → n ≤ slots (index_of image home) → SetsBit value n (index_of image home) after →
     KeepsButBit home after image (with_bitmap_block image after n)
 
+-- the other slots are in use or aren't as before
+abbrev pub OtherSlotsStay : Type 0
+OtherSlotsStay =
+    (before after : Index) (value : Bool) (n m : ℕ) → SetsBit value n before after → m ≢ n → is_in_use after m ≡ is_in_use before m
+
 -- so what is kept after it is for the disk
 abbrev pub BitWriteStaysFor : Type 0
 BitWriteStaysFor =
@@ -85,14 +84,6 @@ HeaderWriteStaysFor =
     (IsTrue disk.honest → IsIndexFile disk.image home × AreApart (index_file disk.image home)) →
     (IsTrue disk.honest → IsHeaderOf (table_of disk.image home) 1 n → LeadsAlike ((table_of disk.image home).header n) block) →
     0 < n → n ≤ slots index → IsFor index home disk → IsFor index home (with_transfer passed (with_block_at (header_lbn index n) block disk))
-
--- header n is as good as it was: in use, valid, and with the same sequence number, segment number and link
-pub record StaysHeader (old new : Table) (n : ℕ) : Type 0 where
-  pub in_use : new.in_use n ≡ true
-  pub valid : IsHeader (new.header n) n
-  pub sequence : file_sequence (new.header n) ≡ file_sequence (old.header n)
-  pub segment : segment_number (new.header n) ≡ segment_number (old.header n)
-  pub link : link_of (new.header n) ≡ link_of (old.header n)
 
 -- the index file is as it should be where it is that before, has the blocks that it had, and each of its headers is as good
 abbrev pub IndexFileStays : Type 0

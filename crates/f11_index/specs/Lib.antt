@@ -1,12 +1,16 @@
 pub mod HeaderBlock
 pub mod IndexFile
 pub mod Table
+pub mod Headers
 pub mod Sound
 pub mod Slots
 pub mod Kept
 pub mod Walk
 pub mod Calls
+pub mod HeaderLaws
+pub mod ChangeLaws
 pub mod Laws
+pub mod Growth
 pub mod IndexFault
 pub use Rattle.f11_dev.specs.Image
 pub use Rattle.f11_dev.specs.Disk

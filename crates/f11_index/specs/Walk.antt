@@ -9,12 +9,20 @@ use Rattle.f11_header.specs.Fields.{file_sequence}
 use Rattle.f11_header.specs.Header.{IsHeader}
 use Rattle.f11_home.specs.Home.{HomeFields}
 use Rattle.f11_index.specs.HeaderBlock.{segment_number, link_of, blocks_named}
+use Rattle.f11_index.specs.Headers.{headers_of}
 use Rattle.f11_index.specs.IndexFile.{most_slots, index_file, index_of, bit_of_slot}
 use Rattle.f11_index.specs.Sound.{IsPlaced, IsIndexFile}
 use Rattle.f11_index.specs.Table.{table_of, last_sequence, IsWholeFile}
 use Rattle.f11_index.specs.declared.blocks.Blocks.{Blocks}
 use Rattle.f11_index.specs.declared.walk.Due.{Due}
 use Rattle.f11_store.specs.declared.files.FileId.{FileId}
+
+-- So many other blocks were read, and then headers of file 1, each once at most; so many transfers failed.
+pub record LooksAlong (home : HomeFields) (others : ℕ) (old new : Disk) (faults : ℕ) : Type 0 where
+  pub headers : ℕ
+  pub few : headers ≤ 256
+  pub each_once : IsTrue old.honest → headers ≤ length (headers_of (table_of old.image home) 1)
+  pub looked : Looked old new (others + headers) faults
 
 -- The blocks of the index bitmap were read.
 pub record ReadsBitmap (home : HomeFields) (bitmap : List (List ℕ)) (old new : Disk) : Type 0 where
@@ -109,9 +117,9 @@ pub record Follows (home : HomeFields) (blocks : Blocks) (old new : Disk) : Type
   pub fit : FitFrom home (length old.image) 0 lbns
   pub is_file : IsTrue old.honest → lbns ≡ index_file old.image home
   pub whole : IsTrue old.honest → IsPlaced home lbns → IsFileOne old.image home
-  pub looked : Looked old new 256 0
+  pub looked : LooksAlong home 0 old new 0
 
 -- They aren't as they should be.
 pub record Strays (home : HomeFields) (old new : Disk) : Type 0 where
   pub misplaced : IsTrue old.honest → ¬ IsIndexFile old.image home
-  pub looked : Looked old new 256 0
+  pub looked : LooksAlong home 0 old new 0

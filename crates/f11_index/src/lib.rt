@@ -2,8 +2,9 @@
 //! Level 1, "Index File").
 //!
 //! [`IndexFile::load`] reads it off a device whose home block is known, and answers what is wrong with it where something
-//! is. What it keeps, a bit and an LBN a slot, is what the index file of an honest device's image says. Slots are numbered
-//! from 1. The crate stands on [`f11_home`], [`f11_header`] and [`f11_map`]; [`laws`] has what a write leaves of it.
+//! is; [`IndexFile::read`] leaves bits past the slots to [`IndexFile::first_past`]. What it keeps, a bit and an LBN a slot,
+//! is what the index file of an honest device's image says. Slots are numbered from 1. The crate stands on [`f11_home`],
+//! [`f11_header`] and [`f11_map`]; [`laws`] has what a write leaves of it.
 #![tactic(auto)]
 
 mod bits;

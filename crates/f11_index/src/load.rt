@@ -2,7 +2,7 @@
 ghost use Rattle.std.specs.Prelude.{◌≡◌, ◌≤◌, [], length, IfOk, IfErr, IsErrOf, OnOk, OnErr, MatchOption, vec_capacity};
 ghost use Rattle.f11_dev.specs.Looked.{Looked};
 ghost use Rattle.f11_home.specs.Home.{IsSound};
-ghost use Rattle.f11_index.specs.Calls.{Loads, FindsMisplaced, FindsPast, FailsToLoad, LacksMemory};
+ghost use Rattle.f11_index.specs.Calls.{Reads, Loads, FindsMisplaced, FindsPast, FailsToLoad, LacksMemory};
 ghost use Rattle.f11_index.specs.IndexFault.{IfPast};
 ghost use Rattle.f11_index.specs.IndexFile.{IsFirstPast, HasNonePast};
 ghost use Rattle.f11_index.specs.Kept.{index_kept};
@@ -19,8 +19,8 @@ use f11_home::Home;
 use std::alloc::Global;
 
 impl IndexFile {
-    /// Reads the index file of a volume whose home block this is: each block of its bitmap once, then each header of it,
-    /// once at most and 256 of them at most. It takes memory for a bit and an LBN a slot.
+    /// Reads the index file of a volume whose home block this is, and refuses it where one of its bits past the slots is 1:
+    /// [`IndexFile::read`] and [`IndexFile::first_past`].
     ///
     /// # Errors
     ///
@@ -43,6 +43,36 @@ impl IndexFile {
         ensures memory { IsErrOf result IndexFault.NoMemory
             → LacksMemory home.now (D.disk device.old) (D.disk device.new) }
     {
+        let index = IndexFile::read(alloc, device, home)?;
+        match index.first_past() {
+            Some(n) => Err(IndexFault::PastSlots(n)),
+            None => Ok(index),
+        }
+    }
+
+    /// Reads the index file of a volume whose home block this is: each block of its bitmap once, then each header of it,
+    /// once at most and 256 of them at most. It takes memory for a bit and an LBN a slot. The bits past the slots may be any.
+    ///
+    /// # Errors
+    ///
+    /// `Misplaced` where the index file isn't as it should be; `DeviceFault` where a transfer failed; `NoMemory` where there
+    /// was no memory.
+    pub fn read<D: Device>(
+        alloc: Global,
+        device: &mut D,
+        home: &Home,
+    ) -> Result<IndexFile, IndexFault>
+        requires { IsSound home.now (length (D.disk device.old).image) }
+        ensures reads { IfOk result (λ index.
+            Reads home.now (index_kept index) (D.disk device.old) (D.disk device.new)) }
+        ensures misplaced { IsErrOf result IndexFault.Misplaced
+            → FindsMisplaced home.now (D.disk device.old) (D.disk device.new) }
+        ensures failed { IsErrOf result IndexFault.DeviceFault
+            → FailsToLoad home.now (D.disk device.old) (D.disk device.new) }
+        ensures memory { IsErrOf result IndexFault.NoMemory
+            → LacksMemory home.now (D.disk device.old) (D.disk device.new) }
+        ensures never_past { IfErr result (λ fault. IfPast fault (λ _. ⊥)) }
+    {
         let mut bitmap = with_room(alloc, home.index_blocks())?;
         let mut blocks = Blocks::new(alloc);
         read_bitmap(device, home, &mut bitmap)?;
@@ -50,19 +80,15 @@ impl IndexFile {
         if blocks.places < 2 + u32::from(home.index_blocks()) + FIRST_HEADERS {
             return Err(IndexFault::Misplaced);
         }
-        let index = IndexFile {
+        Ok(IndexFile {
             bitmap_lbn: home.index_lbn(),
             bitmap,
             headers: blocks.headers,
-        };
-        match index.first_past() {
-            Some(n) => Err(IndexFault::PastSlots(n)),
-            None => Ok(index),
-        }
+        })
     }
 
-    /// The least slot number whose bit is 1 though there is no such slot.
-    fn first_past(&self) -> Option<u32>
+    /// The least slot number whose bit is 1 though there is no such slot; `None` where there is none.
+    pub fn first_past(&self) -> Option<u32>
         ensures { MatchOption result (HasNonePast (index_kept self.now))
             (λ n. IsFirstPast (index_kept self.now) n) }
     {

@@ -1,5 +1,5 @@
 //! Free slots.
-ghost use Rattle.std.specs.Prelude.{◌≡◌, ℕ, ◌+◌, ◌*◌, ◌<◌, ◌≤◌, ◌^◌, min, max, true, false, length, IsTrue, IsOk, OnOk};
+ghost use Rattle.std.specs.Prelude.{◌≡◌, ℕ, ◌+◌, ◌*◌, ◌<◌, ◌≤◌, ◌^◌, min, max, true, false, [], length, IsOk, OnOk, MatchOption};
 ghost use Rattle.std.specs.List.{slice_get};
 ghost use Rattle.f11_bytes.specs.Bits.{bit};
 
@@ -18,7 +18,7 @@ impl IndexFile {
     ghost use Rattle.f11_index.specs.Calls.{with_blocks_behind};
     ghost use Rattle.f11_index.specs.IndexFile.{slots, free_slots};
     ghost use Rattle.f11_index.specs.Kept.{index_kept, room};
-    ghost use Rattle.f11_index.specs.Slots.{free_between};
+    ghost use Rattle.f11_index.specs.Slots.{IsLeastFree, free_between};
 
     /// The number of free slots from 6 on.
     pub fn free_headers(&self) -> u32
@@ -33,7 +33,8 @@ impl IndexFile {
 
     /// The least free slot from 6 on; `None` where none is free.
     pub fn least_free(&self) -> Option<u16>
-        ensures { result ≡ slice_get (free_slots (index_kept self.now)) 0 }
+        ensures { MatchOption result (free_slots (index_kept self.now) ≡ [])
+            (λ n. IsLeastFree (index_kept self.now) n) }
     {
         for word in 0..self.slots().div_ceil(WORD) {
             if let Some(n) = self.least_free_in(word) {

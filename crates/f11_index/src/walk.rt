@@ -4,7 +4,7 @@ ghost use Rattle.f11_dev.specs.Looked.{Looked};
 ghost use Rattle.f11_home.specs.Home.{IsSound};
 ghost use Rattle.f11_index.specs.IndexFault.{IfPast};
 ghost use Rattle.f11_index.specs.IndexFile.{most_slots, index_of, bit_of_slot};
-ghost use Rattle.f11_index.specs.Walk.{IsDue, IsNextDue, Steps, Misfits, Follows, Strays};
+ghost use Rattle.f11_index.specs.Walk.{LooksAlong, IsDue, IsNextDue, Steps, Misfits, Follows, Strays};
 
 use crate::bits::is_slot_set;
 use crate::blocks::Blocks;
@@ -45,9 +45,9 @@ pub(crate) fn follow<D: Device>(
     ensures strays { IsErrOf result IndexFault.Misplaced
         → Strays home.now (D.disk device.old) (D.disk device.new) }
     ensures failed { IsErrOf result IndexFault.DeviceFault
-        → Looked (D.disk device.old) (D.disk device.new) 256 1 }
+        → LooksAlong home.now 0 (D.disk device.old) (D.disk device.new) 1 }
     ensures memory { IsErrOf result IndexFault.NoMemory
-        → Looked (D.disk device.old) (D.disk device.new) 256 0 }
+        → LooksAlong home.now 0 (D.disk device.old) (D.disk device.new) 0 }
     ensures never { IfErr result (λ fault. IfPast fault (λ _. ⊥)) }
 {
     let mut due = Due {

@@ -11,7 +11,7 @@ use Rattle.f11_store.specs.declared.callers.Uic.{Uic}
 use Rattle.f11_pip.specs.Commands.{MeetsDump, MeetsRights, command_and_word, program_app}
 use Rattle.f11_pip.specs.Octal.{SpellsUic}
 use Rattle.f11_pip.specs.Words.{AskNoRights, is_option}
-use Rattle.f11_pip.specs.declared.words.Words.TheVariants.{Dump, Home, Name, Rights}
+use Rattle.f11_pip.specs.declared.words.Words.TheVariants.{Dump, Home, Init, Name, Rights, RtInit, RtVfy, Vfy}
 
 pub is_simple-program : is_simple program_app ≡ true
 unfolding clap_on_literals
@@ -27,6 +27,28 @@ pub subcommand_of-home : (program image : Text) → is_option image ≡ false
 unfolding clap_on_literals
 subcommand_of-home program [] plain = refl
 subcommand_of-home program (b ∷ bs) plain = rw (plain, plain) refl
+
+pub takes-rt_vfy : (program image : Text) → is_option image ≡ false → takes program_app (program ∷ codes "rt-vfy" ∷ image ∷ []) ≡ true
+unfolding clap_on_literals
+takes-rt_vfy program [] plain = refl
+takes-rt_vfy program (b ∷ bs) plain = simp plain
+
+pub subcommand_of-rt_vfy : (program image : Text) → is_option image ≡ false
+    → command_and_word (codes "image") (subcommand_of program_app (program ∷ codes "rt-vfy" ∷ image ∷ [])) ≡ Some (codes "rt-vfy", Some image)
+unfolding clap_on_literals
+subcommand_of-rt_vfy program [] plain = refl
+subcommand_of-rt_vfy program (b ∷ bs) plain = rw (plain, plain) refl
+
+pub takes-vfy : (program image : Text) → is_option image ≡ false → takes program_app (program ∷ codes "vfy" ∷ image ∷ []) ≡ true
+unfolding clap_on_literals
+takes-vfy program [] plain = refl
+takes-vfy program (b ∷ bs) plain = simp plain
+
+pub subcommand_of-vfy : (program image : Text) → is_option image ≡ false
+    → command_and_word (codes "image") (subcommand_of program_app (program ∷ codes "vfy" ∷ image ∷ [])) ≡ Some (codes "vfy", Some image)
+unfolding clap_on_literals
+subcommand_of-vfy program [] plain = refl
+subcommand_of-vfy program (b ∷ bs) plain = rw (plain, plain) refl
 
 pub takes-name : (program text : Text) → is_option text ≡ false → takes program_app (program ∷ codes "name" ∷ text ∷ []) ≡ true
 unfolding clap_on_literals
@@ -120,12 +142,20 @@ pub no_caller : (caller owner word : Text) → ((uic : Uic) → SpellsUic caller
 no_caller caller owner word none (Dump image number) asks = asks
 no_caller caller owner word none (Home image) asks = asks
 no_caller caller owner word none (Name text) asks = asks
+no_caller caller owner word none (Vfy image) asks = asks
+no_caller caller owner word none (Init to count slots_is label_is max_is) asks = asks
+no_caller caller owner word none (RtVfy image) asks = asks
+no_caller caller owner word none (RtInit to count segments_are) asks = asks
 no_caller caller owner word none (Rights c o w) asks = none c asks.0
 
 pub no_owner : (caller owner word : Text) → ((uic : Uic) → SpellsUic owner uic → ⊥) → AskNoRights caller owner word
 no_owner caller owner word none (Dump image number) asks = asks
 no_owner caller owner word none (Home image) asks = asks
 no_owner caller owner word none (Name text) asks = asks
+no_owner caller owner word none (Vfy image) asks = asks
+no_owner caller owner word none (Init to count slots_is label_is max_is) asks = asks
+no_owner caller owner word none (RtVfy image) asks = asks
+no_owner caller owner word none (RtInit to count segments_are) asks = asks
 no_owner caller owner word none (Rights c o w) asks = none o asks.1
 
 pub at_err : {T E Q : Type 0} (P : T → Type 0) (F : E → Type 0) (r : Result T E) → IsErrAnd r F → Q → MatchResult r P (λ _. Q)

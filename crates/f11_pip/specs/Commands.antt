@@ -1,5 +1,5 @@
 -- The commands as `clap` is told of them (profile).
-use Rattle.std.specs.Prelude.{◌≡◌, List, true, Option, Some, codes, option_map}
+use Rattle.std.specs.Prelude.{◌≡◌, List, Bool, true, false, Option, Some, codes, option_map}
 use Rattle.clap.specs.Words.{App, Row, Rule, Text, first_of, first_value, found_of, new_app, new_rule, with_rule, with_subcommand}
 use Rattle.clap.specs.declared.parser.matches.ArgMatches.{ArgMatches}
 use Rattle.clap.specs.declared.builder.action.ArgAction.TheVariants.{Set}
@@ -25,9 +25,40 @@ rights_app = with_rule (with_rule (with_rule (new_app (codes "rights")) (needed_
 abbrev pub dump_app : App
 dump_app = with_rule (with_rule (new_app (codes "dump")) (needed_rule (codes "image"))) (needed_rule (codes "number"))
 
+-- `vfy IMAGE`
+abbrev pub vfy_app : App
+vfy_app = with_rule (new_app (codes "vfy")) (needed_rule (codes "image"))
+
+-- a word behind `--` and its name, which has to be there or may be
+abbrev pub option_rule : Text → Bool → Rule
+option_rule name needed = record (new_rule name) { long = Some name; required = needed; action = Some Set }
+
+-- `init` with the words that have to be there behind a name of theirs
+abbrev pub init_options : App
+init_options = with_rule (with_rule (with_rule (new_app (codes "init")) (option_rule (codes "blocks") true))
+    (option_rule (codes "slots") true)) (option_rule (codes "label") true)
+
+-- `init --blocks N --slots N --label L [--max N] IMAGE`
+abbrev pub init_app : App
+init_app = with_rule (with_rule init_options (option_rule (codes "max") false)) (needed_rule (codes "image"))
+
+-- `rt-init --blocks N --segments N IMAGE`
+abbrev pub rt_init_app : App
+rt_init_app = with_rule (with_rule (with_rule (new_app (codes "rt-init")) (option_rule (codes "blocks") true)) (option_rule (codes "segments") true))
+    (needed_rule (codes "image"))
+
+-- `rt-vfy IMAGE`
+abbrev pub rt_vfy_app : App
+rt_vfy_app = with_rule (new_app (codes "rt-vfy")) (needed_rule (codes "image"))
+
+-- the commands on Files-11 volumes
+abbrev pub files_app : App
+files_app = with_subcommand (with_subcommand (with_subcommand (with_subcommand (with_subcommand (with_subcommand (new_app (codes "f11_pip")) home_app.top) name_app.top)
+    rights_app.top) dump_app.top) vfy_app.top) init_app.top
+
+-- and those on RT-11 volumes
 abbrev pub program_app : App
-program_app = with_subcommand (with_subcommand (with_subcommand (with_subcommand (new_app (codes "f11_pip")) home_app.top) name_app.top)
-    rights_app.top) dump_app.top
+program_app = with_subcommand (with_subcommand files_app rt_init_app.top) rt_vfy_app.top
 
 -- the name of the command that was met, and its word of this name
 abbrev pub command_and_word : Text → Option (Text × List Row) → Option (Text × Option Text)
@@ -57,3 +88,17 @@ HasRightsWords caller owner word given = HasWord (codes "uic") caller given × H
 -- `dump` has these two words
 abbrev pub HasDumpWords : Text → Text → ArgMatches → Type 0
 HasDumpWords image number given = HasWord (codes "image") image given × HasWord (codes "number") number given
+
+-- `init` has these words, the greatest number of files among them or not
+pub record HasInitWords (blocks slots label : Text) (max : Option Text) (image : Text) (given : ArgMatches) : Type 0 where
+  pub blocks_are : HasWord (codes "blocks") blocks given
+  pub slots_are : HasWord (codes "slots") slots given
+  pub label_is : HasWord (codes "label") label given
+  pub max_is : first_value (found_of given) (codes "max") ≡ max
+  pub image_is : HasWord (codes "image") image given
+
+-- `rt-init` has these words
+pub record HasRtInitWords (blocks segments image : Text) (given : ArgMatches) : Type 0 where
+  pub blocks_are : HasWord (codes "blocks") blocks given
+  pub segments_are : HasWord (codes "segments") segments given
+  pub image_is : HasWord (codes "image") image given

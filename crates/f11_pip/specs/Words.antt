@@ -1,11 +1,11 @@
 -- The words of the command line (profile).
-use Rattle.std.specs.Prelude.{◌≡◌, ◌⊎◌, ℕ, ◌==◌, Bool, false, List, [], ◌∷◌, codes}
-use Rattle.f11_pip.specs.Decimal.{IsNumber, SpellsNumber}
+use Rattle.std.specs.Prelude.{◌≡◌, ◌⊎◌, ℕ, ◌==◌, Bool, false, List, [], ◌∷◌, Option, Some, None, codes}
+use Rattle.f11_pip.specs.Decimal.{IsNumber, SpellsNumber, SpellsCount}
 use Rattle.f11_pip.specs.Octal.{SpellsProtection, SpellsUic}
 use Rattle.f11_pip.specs.declared.outcome.Failure.{Failure}
 use Rattle.f11_pip.specs.declared.outcome.Failure.TheVariants.{NoMemory}
 use Rattle.f11_pip.specs.declared.words.Words.{Words}
-use Rattle.f11_pip.specs.declared.words.Words.TheVariants.{Dump, Home, Name, Rights}
+use Rattle.f11_pip.specs.declared.words.Words.TheVariants.{Dump, Home, Init, Name, Rights, RtInit, RtVfy, Vfy}
 
 -- a word that begins with a hyphen (45) is an option
 abbrev pub is_option : List ℕ → Bool
@@ -46,6 +46,32 @@ FailsToAskDump text failure = (failure ≡ NoMemory) ⊎ ¬ IsNumber text
 abbrev pub AsksHome : List ℕ → Words → Type 0
 AsksHome name (Home image) = image.now ≡ name
 AsksHome name _ = ⊥
+
+-- the words ask that this image be verified
+abbrev pub AsksVfy : List ℕ → Words → Type 0
+AsksVfy name (Vfy image) = image.now ≡ name
+AsksVfy name _ = ⊥
+
+-- the greatest number of files that a text spells, and 4000 where there is none
+abbrev pub SpellsMax : Option (List ℕ) → ℕ → Type 0
+SpellsMax None max = max ≡ 4000
+SpellsMax (Some text) max = SpellsNumber text max
+
+-- The words ask for a fresh volume: of so many blocks and slots, with this label, for so many files at most, on this image.
+abbrev pub AsksInit : List ℕ → List ℕ → List ℕ → Option (List ℕ) → List ℕ → Words → Type 0
+AsksInit blocks slots label max image (Init to count slots_are label_is files) =
+    (to.now ≡ image) × SpellsCount blocks count × SpellsNumber slots slots_are × (label_is.now ≡ label) × SpellsMax max files
+AsksInit blocks slots label max image _ = ⊥
+
+-- the words ask that the RT-11 volume in this image be verified
+abbrev pub AsksRtVfy : List ℕ → Words → Type 0
+AsksRtVfy name (RtVfy image) = image.now ≡ name
+AsksRtVfy name _ = ⊥
+
+-- the words ask for a fresh RT-11 volume, of so many blocks and segments, on this image
+abbrev pub AsksRtInit : List ℕ → List ℕ → List ℕ → Words → Type 0
+AsksRtInit blocks segments image (RtInit to count segments_are) = (to.now ≡ image) × SpellsNumber blocks count × SpellsNumber segments segments_are
+AsksRtInit blocks segments image _ = ⊥
 
 -- the words ask for this name's words
 abbrev pub AsksName : List ℕ → Words → Type 0

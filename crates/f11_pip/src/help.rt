@@ -8,7 +8,7 @@ struct Synopsis {
     does: &'static str,
 }
 
-const COMMANDS: [Synopsis; 4] = [
+const COMMANDS: [Synopsis; 8] = [
     Synopsis {
         name: "dump",
         words: "f11_pip dump IMAGE NUMBER",
@@ -20,6 +20,11 @@ const COMMANDS: [Synopsis; 4] = [
         does: "shows the home block of a Files-11 volume",
     },
     Synopsis {
+        name: "init",
+        words: "f11_pip init --blocks N --slots N --label L [--max N] IMAGE",
+        does: "makes an image file with a fresh Files-11 volume",
+    },
+    Synopsis {
         name: "name",
         words: "f11_pip name TEXT",
         does: "shows the five words of a file's name, as A.TXT;1",
@@ -28,6 +33,21 @@ const COMMANDS: [Synopsis; 4] = [
         name: "rights",
         words: "f11_pip rights UIC OWNER WORD",
         does: "shows the rights of a caller, as 200,1, to a file of an owner with a protection word",
+    },
+    Synopsis {
+        name: "rt-init",
+        words: "f11_pip rt-init --blocks N --segments N IMAGE",
+        does: "makes an image file with a fresh RT-11 volume",
+    },
+    Synopsis {
+        name: "rt-vfy",
+        words: "f11_pip rt-vfy IMAGE",
+        does: "verifies an RT-11 volume: each fault and note, and whether it is accepted",
+    },
+    Synopsis {
+        name: "vfy",
+        words: "f11_pip vfy IMAGE",
+        does: "verifies a Files-11 volume: each fault and note, and whether it is accepted",
     },
 ];
 

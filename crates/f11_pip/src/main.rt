@@ -11,14 +11,25 @@ mod octal;
 mod outcome;
 mod words;
 
-use f11_commands::{Answer, print_header, print_home, print_name, print_rights};
+use f11_commands::{
+    Answer, print_header, print_home, print_init, print_name, print_rights,
+    print_rt_init, print_rt_vfy, print_vfy, refuse_init,
+};
 use f11_dev::FileImage;
+use f11_store::Uic;
+use f11_vfy::{InitParams, MOST_BLOCKS};
 use outcome::{Failure, status};
 use std::env;
 use std::fs::File;
 use std::io::{self, BufWriter, ErrorKind, Write};
 use std::process::ExitCode;
 use words::Words;
+
+/// The owner of the volumes that are made, [1,1].
+const OWNER: Uic = Uic {
+    group: 1,
+    member: 1,
+};
 
 fn main(rt: HostRuntime) -> ExitCode {
     let outcome = match Start::new(&rt) {
@@ -96,14 +107,61 @@ fn run<W: Write>(rt: &HostRuntime, words: Words<'_>, writer: &mut W) -> Result<A
             number,
         )?,
         Words::Home { image } => print_home(&mut FileImage::open_to_read(rt, image)?, writer)?,
+        Words::Init {
+            image,
+            blocks,
+            slots,
+            label,
+            max_files,
+        } => {
+            let params = InitParams {
+                label: label.as_bytes(),
+                slots,
+                max_files,
+                owner: OWNER,
+                date: [0; 14],
+            };
+            init(rt, image, blocks, &params, writer)?
+        }
         Words::Name { text } => print_name(text, writer)?,
         Words::Rights {
             caller,
             owner,
             protection,
         } => print_rights(caller, owner, protection, writer)?,
+        Words::RtInit {
+            image,
+            blocks,
+            segments,
+        } => {
+            let device = FileImage::create(rt, image, u32::from(blocks))?;
+            print_rt_init(device, segments, writer)?
+        }
+        Words::RtVfy { image } => {
+            print_rt_vfy(rt.alloc(), FileImage::open_to_read(rt, image)?, writer)?
+        }
+        Words::Vfy { image } => {
+            let (_, answer) = print_vfy(rt.alloc(), FileImage::open_to_read(rt, image)?, writer);
+            answer?
+        }
     };
     Ok(answer)
+}
+
+/// Makes an image file of so many blocks with a fresh volume. A file that can't be one is not made; where no volume can be made for
+/// another cause, the file of zeros stays.
+fn init<W: Write>(
+    rt: &HostRuntime,
+    image: &str,
+    blocks: u32,
+    params: &InitParams<'_>,
+    writer: &mut W,
+) -> Result<Answer, Failure> {
+    if blocks > MOST_BLOCKS {
+        return Ok(refuse_init(writer)?);
+    }
+    let (_, answer) = print_init(FileImage::create(rt, image, blocks)?, writer, params);
+    Ok(answer?)
 }
 
 /// Why the words, or room for output, can't be had: a word is no text, or no memory is left.

@@ -1,14 +1,14 @@
 //! The words of the command line.
-ghost use Rattle.std.specs.Prelude.{◌≡◌, ◌≤◌, ◌⊎◌, length, ℕ, List, false, codes, map, option_map, None, IfOk, IfErr, IsErr, IsOkAnd, MatchResult};
+ghost use Rattle.std.specs.Prelude.{◌≡◌, ◌≤◌, ◌⊎◌, length, ℕ, List, false, codes, map, option_map, Option, None, IfOk, IfErr, IsErr, IsOkAnd, MatchResult};
 ghost use Rattle.std.specs.Result.{result_ok};
 ghost use Rattle.clap.specs.Words.{app_of, first_value, found_of, rule_of, subcommand_rows_of};
 ghost use Rattle.f11_store.specs.declared.callers.Uic.{Uic};
-ghost use Rattle.f11_pip.specs.Words.{AskNoRights, AsksDump, AsksHome, AsksName, AsksRights, FailsToAskDump, FailsToAskRights, IsDumpLine, IsLine, IsRightsLine};
-ghost use Rattle.f11_pip.specs.Commands.{HasDumpWords, HasRightsWords, HasWord, MeetsDump, MeetsRights, MeetsWord, dump_app, home_app, name_app, needed_rule, program_app, rights_app};
+ghost use Rattle.f11_pip.specs.Words.{AskNoRights, AsksDump, AsksHome, AsksInit, AsksName, AsksRights, AsksRtInit, AsksRtVfy, AsksVfy, SpellsMax, FailsToAskDump, FailsToAskRights, IsDumpLine, IsLine, IsRightsLine};
+ghost use Rattle.f11_pip.specs.Commands.{HasDumpWords, HasInitWords, HasRightsWords, HasRtInitWords, HasWord, MeetsDump, MeetsRights, MeetsWord, dump_app, files_app, home_app, init_app, init_options, name_app, needed_rule, option_rule, program_app, rights_app, rt_init_app, rt_vfy_app, vfy_app};
 ghost use Rattle.f11_pip.specs.Decimal.{IsNumber, SpellsNumber};
 ghost use Rattle.f11_pip.specs.Octal.{IsProtection, SpellsProtection, SpellsUic};
 
-use crate::decimal::read_number;
+use crate::decimal::{read_count, read_number};
 use crate::octal::{read_protection, read_uic};
 use crate::outcome::Failure;
 use clap::{Arg, ArgAction, ArgMatches, Command};
@@ -28,6 +28,14 @@ pub enum Words<'a> {
     Home {
         image: &'a str,
     },
+    /// `init --blocks N --slots N --label L [--max N] IMAGE`: what a fresh volume is made with
+    Init {
+        image: &'a str,
+        blocks: u32,
+        slots: u16,
+        label: &'a str,
+        max_files: u16,
+    },
     /// `name TEXT`
     Name {
         text: &'a str,
@@ -38,7 +46,24 @@ pub enum Words<'a> {
         owner: Uic,
         protection: u16,
     },
+    /// `rt-init --blocks N --segments N IMAGE`
+    RtInit {
+        image: &'a str,
+        blocks: u16,
+        segments: u16,
+    },
+    /// `rt-vfy IMAGE`
+    RtVfy {
+        image: &'a str,
+    },
+    /// `vfy IMAGE`
+    Vfy {
+        image: &'a str,
+    },
 }
+
+/// How many files a volume may have where no number is given.
+const MAX_FILES: u16 = 4000;
 
 /// Reads the words of a command line, of which the first is the program's name.
 ///
@@ -55,6 +80,10 @@ pub fn parse<'a, S: AsStr>(alloc: Global, words: &'a [S]) -> Result<Words<'a>, F
     ensures rights { (caller owner word : List ℕ)
         → IsRightsLine caller owner word (map S.text words.entry.now)
         → MatchResult result (AsksRights caller owner word) (FailsToAskRights caller owner word) }
+    ensures rt_vfy { (image : List ℕ) → IsLine (codes "rt-vfy") image (map S.text words.entry.now)
+        → MatchResult result (AsksRtVfy image) (λ failure. failure ≡ Failure.NoMemory) }
+    ensures vfy { (image : List ℕ) → IsLine (codes "vfy") image (map S.text words.entry.now)
+        → MatchResult result (AsksVfy image) (λ failure. failure ≡ Failure.NoMemory) }
     ensures none { length words.entry.now ≤ 1 → IsErr result }
     ensures failures { IfErr result (λ failure. (failure ≡ Failure.Usage)
         ⊎ (failure ≡ Failure.NoMemory)) }
@@ -67,11 +96,22 @@ pub fn parse<'a, S: AsStr>(alloc: Global, words: &'a [S]) -> Result<Words<'a>, F
 fn program<'a>(alloc: Global) -> Result<Command<'a>, AllocError>
     ensures { IfOk result (λ command. app_of command ≡ program_app) }
 {
+    files(alloc)?
+        .subcommand(rt_init(alloc)?)?
+        .subcommand(rt_vfy(alloc)?)
+}
+
+/// The commands on Files-11 volumes.
+fn files<'a>(alloc: Global) -> Result<Command<'a>, AllocError>
+    ensures { IfOk result (λ command. app_of command ≡ files_app) }
+{
     Command::new(alloc, "f11_pip")
         .subcommand(home(alloc)?)?
         .subcommand(name(alloc)?)?
         .subcommand(rights(alloc)?)?
-        .subcommand(dump(alloc)?)
+        .subcommand(dump(alloc)?)?
+        .subcommand(vfy(alloc)?)?
+        .subcommand(init(alloc)?)
 }
 
 /// The command that the words named.
@@ -89,14 +129,24 @@ fn command_of<'a>(matches: &ArgMatches<'a>) -> Result<Words<'a>, Failure>
         → MeetsRights caller owner word (subcommand_rows_of matches.now)
         → MatchResult result (AsksRights caller owner word)
         (λ _. AskNoRights caller owner word) }
+    ensures rt_vfy { (image : List ℕ)
+        → MeetsWord (codes "rt-vfy") (codes "image") image (subcommand_rows_of matches.now)
+        → IsOkAnd result (AsksRtVfy image) }
+    ensures vfy { (image : List ℕ)
+        → MeetsWord (codes "vfy") (codes "image") image (subcommand_rows_of matches.now)
+        → IsOkAnd result (AsksVfy image) }
     ensures none { subcommand_rows_of matches.now ≡ None → IsErr result }
     ensures usage { IfErr result (λ failure. failure ≡ Failure.Usage) }
 {
     match matches.subcommand() {
         Some(("dump", given)) => dump_of(given),
         Some(("home", given)) => home_of(given),
+        Some(("init", given)) => init_of(given),
         Some(("name", given)) => name_of(given),
         Some(("rights", given)) => rights_of(given),
+        Some(("rt-init", given)) => rt_init_of(given),
+        Some(("rt-vfy", given)) => rt_vfy_of(given),
+        Some(("vfy", given)) => vfy_of(given),
         _ => Err(Failure::Usage),
     }
 }
@@ -142,6 +192,51 @@ fn home_of<'a>(given: &ArgMatches<'a>) -> Result<Words<'a>, Failure>
 {
     let image = word_of(given, "image")?;
     Ok(Words::Home { image })
+}
+
+fn init<'a>(alloc: Global) -> Result<Command<'a>, AllocError>
+    ensures { IfOk result (λ command. app_of command ≡ init_app) }
+{
+    init_options(alloc)?
+        .arg(option(alloc, "max", false))?
+        .arg(needed(alloc, "image"))
+}
+
+/// `init` with the words that have to be there behind a name of theirs.
+fn init_options<'a>(alloc: Global) -> Result<Command<'a>, AllocError>
+    ensures { IfOk result (λ command. app_of command ≡ init_options) }
+{
+    Command::new(alloc, "init")
+        .arg(option(alloc, "blocks", true))?
+        .arg(option(alloc, "slots", true))?
+        .arg(option(alloc, "label", true))
+}
+
+fn init_of<'a>(given: &ArgMatches<'a>) -> Result<Words<'a>, Failure>
+    ensures init { (blocks slots label image : List ℕ) → (max : Option (List ℕ))
+        → HasInitWords blocks slots label max image given.now
+        → IfOk result (AsksInit blocks slots label max image) }
+    ensures usage { IfErr result (λ failure. failure ≡ Failure.Usage) }
+{
+    Ok(Words::Init {
+        image: word_of(given, "image")?,
+        blocks: read_count(word_of(given, "blocks")?).ok_or(Failure::Usage)?,
+        slots: read_number(word_of(given, "slots")?).ok_or(Failure::Usage)?,
+        label: word_of(given, "label")?,
+        max_files: max_files_of(given)?,
+    })
+}
+
+/// How many files a volume may have, among the words of `init`.
+fn max_files_of(given: &ArgMatches<'_>) -> Result<u16, Failure>
+    ensures max { (max : Option (List ℕ)) → first_value (found_of given.now) (codes "max") ≡ max
+        → IfOk result (SpellsMax max) }
+    ensures usage { IfErr result (λ failure. failure ≡ Failure.Usage) }
+{
+    match given.get_str("max") {
+        Some(text) => read_number(text).ok_or(Failure::Usage),
+        None => Ok(MAX_FILES),
+    }
 }
 
 fn name<'a>(alloc: Global) -> Result<Command<'a>, AllocError>
@@ -197,6 +292,69 @@ fn protection_of(given: &ArgMatches<'_>) -> Result<u16, Failure>
     ensures usage { IfErr result (λ failure. failure ≡ Failure.Usage) }
 {
     read_protection(word_of(given, "word")?).ok_or(Failure::Usage)
+}
+
+fn rt_init<'a>(alloc: Global) -> Result<Command<'a>, AllocError>
+    ensures { IfOk result (λ command. app_of command ≡ rt_init_app) }
+{
+    Command::new(alloc, "rt-init")
+        .arg(option(alloc, "blocks", true))?
+        .arg(option(alloc, "segments", true))?
+        .arg(needed(alloc, "image"))
+}
+
+fn rt_init_of<'a>(given: &ArgMatches<'a>) -> Result<Words<'a>, Failure>
+    ensures rt_init { (blocks segments image : List ℕ)
+        → HasRtInitWords blocks segments image given.now
+        → IfOk result (AsksRtInit blocks segments image) }
+    ensures usage { IfErr result (λ failure. failure ≡ Failure.Usage) }
+{
+    Ok(Words::RtInit {
+        image: word_of(given, "image")?,
+        blocks: read_number(word_of(given, "blocks")?).ok_or(Failure::Usage)?,
+        segments: read_number(word_of(given, "segments")?).ok_or(Failure::Usage)?,
+    })
+}
+
+fn rt_vfy<'a>(alloc: Global) -> Result<Command<'a>, AllocError>
+    ensures { IfOk result (λ command. app_of command ≡ rt_vfy_app) }
+{
+    Command::new(alloc, "rt-vfy").arg(needed(alloc, "image"))
+}
+
+fn rt_vfy_of<'a>(given: &ArgMatches<'a>) -> Result<Words<'a>, Failure>
+    ensures rt_vfy { (image : List ℕ) → HasWord (codes "image") image given.now
+        → IsOkAnd result (AsksRtVfy image) }
+    ensures usage { IfErr result (λ failure. failure ≡ Failure.Usage) }
+{
+    let image = word_of(given, "image")?;
+    Ok(Words::RtVfy { image })
+}
+
+fn vfy<'a>(alloc: Global) -> Result<Command<'a>, AllocError>
+    ensures { IfOk result (λ command. app_of command ≡ vfy_app) }
+{
+    Command::new(alloc, "vfy").arg(needed(alloc, "image"))
+}
+
+fn vfy_of<'a>(given: &ArgMatches<'a>) -> Result<Words<'a>, Failure>
+    ensures vfy { (image : List ℕ) → HasWord (codes "image") image given.now
+        → IsOkAnd result (AsksVfy image) }
+    ensures usage { IfErr result (λ failure. failure ≡ Failure.Usage) }
+{
+    let image = word_of(given, "image")?;
+    Ok(Words::Vfy { image })
+}
+
+/// A word behind `--` and its name, which has to be there or may be.
+fn option<'a>(alloc: Global, name: &'a str, is_needed: bool) -> Arg<'a>
+    ensures rule { rule_of result ≡ option_rule name.entry.now is_needed }
+    ensures local { result.global ≡ false }
+{
+    Arg::new(alloc, name)
+        .long(name)
+        .required(is_needed)
+        .action(ArgAction::Set)
 }
 
 /// A word that has to be there.

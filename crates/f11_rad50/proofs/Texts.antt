@@ -87,7 +87,7 @@ length-name_text words n =
     simp length-append (omega (arith, n.proper.name_length, n.proper.type_length, length-octal-le (version_of words) n.proper.version_to))
 
 -- the characters of a name are ASCII
-part-ascii : (cs : List ℕ) → AllPass is_name_character cs → IsAscii cs
+pub part-ascii : (cs : List ℕ) → AllPass is_name_character cs → IsAscii cs
 unfolding is_name_character
 part-ascii [] h = IsAscii-nil
 part-ascii (c ∷ cs) h =

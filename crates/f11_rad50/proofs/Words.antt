@@ -27,7 +27,7 @@ unfolding is_name_character
 is_name_character-space c h = grind (arith, nat_tests)
 
 -- each place of a part, or past it, has a character of the set
-IsCharacter-place : (cs : List ℕ) → AllPass is_name_character cs → (k : ℕ) → IsCharacter (slice_index_or cs k 32)
+pub IsCharacter-place : (cs : List ℕ) → AllPass is_name_character cs → (k : ℕ) → IsCharacter (slice_index_or cs k 32)
 IsCharacter-place cs h k =
     elim (cases_lt k (length cs)) as (λ _. IsCharacter (slice_index_or cs k 32)) [
       | inl lt ↦ is_name_character-IsCharacter _ (h k 32 lt)
@@ -38,7 +38,7 @@ abbrev InName : ℕ → Type 0
 InName c = is_name_character c ≡ true
 
 -- the first n characters of a list, spaces past its end
-padded : ℕ → List ℕ → List ℕ
+pub padded : ℕ → List ℕ → List ℕ
 padded zero cs = []
 padded (suc n) [] = 32 ∷ padded n []
 padded (suc n) (c ∷ cs) = c ∷ padded n cs
@@ -50,7 +50,7 @@ unpadded-cons c cs h =
     take_while-cons (λ x. not (x == 32)) c cs ∙ rw e refl
 
 -- padded characters are told apart from their padding
-unpadded-padded : (n : ℕ) (cs : List ℕ) → AllPass is_name_character cs → length cs ≤ n → unpadded (padded n cs) ≡ cs
+pub unpadded-padded : (n : ℕ) (cs : List ℕ) → AllPass is_name_character cs → length cs ≤ n → unpadded (padded n cs) ≡ cs
 unfolding padded
 unpadded-padded zero [] h l = refl
 unpadded-padded (suc n) [] h l = refl
@@ -59,14 +59,14 @@ unpadded-padded (suc n) (c ∷ cs) h l =
     unpadded-cons c (padded n cs) (is_name_character-space c (All-head InName c cs h)) ∙ ap (λ t. c ∷ t) (unpadded-padded n cs (All-tail InName c cs h) (omega (arith, l)))
 
 -- padding goes on after the first m characters
-padded-append : (m n : ℕ) (cs : List ℕ) → padded m cs ++ padded n (drop m cs) ≡ padded (m + n) cs
+pub padded-append : (m n : ℕ) (cs : List ℕ) → padded m cs ++ padded n (drop m cs) ≡ padded (m + n) cs
 unfolding padded
 padded-append zero n cs = ap (λ k. padded k cs) (sym (zero-add n))
 padded-append (suc m) n [] =
     ap (λ t. 32 ∷ t) (ap (λ d. padded m [] ++ padded n d) (sym (drop-nil m)) ∙ padded-append m n []) ∙ ap (λ k. padded k []) (sym (suc-add m n))
 padded-append (suc m) n (c ∷ cs) = ap (λ t. c ∷ t) (padded-append m n cs) ∙ ap (λ k. padded k (c ∷ cs)) (sym (suc-add m n))
 
-three_places : (cs : List ℕ) → slice_index_or cs 0 32 ∷ slice_index_or cs 1 32 ∷ slice_index_or cs 2 32 ∷ [] ≡ padded 3 cs
+pub three_places : (cs : List ℕ) → slice_index_or cs 0 32 ∷ slice_index_or cs 1 32 ∷ slice_index_or cs 2 32 ∷ [] ≡ padded 3 cs
 unfolding padded
 three_places [] = refl
 three_places (a ∷ []) = refl
@@ -74,7 +74,7 @@ three_places (a ∷ b ∷ []) = refl
 three_places (a ∷ b ∷ c ∷ cs) = refl
 
 -- a word of a part has its characters, padded
-characters_of-part : (cs : List ℕ) → AllPass is_name_character cs → characters_of (radix50 cs) ≡ padded 3 cs
+pub characters_of-part : (cs : List ℕ) → AllPass is_name_character cs → characters_of (radix50 cs) ≡ padded 3 cs
 unfolding padded
 characters_of-part cs h =
     characters_of-radix50 cs (IsCharacter-place cs h 0) (IsCharacter-place cs h 1) (IsCharacter-place cs h 2) ∙ three_places cs

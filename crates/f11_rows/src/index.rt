@@ -8,7 +8,7 @@ ghost use Rattle.f11_index.specs.Kept.{index_kept, LiesWithin};
 
 use crate::fixtures::{SEVENS, ZEROS, file, get, keep, linked, memory, put};
 use f11_bytes::{Block, write_word};
-use f11_chain::{ChainFault, first, last, locate, next};
+use f11_chain::{ChainFault, FileEnd, first, last, locate, next};
 use f11_dev::{Device, DeviceFault, FailOnce, Liar, Memory};
 use f11_header::HeaderMut;
 use f11_home::{find, seal};
@@ -54,6 +54,29 @@ pub fn load<D: Device>(alloc: Global, device: &mut D) -> Result<IndexFile, Index
         return Err(IndexFault::DeviceFault);
     };
     IndexFile::load(alloc, device, &home)
+}
+
+/// Finds the home block of a device, and reads its index file, whatever its bits past the slots are.
+fn read_index<D: Device>(alloc: Global, device: &mut D) -> Result<IndexFile, IndexFault> {
+    let Ok(home) = find(device) else {
+        return Err(IndexFault::DeviceFault);
+    };
+    IndexFile::read(alloc, device, &home)
+}
+
+#[test]
+fn bits_past_the_slots_are_told(rt: HostRuntime) -> Result<(), Fail> {
+    for (byte, past) in [(0, None), (1, Some(17)), (0x80, Some(24)), (0xc0, Some(23))] {
+        let mut bits = ZEROS;
+        bits[0] = 0x1f;
+        bits[2] = byte;
+        let mut device = volume(rt.alloc(), &bits, &[(0, 18)])?;
+        let index = read_index(rt.alloc(), &mut device)?;
+        assert_eq!(rt; (index.slots(), index.first_past()), (16, past), "{byte}");
+        let fault = load(rt.alloc(), &mut device).err();
+        assert_eq!(rt; fault, past.map(IndexFault::PastSlots), "{byte}");
+    }
+    Ok(())
 }
 
 #[test]
@@ -280,13 +303,12 @@ fn a_file_is_read(rt: HostRuntime) -> Result<(), Fail> {
     Ok(())
 }
 
-/// Loads the index file, and gives the last header of file `n`, its number and how many blocks the file has, where there is
-/// such a slot.
+/// Loads the index file, and gives where file `n` ends and its last header, where there is such a slot.
 fn last_of<D: Device>(
     alloc: Global,
     device: &mut D,
     n: u16,
-) -> Result<(u16, u32, Block), ChainFault> {
+) -> Result<(FileEnd, Block), ChainFault> {
     let Ok(index) = load(alloc, device) else {
         return Err(ChainFault::DeviceFault);
     };
@@ -294,8 +316,8 @@ fn last_of<D: Device>(
         return Err(ChainFault::DeviceFault);
     }
     let mut block = ZEROS;
-    let (number, blocks) = last(device, &index, n, &mut block)?;
-    Ok((number, blocks, block))
+    let end = last(device, &index, n, &mut block)?;
+    Ok((end, block))
 }
 
 /// Loads the index file, and gives what stands behind the first header of file `n`, where there is such a slot: the second
@@ -317,14 +339,23 @@ fn second_of<D: Device>(
     Ok((number, block))
 }
 
+/// A file ends with header `number`, and has so many headers and blocks.
+fn file_end(number: u16, headers: u16, blocks: u32) -> FileEnd {
+    FileEnd {
+        number,
+        headers,
+        blocks,
+    }
+}
+
 #[test]
 fn headers_are_read(rt: HostRuntime) -> Result<(), Fail> {
     let mut device = two_headers(rt.alloc())?;
     let (one, seven) = (get(&mut device, 3)?, get(&mut device, 9)?);
     let damaged = Err(ChainFault::Damaged);
     for (n, second, end) in [
-        (6, Ok((Some(7), seven)), Ok((7, 10, seven))),
-        (1, Ok((None, one)), Ok((1, 19, one))),
+        (6, Ok((Some(7), seven)), Ok((file_end(7, 2, 10), seven))),
+        (1, Ok((None, one)), Ok((file_end(1, 1, 19), one))),
         (7, damaged, Err(ChainFault::Damaged)),
         (8, damaged, Err(ChainFault::Damaged)),
     ] {

@@ -1,34 +1,14 @@
 -- The files of a volume, read off its image (Files-11 On-Disk Structure Level 1, "File Header" and "Directories").
-use Rattle.std.specs.Prelude.{ℕ, zero, suc, ◌+◌, ◌-◌, ◌==◌, ◌&&◌, Bool, List, [], ◌∷◌, length, map, sum_by, slice_index_or, Option, Some, None, if◌then◌else◌}
+use Rattle.std.specs.Prelude.{ℕ, zero, suc, ◌-◌, List, [], ◌∷◌, length, map, sum_by, slice_index_or, Option, Some, None}
 use Rattle.f11_bytes.specs.Block.{zero_block}
-use Rattle.f11_bytes.specs.Words.{word_sum}
 use Rattle.f11_dev.specs.Image.{Image}
-use Rattle.f11_header.specs.Fields.{file_number, file_sequence, owner, protection, characteristics, attributes, check_word, ident_area, map_area}
-use Rattle.f11_header.specs.Header.{holds_header}
+use Rattle.f11_header.specs.Fields.{owner, protection, characteristics, attributes, ident_area, map_area}
 use Rattle.f11_header.specs.MapFields.{places}
 use Rattle.f11_map.specs.MapArea.{runs_of}
-use Rattle.f11_index.specs.HeaderBlock.{segment_number, link_of}
+use Rattle.f11_index.specs.Headers.{next_of}
 use Rattle.f11_index.specs.Table.{Table, last_sequence}
 use Rattle.f11_chain.specs.FileHeaders.{blocks_by}
 use Rattle.f11_store.specs.File.{File}
-
--- whether header n is live: its slot is in use, and it is valid
-unfoldable pub is_live : Table → ℕ → Bool
-is_live t n =
-    let b = t.header n in
-    t.in_use n && (file_number b == n && (holds_header b && check_word b == word_sum b 255))
-
--- whether header n has a next one: its link names a header that is live too, with the link's sequence number and a segment number one
--- more
-unfoldable pub has_next : Table → ℕ → Bool
-has_next t n =
-    let link = link_of (t.header n) in
-    let b = t.header link.number in
-    is_live t n && (is_live t link.number && (link.sequence == file_sequence b && segment_number b == segment_number (t.header n) + 1))
-
--- the next of header n
-unfoldable pub next_of : Table → ℕ → Option ℕ
-next_of t n = if has_next t n then Some (link_of (t.header n)).number else None
 
 -- this header and those that follow it, each the next of the one before, so many at most
 unfoldable pub following : ℕ → Table → Option ℕ → List ℕ

@@ -5,12 +5,13 @@ use Rattle.std.specs.List.{slice_get}
 use Rattle.f11_dev.specs.Image.{Image}
 use Rattle.f11_rad50.specs.Name.{IsName}
 use Rattle.f11_index.specs.HeaderBlock.{segment_number}
+use Rattle.f11_index.specs.Headers.{IsInFile}
 use Rattle.f11_index.specs.Table.{Table, IsLive, IsDeadSlot, IsFile, last_sequence}
 use Rattle.f11_store.specs.Directory.{is_directory, entries_of, is_empty, record_id, record_name}
 use Rattle.f11_store.specs.File.{File, is_marked}
 use Rattle.f11_store.specs.declared.files.FileId.{FileId}
 use Rattle.f11_vfy.specs.Contents.{file_of}
-use Rattle.f11_vfy.specs.Volume.{Volume, IsNamed, IsInFile}
+use Rattle.f11_vfy.specs.Volume.{Volume, IsNamed}
 
 -- block lbn of the volume is lost: it is neither free nor named
 pub record IsLost (v : Volume) (lbn : ℕ) : Type 0 where

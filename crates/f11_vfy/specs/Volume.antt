@@ -8,7 +8,8 @@ use Rattle.f11_home.specs.Home.{HomeFields}
 use Rattle.f11_header.specs.Fields.{map_area}
 use Rattle.f11_map.specs.MapArea.{runs_of}
 use Rattle.f11_index.specs.HeaderBlock.{link_of, blocks_named}
-use Rattle.f11_index.specs.Table.{Table, table_of, IsLive, IsHeaderOf}
+use Rattle.f11_index.specs.Headers.{IsInFile}
+use Rattle.f11_index.specs.Table.{Table, table_of, IsLive}
 use Rattle.f11_vfy.specs.Space.{storage_bitmap}
 
 pub record Volume : Type 0 where
@@ -52,11 +53,6 @@ pub record IsNamedTwice (t : Table) (lbn : ℕ) : Type 0 where
 pub record HasPointer (t : Table) (n i : ℕ) (run : ℕ × ℕ) : Type 0 where
   pub live : IsLive t n
   pub pointer : slice_get (runs_of (map_area (t.header n))) i ≡ Some run
-
--- header n is one of a file
-pub record IsInFile (t : Table) (n : ℕ) : Type 0 where
-  pub file : ℕ
-  pub of : IsHeaderOf t file n
 
 -- a header of a file has a link (map area)
 pub record IsLinked (t : Table) (n : ℕ) : Type 0 where

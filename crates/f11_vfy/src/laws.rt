@@ -7,8 +7,15 @@ pub fn frames()
     ensures only { laws.FrameFaultIsOnly }
 {}
 
-/// The headers of a file are found by tests.
-pub fn headers()
-    ensures live { laws.LiveIsTested }
-    ensures next { laws.NextIsFound }
+/// A volume has no fault exactly where it is sound, and an image is accepted exactly where its frame is as it should be and
+/// its volume is sound.
+pub fn sound()
+    ensures volume { laws.FaultlessIsSound }
+    ensures image { laws.AcceptedIsSound }
+{}
+
+/// What is read of a volume is what the definitions speak of.
+pub fn readings()
+    ensures directory { laws.DirectoryIsSaid }
+    ensures volume { laws.VolumeIsRead }
 {}

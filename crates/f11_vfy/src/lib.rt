@@ -1,7 +1,46 @@
-//! What is wrong with a Files-11 volume, and what is worth a note: the definitions by which a volume is accepted.
+//! What is wrong with a Files-11 volume, and what is worth a note: the definitions by which a volume is accepted, and how faults and
+//! notes are found.
 //!
-//! Nothing runs here yet but laws about them ([`laws`]). The crate stands on [`f11_index`] and [`f11_chain`], for headers and
-//! files, and on [`f11_bits`], for free blocks.
+//! The frame of a volume is read first ([`frame`]): its home block, its index file, its own files and its storage bitmap's control
+//! block, each judged before the next, so that the first fault is the one found.
+//!
+//! [`Reading`](reading::Reading) reads a volume whose index file and storage bitmap are known: each bitmap block once at most and
+//! each header in use once, in ascending order. What it keeps is some bytes a slot, two bits for each block that a pointer can name
+//! and one for each that is free. From that alone come which headers are those of files, all faults of the volume, and the notes of
+//! its blocks and headers: exactly those of the definitions, on any image whatever.
+//!
+//! The crate stands on [`f11_index`] and [`f11_chain`], for headers and files, on [`f11_bits`], for the storage bitmap, and on
+//! [`f11_findings`], for lists of what is found.
 #![tactic(auto)]
 
+mod accepted;
+mod bitmap_file;
+pub mod bits;
+pub mod chains;
+mod contents;
+mod control;
+mod directories;
+mod earlier;
+mod entries;
+pub mod fault;
+mod flaws;
+mod frame;
+mod framing;
+mod fresh;
+mod later;
 pub mod laws;
+mod own_files;
+mod places;
+mod pointers;
+pub mod reading;
+mod scans;
+pub mod slot;
+pub mod space;
+pub mod survey;
+pub mod tally;
+mod verifier;
+
+pub use accepted::Accepted;
+pub use f11_layout::{InitParams, MOST_BLOCKS};
+pub use fresh::{InitError, init};
+pub use verifier::{Faults, Notes, Report, VfyError, verify};

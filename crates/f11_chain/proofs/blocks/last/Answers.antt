@@ -8,8 +8,8 @@ returns-in_err-first-clause-damaged g c = λ is. break-first _ _ _ _ c.requires.
 pub returns-in_err-first-clause-failed : goal.returns-in_err-first-clause-failed
 returns-in_err-first-clause-failed g c = λ is. failed-first _ _ _ _ c.requires.slot.0 (c.in_err-first.ensures.failed (handed-on _ _ _ c.from_residual.ensures.1 is))
 
-pub loop-init : goal.loop-init
-loop-init g c = record {
+pub loop-earlier-init : goal.loop-earlier-init
+loop-earlier-init g c = record {
   behind = [];
   along = Along-first _ _ _ _ _ c.in_ok-first.ensures.reads;
   few = omega arith;
@@ -17,26 +17,26 @@ loop-init g c = record {
 }
 
 pub overflow_add-blocks : goal.overflow_add-blocks
-overflow_add-blocks g c = omega (arith, c.loop.invariant.few, c.len_blocks-blocks.ensures.few, c.loop-test.true)
+overflow_add-blocks g c = omega (arith, c.loop-earlier.invariant.few, c.len_blocks-blocks.ensures.few, c.loop-earlier-test.true)
 
 pub returns-in_err-m-clause-damaged : goal.returns-in_err-m-clause-damaged
 returns-in_err-m-clause-damaged g c = λ is.
-    break-next _ _ _ _ _ _ _ _ c.loop.invariant.along _ (c.in_err-m.ensures.damaged (handed-on _ _ _ c.from_residual-in_err-m.ensures.1 is))
+    break-next _ _ _ _ _ _ _ _ c.loop-earlier.invariant.along _ (c.in_err-m.ensures.damaged (handed-on _ _ _ c.from_residual-in_err-m.ensures.1 is))
 
 pub returns-in_err-m-clause-failed : goal.returns-in_err-m-clause-failed
 returns-in_err-m-clause-failed g c = λ is.
-    failed-next _ _ _ _ _ _ _ _ c.loop.invariant.along _ (c.in_err-m.ensures.failed (handed-on _ _ _ c.from_residual-in_err-m.ensures.1 is))
+    failed-next _ _ _ _ _ _ _ _ c.loop-earlier.invariant.along _ (c.in_err-m.ensures.failed (handed-on _ _ _ c.from_residual-in_err-m.ensures.1 is))
 
 pub returns-in_default-clause-reads : goal.returns-in_default-clause-reads
-returns-in_default-clause-reads g c = reads-last _ _ _ _ _ _ _ _ c.loop.invariant.along _ _ _ _ c.loop.invariant.blocks_are c.len_blocks-blocks.ensures.count (rw c.in_default.is at c.in_ok-m.ensures.last)
+returns-in_default-clause-reads g c = reads-last _ _ _ _ _ _ _ _ c.loop-earlier.invariant.along _ _ _ _ c.loop-earlier.invariant.blocks_are c.len_blocks-blocks.ensures.count (rw c.in_default.is at c.in_ok-m.ensures.last)
 
-pub loop-preserved : goal.loop-preserved
-loop-preserved g c = record {
-  behind = c.loop.invariant.behind ++ c.loop.number ∷ [];
-  along = Along-next _ _ _ _ _ _ _ _ c.loop.invariant.along _ _ _ (rw c.in-Some.is at c.in_ok-m.ensures.reads);
-  few = omega (arith, c.loop.invariant.few, c.len_blocks-blocks.ensures.few);
-  blocks_are = counted-more _ _ _ _ _ _ _ _ c.loop.invariant.along _ _ c.loop.invariant.blocks_are c.len_blocks-blocks.ensures.count;
+pub loop-earlier-preserved : goal.loop-earlier-preserved
+loop-earlier-preserved g c = record {
+  behind = c.loop-earlier.invariant.behind ++ c.loop-earlier.number ∷ [];
+  along = Along-next _ _ _ _ _ _ _ _ c.loop-earlier.invariant.along _ _ _ (rw c.in-Some.is at c.in_ok-m.ensures.reads);
+  few = omega (arith, c.loop-earlier.invariant.few, c.len_blocks-blocks.ensures.few);
+  blocks_are = counted-more _ _ _ _ _ _ _ _ c.loop-earlier.invariant.along _ _ c.loop-earlier.invariant.blocks_are c.len_blocks-blocks.ensures.count;
 }
 
 pub returns-clause-damaged : goal.returns-clause-damaged
-returns-clause-damaged g c = λ _. let few = c.loop.invariant.along.few in absurd (omega (arith, few, c.loop-test.false))
+returns-clause-damaged g c = λ _. let few = c.loop-earlier.invariant.along.few in absurd (omega (arith, few, c.loop-earlier-test.false))

@@ -6,14 +6,14 @@ use Rattle.f11_chain.proofs.AlongLemmas.{Along}
 use Rattle.f11_chain.proofs.blocks.last.Given as goal
 
 -- the header in hand is the next one of the file, and the blocks of those before it were counted
-abbrev pub invariant-loop : goal.invariant-loop
-invariant-loop g l =
+abbrev pub invariant-loop-earlier : goal.invariant-loop-earlier
+invariant-loop-earlier g l =
     let old = g.D.Device.disk l.fn.device in
     let now = g.D.Device.disk l.device in
     let index = index_kept l.index in
     record {
       behind : List ℕ;
-      along : Along index l.n l.number l.counter behind l.block old now;
-      few : l.blocks ≤ 32512 * l.counter;
+      along : Along index l.n l.number l.earlier behind l.block old now;
+      few : l.blocks ≤ 32512 * l.earlier;
       blocks_are : IsTrue old.honest → l.blocks ≡ length (blocks_by (table index old) behind);
     }

@@ -1,7 +1,7 @@
 use Rattle.std.proofs.Common.{◌≡◌, ◌+◌, Some, length, rules, ap, subst, ◌∙◌, arith, ℕ}
 use Rattle.f11_dev.proofs.LookedLemmas.{looked_none, looked_more, looked_within}
 use Rattle.f11_index.specs.Walk.{Steps}
-use Rattle.f11_index.proofs.FollowLemmas.{Walking, home_facts, steps_in, strays_from, follows_from, walking-first, walking-next, walking-out}
+use Rattle.f11_index.proofs.FollowLemmas.{Walking, home_facts, looks, looks-out, steps_in, strays_from, follows_from, walking-first, walking-next, walking-out}
 use Rattle.f11_index.proofs.walk.follow.Goals as goal
 
 pub overflow_add-due : goal.overflow_add-due
@@ -53,5 +53,16 @@ returns-clause-strays g c = λ _.
     record {
       misplaced = λ honest. walking-out old.image old.honest c.args.home.now c.args.bitmap.now c.loop-segment.due c.loop-segment.blocks
           (subst (λ (n : ℕ). Walking old.image old.honest c.args.home.now c.args.bitmap.now c.loop-segment.due n c.loop-segment.blocks) all loop.walking) (g.met.D.Device.is_image c.args.device.now) honest;
-      looked = looked_within loop.looked (omega arith);
+      looked = looks-out _ _ c.args.home.now c.args.bitmap.now c.loop-segment.due c.loop-segment.blocks
+          (looked_within loop.looked (omega arith)) (subst (λ (n : ℕ). Walking old.image old.honest c.args.home.now c.args.bitmap.now c.loop-segment.due n c.loop-segment.blocks) all loop.walking);
     }
+
+pub returns-in_err-next-clause-failed : goal.returns-in_err-next-clause-failed
+returns-in_err-next-clause-failed g c = λ is.
+    looks _ _ _ c.args.home.now c.args.bitmap.now c.loop-segment.due c.loop-segment.segment c.loop-segment.blocks 1 c.loop-segment.invariant.looked c.loop-segment.invariant.walking c.loop-segment-test.true
+    (c.in_err-next.ensures.failed (search rules))
+
+pub returns-in_err-next-clause-memory : goal.returns-in_err-next-clause-memory
+returns-in_err-next-clause-memory g c = λ is.
+    looks _ _ _ c.args.home.now c.args.bitmap.now c.loop-segment.due c.loop-segment.segment c.loop-segment.blocks 0 c.loop-segment.invariant.looked c.loop-segment.invariant.walking c.loop-segment-test.true
+    (c.in_err-next.ensures.memory (search rules))

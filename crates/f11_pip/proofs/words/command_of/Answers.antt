@@ -28,3 +28,13 @@ returns-in-Some-dump-default-clause-dump c image number met =
       first_value-rows (found_of c.in-Some-dump-default.given.now) (codes "image") ∙ first_of-met _ _ _ _ image c.in-Some-dump-default.ensures.rows met.0,
       first_value-rows (found_of c.in-Some-dump-default.given.now) (codes "number") ∙ first_of-met _ _ _ _ number c.in-Some-dump-default.ensures.rows met.1,
     )
+
+pub returns-in-Some-vfy-default-clause-vfy : goal.returns-in-Some-vfy-default-clause-vfy
+returns-in-Some-vfy-default-clause-vfy c image met =
+    c.vfy_of.ensures.vfy image (first_value-rows (found_of c.in-Some-vfy-default.given.now) (codes "image")
+    ∙ first_of-met _ _ _ _ image c.in-Some-vfy-default.ensures.rows met)
+
+pub returns-in-Some-text-default-2-clause-rt_vfy : goal.returns-in-Some-text-default-2-clause-rt_vfy
+returns-in-Some-text-default-2-clause-rt_vfy c image met =
+    c.rt_vfy_of.ensures.rt_vfy image (first_value-rows (found_of c.in-Some-text-default-2.given.now) (codes "image")
+    ∙ first_of-met _ _ _ _ image c.in-Some-text-default-2.ensures.rows met)

@@ -1,0 +1,13 @@
+pub mod Places
+pub mod Texts
+pub mod Layout
+pub mod FreshHome
+pub mod EmptyFile
+pub mod Files
+pub mod OwnFields
+pub mod NamesBlocks
+pub mod FreshHeader
+pub mod IndexBitmap
+pub mod FreshBitmaps
+pub mod FreshDirectory
+pub mod Fresh

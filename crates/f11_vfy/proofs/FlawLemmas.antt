@@ -1,0 +1,38 @@
+-- Records of a directory that was read, one after another.
+use Rattle.std.proofs.Common.{◌≡◌, ◌↔◌, ◌⊎◌, ◌<◌, ◌≤◌, ◌+◌, inl, inr, ℕ, subst, arith}
+use Rattle.std.proofs.lemmas.Bool.{cases_lt}
+use Rattle.f11_index.specs.Table.{Table}
+use Rattle.f11_vfy.specs.Flaws.{EntersAt, EntersIn}
+use Rattle.f11_vfy.specs.declared.entries.Directory.{Directory}
+
+-- none below one more
+pub none-more : (P : ℕ → Type 0) (j : ℕ) → ((k : ℕ) → k < j → ¬ P k) → ¬ P j → (k : ℕ) → k < j + 1 → ¬ P k
+none-more P j before here k below p = elim (cases_lt k j) [
+  | inl less ↦ before k less p
+  | inr most ↦ let e : k ≡ j = omega (arith, below, most) in here (subst P e p)
+]
+
+pub enters-none : (t : Table) (dir : Directory) (A : Type 0) (n : ℕ) → A ↔ (A ⊎ EntersIn t dir 0 n)
+enters-none t dir A n = (λ a. inl a, λ s. elim s [ inl a ↦ a | inr e ↦ absurd (omega (arith, e.below)) ])
+
+pub enters-more : (t : Table) (dir : Directory) (k n : ℕ) (A B C : Type 0) → B ↔ (A ⊎ EntersIn t dir k n) → C ↔ (B ⊎ EntersAt t dir k n) → C ↔ (A ⊎ EntersIn t dir (k + 1) n)
+enters-more t dir k n A B C before here = (λ c. first (here.0 c), λ s. here.1 (back s))
+  where
+    more : A ⊎ EntersIn t dir k n → A ⊎ EntersIn t dir (k + 1) n
+    more (inl a) = inl a
+    more (inr e) = inr (record { place = e.place; below = omega (arith, e.below); enters = e.enters })
+
+    first : B ⊎ EntersAt t dir k n → A ⊎ EntersIn t dir (k + 1) n
+    first (inl b) = more (before.0 b)
+    first (inr e) = inr (record { place = k; below = omega arith; enters = e })
+
+    which : (e : EntersIn t dir (k + 1) n) → (e.place < k) ⊎ (k ≤ e.place) → B ⊎ EntersAt t dir k n
+    which e (inl less) = inl (before.1 (inr (record { place = e.place; below = less; enters = e.enters })))
+    which e (inr most) = let same : e.place ≡ k = omega (arith, e.below, most) in inr (subst (λ (p : ℕ). EntersAt t dir p n) same e.enters)
+
+    back : A ⊎ EntersIn t dir (k + 1) n → B ⊎ EntersAt t dir k n
+    back (inl a) = inl (before.1 (inl a))
+    back (inr e) = which e (cases_lt e.place k)
+
+pub enters-all : (t : Table) (dir : Directory) (k m n : ℕ) (A B : Type 0) → k ≡ m → B ↔ (A ⊎ EntersIn t dir k n) → B ↔ (A ⊎ EntersIn t dir m n)
+enters-all t dir k m n A B same is = subst (λ (c : ℕ). B ↔ (A ⊎ EntersIn t dir c n)) same is

@@ -1,0 +1,35 @@
+-- Which candidates for the home block are blocks of file 3 (profile).
+use Rattle.std.specs.Prelude.{◌≡◌, ◌⊎◌, ◌↔◌, ℕ, ◌<◌, Bool, true, IsTrue, Contains}
+use Rattle.f11_dev.specs.Disk.{Disk}
+use Rattle.f11_dev.specs.Looked.{Looked}
+use Rattle.f11_home.specs.Home.{candidate}
+use Rattle.f11_index.specs.HeaderBlock.{blocks_named}
+use Rattle.f11_index.specs.IndexFile.{Index}
+use Rattle.f11_index.specs.Table.{Table, table_in, IsHeaderOf}
+use Rattle.f11_vfy.specs.Bits.{has, limit_of}
+use Rattle.f11_vfy.specs.declared.bits.Bits.{Bits}
+
+-- a header of file f names this block
+abbrev pub IsNamedIn : Table → ℕ → ℕ → Type 0
+IsNamedIn t f lbn = (n : ℕ) × IsHeaderOf t f n × Contains (blocks_named (t.header n)) lbn
+
+-- each candidate for the home block before this LBN is a block of file 3
+abbrev pub AreNamedBefore : Table → ℕ → Type 0
+AreNamedBefore t lbn = (k : ℕ) → candidate k < lbn → IsNamedIn t 3 (candidate k)
+
+-- The numbers of which this holds were put into a set, those of them that are below its limit.
+pub record Puts (P : ℕ → Type 0) (old new : Bits) : Type 0 where
+  pub limit : limit_of new ≡ limit_of old
+  pub kept : (k : ℕ) → has old k ≡ true → has new k ≡ true
+  pub all : (k : ℕ) → k < limit_of old → P k → has new k ≡ true
+  pub only : (k : ℕ) → has new k ≡ true → (has old k ≡ true) ⊎ P k
+
+-- The headers of file 3 were read, each once at most, and the numbers of the candidates that they name were put into a set.
+pub record PutsNamed (index : Index) (before after : Bits) (old new : Disk) : Type 0 where
+  pub puts : IsTrue old.honest → Puts (λ k. IsNamedIn (table_in old.image index) 3 (candidate k)) before after
+  pub looked : Looked old new 256 0
+
+-- It was judged whether each candidate before this LBN is a block of file 3.
+pub record JudgesEarlier (index : Index) (lbn : ℕ) (named : Bool) (old new : Disk) : Type 0 where
+  pub right : IsTrue old.honest → IsTrue named ↔ AreNamedBefore (table_in old.image index) lbn
+  pub looked : Looked old new 256 0

@@ -1,0 +1,48 @@
+-- What making a fresh volume does to a disk, by its outcome.
+use Rattle.std.specs.Prelude.{◌≡◌, length}
+use Rattle.f11_dev.specs.Disk.{Disk}
+use Rattle.f11_dev.specs.Went.{Went}
+use Rattle.f11_layout.specs.Layout.{label_of, IsLayoutOf}
+use Rattle.f11_layout.specs.Places.{CanBeMade}
+use Rattle.f11_layout.specs.declared.layout.Layout.{Layout}
+use Rattle.f11_layout.specs.declared.params.InitParams.{InitParams}
+use Rattle.f11_vfy.specs.declared.fresh.InitError.{InitError}
+use Rattle.f11_vfy.specs.declared.fresh.InitError.TheVariants.{BadParameter, DeviceFault}
+use Rattle.f11_vfy.specs.Fresh.{used_by, KeepsBehind, IsFreshVolume}
+
+-- The front of a fresh volume was written: each block of it once, and no other. Meanwhile too, no block behind it changed.
+pub record LaysOut (l : Layout) (old new : Disk) : Type 0 where
+  pub volume : IsFreshVolume l old.image new.image
+  pub went : Went (KeepsBehind l old.image) old new (used_by l) 0
+
+-- A transfer failed.
+abbrev pub FailsToLayOut : Layout → Disk → Disk → Type 0
+FailsToLayOut l old new = Went (KeepsBehind l old.image) old new (used_by l) 1
+
+-- A volume can be made with these on a disk.
+abbrev pub CanInit : InitParams → Disk → Type 0
+CanInit p disk = CanBeMade (label_of p) p.slots p.max_files (length disk.image)
+
+-- A fresh volume was made with these.
+pub record Inits (p : InitParams) (old new : Disk) : Type 0 where
+  pub can : CanInit p old
+  pub layout : Layout
+  pub layout_is : IsLayoutOf p (length old.image) layout
+  pub lays_out : LaysOut layout old new
+
+-- None can be made with these, and nothing was done.
+pub record RefusesToInit (p : InitParams) (old new : Disk) : Type 0 where
+  pub cannot : ¬ CanInit p old
+  pub stays : new ≡ old
+
+-- One could be made, and a transfer failed.
+pub record FailsToInit (p : InitParams) (old new : Disk) : Type 0 where
+  pub can : CanInit p old
+  pub layout : Layout
+  pub layout_is : IsLayoutOf p (length old.image) layout
+  pub went : FailsToLayOut layout old new
+
+-- why no volume was made, and what was done to the device that comes back
+abbrev pub HasFailed : {D : Type 0} → InitParams → Disk → (D → Disk) → InitError D → Type 0
+HasFailed p old disk (BadParameter device) = RefusesToInit p old (disk device)
+HasFailed p old disk (DeviceFault device) = FailsToInit p old (disk device)

@@ -1,0 +1,68 @@
+-- What the verifier says of a disk, by its outcome.
+use Rattle.std.specs.Prelude.{◌≢◌, ℕ, ◌+◌, ◌≤◌, IsTrue, List, []}
+use Rattle.f11_bits.specs.Bitmap.{Bitmap}
+use Rattle.f11_dev.specs.Disk.{Disk}
+use Rattle.f11_dev.specs.declared.device.Device.{Ghosts}
+use Rattle.f11_dev.specs.Image.{Image}
+use Rattle.f11_dev.specs.Looked.{Looked}
+use Rattle.f11_findings.specs.Finding.{IsExactly}
+use Rattle.f11_findings.specs.declared.finding.Finding.{Finding}
+use Rattle.f11_home.specs.Home.{HomeFields}
+use Rattle.f11_index.specs.IndexFile.{Index, index_of}
+use Rattle.f11_index.specs.Table.{table_in, table_of}
+use Rattle.f11_vfy.specs.Accepted.{device_of}
+use Rattle.f11_vfy.specs.DirectoryNotes.{directory_reads}
+use Rattle.f11_vfy.specs.Faults.{IsFramed, IsFrameFault, IsVolumeFault}
+use Rattle.f11_vfy.specs.Framing.{frame_reads}
+use Rattle.f11_vfy.specs.Reading.{most_read, volume_in}
+use Rattle.f11_vfy.specs.Notes.{IsVolumeNote}
+use Rattle.f11_vfy.specs.Space.{storage_bitmap}
+use Rattle.f11_vfy.specs.Verdict.{IsFault, IsNote}
+use Rattle.f11_vfy.specs.declared.verifier.Report.{Report}
+use Rattle.f11_vfy.specs.declared.verifier.Report.TheVariants.{Accepted, Faulty}
+use Rattle.f11_vfy.specs.declared.verifier.VfyError.{VfyError}
+use Rattle.f11_vfy.specs.declared.verifier.VfyError.TheVariants.{DeviceFault, NoMemory}
+
+-- Two lists are exactly an image's faults and its notes, in order and each once.
+pub record Verifies (image : Image) (faults notes : List Finding) : Type 0 where
+  pub faults_are : IsExactly (IsFault image) faults
+  pub notes_are : IsExactly (IsNote image) notes
+
+-- how many blocks are read of a volume whose frame is as it should be: those of the storage bitmap and the headers in use, once each, and
+-- those of the directories
+abbrev pub volume_reads : Image → HomeFields → ℕ
+volume_reads image home = most_read (index_of image home) (storage_bitmap image home) + directory_reads image (table_of image home)
+
+-- A volume was looked over, whose index file and storage bitmap are these: no more was read than they and its directories.
+pub record LooksOverVolume (index : Index) (bitmap : Bitmap) (old new : Disk) (faults : ℕ) : Type 0 where
+  pub reads : ℕ
+  pub looked : Looked old new reads faults
+  pub few : IsTrue old.honest → reads ≤ most_read index bitmap + directory_reads old.image (table_in old.image index)
+
+-- These are the volume's faults and notes, where the disk is honest.
+pub record ExaminesVolume (index : Index) (bitmap : Bitmap) (faults notes : List Finding) (old new : Disk) : Type 0 where
+  pub faults_are : IsTrue old.honest → IsExactly (IsVolumeFault (volume_in old.image index bitmap)) faults
+  pub notes_are : IsTrue old.honest → IsExactly (IsVolumeNote old.image (volume_in old.image index bitmap)) notes
+  pub looked : LooksOverVolume index bitmap old new 0
+
+-- An image was looked over. Of one with a fault of its frame no more was read than the frame, of any other no more than that and its volume.
+pub record LooksOver (old new : Disk) (faults : ℕ) : Type 0 where
+  pub reads : ℕ
+  pub looked : Looked old new reads faults
+  pub of_frame : IsTrue old.honest → (code a : ℕ) → IsFrameFault old.image code a → reads ≤ frame_reads old
+  pub of_volume : IsTrue old.honest → (home : HomeFields) → IsFramed old.image home → reads ≤ frame_reads old + volume_reads old.image home
+
+-- These are its faults and its notes, where the disk is honest.
+pub record Examines (faults notes : List Finding) (old new : Disk) : Type 0 where
+  pub verifies : IsTrue old.honest → Verifies old.image faults notes
+  pub looked : LooksOver old new 0
+
+-- A report: the image has no fault, and these notes; or these faults, one at least, and these notes. The device comes back.
+abbrev pub IsReport : {D : Type 0} {G : Ghosts D} → (D → Disk) → Disk → Report D G → Type 0
+IsReport disk old (Accepted accepted notes) = Examines [] notes old (disk (device_of accepted))
+IsReport disk old (Faulty device faults notes) = Examines faults notes old (disk device) × (faults ≢ [])
+
+-- There is none: a transfer failed, or there was no memory. The device comes back.
+abbrev pub HasNoReport : {D : Type 0} → (D → Disk) → Disk → VfyError D → Type 0
+HasNoReport disk old (DeviceFault device) = LooksOver old (disk device) 1
+HasNoReport disk old (NoMemory device) = LooksOver old (disk device) 0

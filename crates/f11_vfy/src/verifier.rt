@@ -1,0 +1,122 @@
+//! The verifier: all faults and all notes of an image.
+ghost use Rattle.std.specs.Prelude.{◌≡◌, ◌∷◌, [], length, IfOk, IfErr, IsErrOf};
+ghost use Rattle.f11_findings.specs.Finding.{finding, Adds};
+ghost use Rattle.f11_vfy.specs.Frame.{frame_index, frame_bitmap};
+ghost use Rattle.f11_vfy.specs.Framing.{LieOn};
+ghost use Rattle.f11_vfy.specs.Verify.{Examines, ExaminesVolume, LooksOver, LooksOverVolume, IsReport, HasNoReport};
+
+use crate::accepted::Accepted;
+use crate::fault::ReadFault;
+use crate::frame::read_frame;
+use crate::framing::{Frame, Framing};
+use crate::reading::Reading;
+use f11_bytes::NoMemory;
+use f11_dev::Device;
+use f11_findings::{Finding, Findings};
+use std::alloc::Global;
+
+/// The faults of an image, in the order of their codes and numbers.
+pub type Faults = Findings;
+
+/// The notes of an image, in the order of their codes and numbers.
+pub type Notes = Findings;
+
+/// What the verifier finds. The device comes back.
+#[derive(Drop)]
+pub enum Report<D: Device> {
+    /// The image has no fault, and these notes.
+    Accepted(Accepted<D>, Notes),
+    /// It has these faults, and these notes.
+    Faulty(D, Faults, Notes),
+}
+
+/// Why an image could not be verified. The device comes back.
+#[derive(Drop)]
+pub enum VfyError<D: Device> {
+    /// A transfer failed.
+    DeviceFault(D),
+    /// There was no memory.
+    NoMemory(D),
+}
+
+/// Verifies the image of a device: all its faults and notes (profile), each list in the order of codes and numbers. Where its home
+/// block, its index file, the first files, the storage bitmap file, the control block or the bits past the slots aren't as they should
+/// be, that is the only fault and there are no notes.
+///
+/// It writes nothing. It reads each candidate for the home block up to the one found; each block of the index bitmap, each header in use
+/// and each block of the storage bitmap once, and the headers of files 1 to 4 once more; then the headers and the blocks of each
+/// directory, up to its end: its first header twice, each other header and each block once. It takes two bits for each block that a
+/// retrieval pointer can name (4 MiB in all), a bit for each block of the volume, some 20 bytes a slot, and the blocks of one directory at
+/// a time, up to its end, with four bytes for each block that its headers name. The name of each of a directory's records is compared
+/// with those before it.
+///
+/// # Errors
+///
+/// `DeviceFault` where a transfer failed, and `NoMemory` where there was no memory.
+pub fn verify<D: Device>(alloc: Global, device: D) -> Result<Report<D>, VfyError<D>>
+    ensures report { IfOk result (λ report. IsReport D.disk (D.disk device) report) }
+    ensures failed { IfErr result (λ error. HasNoReport D.disk (D.disk device) error) }
+{
+    let mut device = device;
+    match examine(alloc, &mut device) {
+        Ok((faults, notes)) => {
+            if faults.is_empty() {
+                Ok(Report::Accepted(Accepted::again(device), notes))
+            } else {
+                Ok(Report::Faulty(device, faults, notes))
+            }
+        }
+        Err(ReadFault::DeviceFault) => Err(VfyError::DeviceFault(device)),
+        Err(ReadFault::NoMemory) => Err(VfyError::NoMemory(device)),
+    }
+}
+
+/// The faults and the notes of an image.
+fn examine<D: Device>(alloc: Global, device: &mut D) -> Result<(Faults, Notes), ReadFault>
+    ensures examines { IfOk result (λ found.
+        Examines found.0 found.1 (D.disk device.old) (D.disk device.new)) }
+    ensures failed { IsErrOf result ReadFault.DeviceFault
+        → LooksOver (D.disk device.old) (D.disk device.new) 1 }
+    ensures no_memory { IsErrOf result ReadFault.NoMemory
+        → LooksOver (D.disk device.old) (D.disk device.new) 0 }
+{
+    match read_frame(alloc, device)? {
+        Framing::Framed(frame) => examine_volume(alloc, device, &frame),
+        Framing::Faulty { code, a } => Ok((one_fault(alloc, code, a)?, Findings::new(alloc))),
+    }
+}
+
+/// The faults and the notes of a volume whose frame is as it should be.
+fn examine_volume<D: Device>(
+    alloc: Global,
+    device: &mut D,
+    frame: &Frame,
+) -> Result<(Faults, Notes), ReadFault>
+    requires { LieOn (frame_index frame.now) (frame_bitmap frame.now)
+        (length (D.disk device.old).image) }
+    ensures examines { IfOk result (λ found.
+        ExaminesVolume (frame_index frame.now) (frame_bitmap frame.now) found.0 found.1
+        (D.disk device.old) (D.disk device.new)) }
+    ensures failed { IsErrOf result ReadFault.DeviceFault
+        → LooksOverVolume (frame_index frame.now) (frame_bitmap frame.now)
+        (D.disk device.old) (D.disk device.new) 1 }
+    ensures no_memory { IsErrOf result ReadFault.NoMemory
+        → LooksOverVolume (frame_index frame.now) (frame_bitmap frame.now)
+        (D.disk device.old) (D.disk device.new) 0 }
+{
+    let index = &frame.index;
+    let reading = Reading::read(alloc, device, index, frame.places(), frame.size)?;
+    let faults = reading.faults(alloc)?;
+    let mut notes = reading.notes(alloc)?;
+    reading.add_directory_notes(alloc, device, index, &mut notes)?;
+    Ok((faults, notes))
+}
+
+/// A list of one fault.
+fn one_fault(alloc: Global, code: u8, a: u32) -> Result<Faults, NoMemory>
+    ensures { IfOk result (λ faults. Adds [] faults (finding code a 0 ∷ [])) }
+{
+    let mut faults = Findings::new(alloc);
+    faults.add(Finding { code, a, b: 0 })?;
+    Ok(faults)
+}

@@ -1,0 +1,11 @@
+pub mod WordLemmas
+pub mod EntryLemmas
+pub mod VisitLemmas
+pub mod NameLemmas
+pub mod JudgingLemmas
+pub mod PlaceLemmas
+pub mod FaultLemmas
+pub mod NoteLemmas
+pub mod VerdictLemmas
+pub mod FreshLemmas
+pub mod TextLemmas

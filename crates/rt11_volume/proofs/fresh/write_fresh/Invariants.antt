@@ -1,0 +1,14 @@
+use Rattle.std.proofs.Common.{◌-◌}
+use Rattle.f11_dev.specs.Went.{Went}
+use Rattle.rt11_volume.specs.Fresh.{IsFreshUpTo, KeepsData}
+use Rattle.rt11_volume.proofs.fresh.write_fresh.Given as goal
+
+-- the directory's blocks so far
+abbrev pub invariant-loop-lbn : goal.invariant-loop-lbn
+invariant-loop-lbn g l =
+    let old = g.D.Device.disk l.fn.device in
+    let now = g.D.Device.disk l.device in
+    record {
+      fresh : IsFreshUpTo l.fn.segments l.lbn old.image now.image;
+      went : Went (KeepsData l.fn.segments old.image) old now (l.lbn - 6) 0;
+    }

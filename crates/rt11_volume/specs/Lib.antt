@@ -1,0 +1,14 @@
+pub mod Entry
+pub mod Segment
+pub mod Directory
+pub mod InHand
+pub mod RtName
+pub mod Judging
+pub mod Faults
+pub mod Notes
+pub mod Verdict
+pub mod Store
+pub mod Search
+pub mod Operations
+pub mod Calls
+pub mod Fresh

@@ -1,0 +1,28 @@
+//! A volume that was accepted.
+ghost use Rattle.std.specs.Prelude.{◌≡◌, false, IsTrue};
+ghost use Rattle.rt11_volume.specs.Verdict.{IsRtAccepted};
+
+use f11_dev::Device;
+
+/// An RT-11 volume without faults, and its device.
+///
+/// After a call has answered `DeviceFault` each later one answers `Failed`, until the device is verified again.
+#[derive(Drop)]
+pub struct RtAccepted<D: Device> {
+    pub(crate) device: D,
+    /// Whether a call has answered `DeviceFault`.
+    pub(crate) failed: bool,
+    /// The image has no fault where the device is honest and no call has failed.
+    pub ghost sound: { IsTrue (D.disk device).honest → failed ≡ false → IsRtAccepted (D.disk device).image },
+}
+
+impl<D: Device> RtAccepted<D> {
+    ghost use Rattle.rt11_volume.specs.Calls.{volume_device};
+
+    /// Gives the device up, as it is. No transfer is made.
+    pub fn device(self) -> D
+        ensures { result ≡ volume_device self }
+    {
+        self.device
+    }
+}
