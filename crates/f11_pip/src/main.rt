@@ -12,8 +12,8 @@ mod outcome;
 mod words;
 
 use f11_commands::{
-    Answer, print_header, print_home, print_init, print_name, print_rights,
-    print_rt_init, print_rt_vfy, print_vfy, refuse_init,
+    Answer, print_header, print_home, print_init, print_name, print_rights, print_rt_init,
+    print_rt_vfy, print_vfy, refuse_init,
 };
 use f11_dev::FileImage;
 use f11_store::Uic;
