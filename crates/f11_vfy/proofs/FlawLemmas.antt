@@ -5,13 +5,6 @@ use Rattle.f11_index.specs.Table.{Table}
 use Rattle.f11_vfy.specs.Flaws.{EntersAt, EntersIn}
 use Rattle.f11_vfy.specs.declared.entries.Directory.{Directory}
 
--- none below one more
-pub none-more : (P : ℕ → Type 0) (j : ℕ) → ((k : ℕ) → k < j → ¬ P k) → ¬ P j → (k : ℕ) → k < j + 1 → ¬ P k
-none-more P j before here k below p = elim (cases_lt k j) [
-  | inl less ↦ before k less p
-  | inr most ↦ let e : k ≡ j = omega (arith, below, most) in here (subst P e p)
-]
-
 pub enters-none : (t : Table) (dir : Directory) (A : Type 0) (n : ℕ) → A ↔ (A ⊎ EntersIn t dir 0 n)
 enters-none t dir A n = (λ a. inl a, λ s. elim s [ inl a ↦ a | inr e ↦ absurd (omega (arith, e.below)) ])
 

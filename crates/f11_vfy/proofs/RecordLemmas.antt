@@ -64,7 +64,7 @@ module _ (image : Image) (v : Volume) (d : ℕ) (dir : Directory) (directory : I
   flaw-noted NoFile i below has = names_no_file d i (entry dir i) (record-here i below has.0) (λ n id. has.1 (subst (λ (m : ℕ). IsIdOf v.table (record_id (entry dir i)) m) (sym id.number) id))
   flaw-noted Repeated i below has =
       name_repeated d i (entry dir i) (record-here i below has.0)
-      (record { place = has.1.place; earlier = has.1.earlier; other = entry dir has.1.place; entry = record-here has.1.place (omega (arith, below, has.1.earlier)) has.1.not_empty; name = has.1.name })
+      (record { place = has.1.place; earlier = has.1.earlier; other = entry dir has.1.place; entry = record-here has.1.place (omega (arith, below, has.1.earlier)) has.1.not_empty; name = has.1.same })
   flaw-noted NoName i below has = no_name d i (entry dir i) (record-here i below has.0) has.1
 
   some-entry : (i : ℕ) (bytes : List ℕ) → IsRecord image v.table d i bytes → is_empty (entry dir i) ≡ false
@@ -80,7 +80,7 @@ module _ (image : Image) (v : Volume) (d : ℕ) (dir : Directory) (directory : I
       place = again.place;
       earlier = again.earlier;
       not_empty = some-entry again.place again.other again.entry;
-      name = ap record_name (sym (record-is again.place again.other again.entry)) ∙ again.name ∙ ap record_name (record-is i bytes r);
+      same = ap record_name (sym (record-is again.place again.other again.entry)) ∙ again.name ∙ ap record_name (record-is i bytes r);
     },
   )
 

@@ -92,7 +92,7 @@ impl Reading {
             return Ok(());
         }
         let dir = read_directory(alloc, device, index, &self.chains.nexts, d)?;
-        later.take(&self.survey.slots, d, &dir)?;
+        later.take(alloc, &self.survey.slots, d, &dir)?;
         Ok(())
     }
 

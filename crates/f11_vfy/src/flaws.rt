@@ -7,7 +7,7 @@ ghost use Rattle.f11_store.specs.Directory.{is_empty, record_name};
 ghost use Rattle.f11_vfy.specs.Bits.{has, limit_of};
 ghost use Rattle.f11_vfy.specs.Chain.{KeepsTable};
 ghost use Rattle.f11_vfy.specs.Entries.{entry};
-ghost use Rattle.f11_vfy.specs.Flaws.{EntersAt, EntersIn, HasFlaw, RepeatsIn, flaw_code};
+ghost use Rattle.f11_vfy.specs.Flaws.{EntersAt, EntersIn, HasFlaw, MarksRepeats, flaw_code};
 ghost use Rattle.f11_vfy.specs.Found.{Finds, FoundAmong};
 ghost use Rattle.f11_vfy.specs.Notes.{IsIdOf};
 
@@ -42,9 +42,10 @@ impl Flaw {
         }
     }
 
-    /// Whether record `i` has it.
-    fn holds(self, slots: &[Slot], dir: &Directory, i: usize) -> bool
-        requires { i < dir.now.count }
+    /// Whether record `i` has it, where the records that repeat a name are marked.
+    fn holds(self, slots: &[Slot], dir: &Directory, repeats: &Bits, i: usize) -> bool
+        requires record { i < dir.now.count }
+        requires marks { MarksRepeats dir.now repeats.now }
         ensures { (t : Table) → KeepsTable t slots.now → IsTrue result ↔ HasFlaw self t dir.now i }
     {
         if dir.is_empty(i) {
@@ -52,7 +53,7 @@ impl Flaw {
         }
         match self {
             Flaw::NoFile => !names_file(slots, dir.id(i)),
-            Flaw::Repeated => is_repeated(dir, i),
+            Flaw::Repeated => repeats.contains(i as u32),
             Flaw::NoName => !is_name(dir.name(i)),
         }
     }
@@ -88,30 +89,7 @@ fn is_name(words: [u16; 5]) -> bool
     Name::from_words(words).is_some()
 }
 
-/// Whether record `j` isn't empty and has the name of record `i`.
-fn has_name_of(dir: &Directory, j: usize, i: usize) -> bool
-    requires one { j < dir.now.count }
-    requires other { i < dir.now.count }
-    ensures { IsTrue result ↔ ((is_empty (entry dir.now j) ≡ false)
-        × (record_name (entry dir.now j) ≡ record_name (entry dir.now i))) }
-{
-    !dir.is_empty(j) && dir.name(j) == dir.name(i)
-}
-
-/// Whether an earlier record that isn't empty has the name of record `i`.
-fn is_repeated(dir: &Directory, i: usize) -> bool
-    requires { i < dir.now.count }
-    ensures { IsTrue result ↔ RepeatsIn dir.now i }
-{
-    for j in 0..i {
-        if has_name_of(dir, j, i) {
-            return true;
-        }
-    }
-    false
-}
-
-/// Adds the records of directory `d` that have a flaw.
+/// Adds the records of directory `d` that have a flaw, where those that repeat a name are marked.
 ///
 /// # Errors
 ///
@@ -122,13 +100,15 @@ pub(crate) fn add_flaws(
     slots: &[Slot],
     d: u16,
     dir: &Directory,
+    repeats: &Bits,
 ) -> Result<(), NoMemory>
+    requires { MarksRepeats dir.now repeats.now }
     ensures { (t : Table) → KeepsTable t slots.now → OnOk result (Finds (FoundAmong
         (λ i. HasFlaw flaw t dir.now i) (λ i. finding (flaw_code flaw) d i) dir.now.count)
         found.old found.new) }
 {
     for i in 0..dir.count {
-        let holds = flaw.holds(slots, dir, i);
+        let holds = flaw.holds(slots, dir, repeats, i);
         let finding = Finding {
             code: flaw.code(),
             a: u32::from(d),

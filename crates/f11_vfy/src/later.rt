@@ -4,6 +4,7 @@ ghost use Rattle.std.specs.Prelude.{◌≡◌, ◌+◌, ◌<◌, length, IfOk, O
 use crate::bits::Bits;
 use crate::entries::Directory;
 use crate::flaws::{Flaw, add_flaws, enter_all};
+use crate::repeats::find_repeats;
 use crate::slot::Slot;
 use f11_bytes::NoMemory;
 use f11_findings::Findings;
@@ -46,16 +47,23 @@ impl Later {
     ///
     /// # Errors
     ///
-    /// `NoMemory` where there is no memory for a finding.
-    pub(crate) fn take(&mut self, slots: &[Slot], d: u16, dir: &Directory) -> Result<(), NoMemory>
+    /// `NoMemory` where there is no memory for its names or for a finding.
+    pub(crate) fn take(
+        &mut self,
+        alloc: Global,
+        slots: &[Slot],
+        d: u16,
+        dir: &Directory,
+    ) -> Result<(), NoMemory>
         requires { limit_of self.old.entered ≡ length slots.now + 1 }
         ensures limit { OnOk result (limit_of self.new.entered ≡ limit_of self.old.entered) }
         ensures takes { (t : Table) → KeepsTable t slots.now
             → OnOk result (TakesDirectory t d dir.now self.old self.new) }
     {
-        add_flaws(&mut self.no_file, Flaw::NoFile, slots, d, dir)?;
-        add_flaws(&mut self.repeated, Flaw::Repeated, slots, d, dir)?;
-        add_flaws(&mut self.no_name, Flaw::NoName, slots, d, dir)?;
+        let repeats = find_repeats(alloc, dir)?;
+        add_flaws(&mut self.no_file, Flaw::NoFile, slots, d, dir, &repeats)?;
+        add_flaws(&mut self.repeated, Flaw::Repeated, slots, d, dir, &repeats)?;
+        add_flaws(&mut self.no_name, Flaw::NoName, slots, d, dir, &repeats)?;
         enter_all(slots, dir, &mut self.entered);
         Ok(())
     }

@@ -33,6 +33,7 @@ mod own_files;
 mod places;
 mod pointers;
 pub mod reading;
+mod repeats;
 mod scans;
 pub mod slot;
 pub mod space;
