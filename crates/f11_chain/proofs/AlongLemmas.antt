@@ -113,7 +113,7 @@ module _ (index : Index) (n m k : ℕ) (behind : List ℕ) (block : List ℕ) (o
   block-is honest = along.header.block_is honest
 
   -- the headers read so far
-  pub along-looked : LooksAlong index n old now 0
+  abbrev pub along-looked : LooksAlong index n old now 0
   along-looked = record {
     headers = k + 1;
     few = omega (arith, along.few);
@@ -248,6 +248,7 @@ module _ (index : Index) (n m k : ℕ) (behind : List ℕ) (block : List ℕ) (o
     block_is = block-located vbn left lbn behind-is is;
     within = rw (ap (λ (i : Image). length i) along.looked.image) at within;
     looked = along-looked;
+    no_further = λ honest. let segment = (along.reached honest).segment in omega (arith, segment);
   }
 
   -- but it isn't on the device

@@ -82,7 +82,7 @@ pub record LooksAlong (index : Index) (n : ℕ) (old new : Disk) (faults : ℕ) 
   pub each_once : IsTrue old.honest → headers ≤ length (headers_of (table index old) n)
   pub looked : Looked old new headers faults
 
--- Block `vbn` of file n was found, which a header of the file names.
+-- Block `vbn` of file n was found, which a header of the file names: that header was read, and those before it.
 pub record Locates (index : Index) (n vbn lbn : ℕ) (old new : Disk) : Type 0 where
   pub header : ℕ
   pub of_file : IsTrue old.honest → IsHeaderOf (table index old) n header
@@ -90,6 +90,7 @@ pub record Locates (index : Index) (n vbn lbn : ℕ) (old new : Disk) : Type 0 w
   pub block_is : IsTrue old.honest → block_by_vbn (table index old) n vbn ≡ Some lbn
   pub within : lbn < length old.image
   pub looked : LooksAlong index n old new 0
+  pub no_further : IsTrue old.honest → looked.headers ≤ segment_number ((table index old).header header) + 1
 
 -- File n is whole and has fewer blocks.
 pub record FindsEnd (index : Index) (n vbn : ℕ) (old new : Disk) : Type 0 where
