@@ -25,6 +25,7 @@ pub mod ReadingLemmas
 pub mod PlaceLemmas
 pub mod ContentsLemmas
 pub mod FlawLemmas
+pub mod CommonLemmas
 pub mod RepeatLemmas
 pub mod RecordLemmas
 pub mod LaterLemmas

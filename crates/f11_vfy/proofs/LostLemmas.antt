@@ -1,15 +1,19 @@
 -- Runs of lost blocks, by a test.
-use Rattle.std.proofs.Common.{◌≡◌, ◌≤◌, ◌<◌, ◌+◌, ◌-◌, ◌⊎◌, ◌↔◌, ◌&&◌, inl, inr, ℕ, zero, suc, refl, ap, sym, ◌∙◌, arith, Bool, true, false, cond, not, ltb}
+use Rattle.std.proofs.Common.{◌≡◌, ◌≤◌, ◌<◌, ◌+◌, ◌-◌, ◌*◌, ◌⊎◌, ◌↔◌, ◌&&◌, ◌||◌, inl, inr, ℕ, zero, suc, refl, ap, sym, subst, ◌∙◌, arith, Bool, true, false, cond, not, ltb, List}
 use Rattle.std.proofs.lemmas.Bool.{cases_lt, and_parts, and_from, not-true, not_from_false, false_from_ne_true, ltb-true, lt-ltb, leb-true, le-leb, both_ways}
+use Rattle.f11_findings.specs.Finding.{finding}
+use Rattle.f11_findings.specs.declared.finding.Finding.{Finding}
 use Rattle.f11_vfy.specs.Bits.{has, limit_of}
+use Rattle.f11_vfy.specs.Found.{Finds, FoundAmong}
 use Rattle.f11_vfy.specs.Chain.{IsFit}
 use Rattle.f11_vfy.specs.Count.{Shows, times_named}
 use Rattle.f11_vfy.specs.Notes.{IsLost, IsLostRun}
 use Rattle.f11_vfy.specs.Reading.{ShowsFree}
-use Rattle.f11_vfy.specs.Scans.{is_lost, start_of}
+use Rattle.f11_vfy.specs.Scans.{is_lost, ends_lost, start_of}
 use Rattle.f11_vfy.specs.Volume.{Volume}
 use Rattle.f11_vfy.specs.declared.bits.Bits.{Bits}
 use Rattle.f11_vfy.specs.declared.tally.Tally.{Tally}
+use Rattle.f11_vfy.proofs.FoundLemmas.{finds-none, start-moves}
 use Rattle.f11_vfy.proofs.CellLemmas.{named-some, some-named}
 
 -- what the test means
@@ -31,6 +35,28 @@ lost-means v t free fit shows space k = (λ e. there (and_parts _ _ e), back)
     back lost = and_from _ _ (lt-ltb k (limit_of free) (omega (arith, lost.inside, space.limit))) (and_from _ _
         (not_from_false _ (false_from_ne_true _ (λ is. lost.unnamed (named-some v.table fit k (leb-true 1 _ (sym (shows.once k) ∙ is))))))
         (not_from_false _ (space.each k ∙ lost.used)))
+
+-- a block that is free or named isn't lost
+pub known-not_lost : (named free : Bits) (k : ℕ) → (has named k || has free k) ≡ true → is_lost named free k ≡ false
+unfolding is_lost
+known-not_lost named free k some = go (has named k) (has free k) some (ltb k (limit_of free))
+  where
+    go : (a b : Bool) → (a || b) ≡ true → (c : Bool) → (c && (not a && not b)) ≡ false
+    go a b is false = refl
+    go true b is true = refl
+    go false true is true = refl
+    go false false is true = sym is
+
+-- none of the blocks from one on is lost, so no run ends there
+pub no-runs : (named free : Bits) (i end : ℕ) (old : List Finding) → ((k : ℕ) → 64 * i ≤ k → k < end → is_lost named free k ≡ false)
+    → Finds (FoundAmong (λ k. (64 * i ≤ k) × (ends_lost named free k ≡ true)) (λ k. finding 1 (start_of (is_lost named free) k) k) end) old old
+no-runs named free i end old none = finds-none _ old (λ code a b f. both_ways (is_lost named free f.number) (none f.number f.holds.0 f.below) (and_parts _ _ f.holds.1).0)
+
+-- behind a block that isn't lost a run may begin
+pub starts-behind : (lost : ℕ → Bool) (end : ℕ) → 0 < end → lost (end - 1) ≡ false → end ≡ start_of lost end
+starts-behind lost end some none =
+    let is : end - 1 + 1 ≡ end = omega (arith, some) in
+    subst (λ (n : ℕ). n ≡ start_of lost n) is (start-moves lost (end - 1) none)
 
 module _ (v : Volume) (lost : ℕ → Bool) (means : (k : ℕ) → lost k ≡ true ↔ IsLost v k) where
   -- a run begins at or before the number

@@ -212,3 +212,12 @@ pub zero-word : (word i k : ℕ) {held : Bool} → k < 64 * (i + 1) → 64 * i �
 zero-word word i k {held} below from none bit is =
     let zero : eqb (bit_at word (k % 64)) 1 ≡ false = ap (λ w. eqb (bit_at w (k % 64)) 1) none ∙ ap (λ b. eqb b 1) (bit_at-zero (k % 64)) in
     both_ways held (bit (omega arith) ∙ zero) is
+
+-- of two words that have all bits together, one has the number
+pub full-words : (x y i k : ℕ) {one other : Bool} → k < 64 * (i + 1) → 64 * i ≤ k → bit_or x y ≡ 2 ^ 64 - 2 ^ 0 → (k / 64 ≡ i → one ≡ eqb (bit_at x (k % 64)) 1)
+    → (k / 64 ≡ i → other ≡ eqb (bit_at y (k % 64)) 1) → (one || other) ≡ true
+full-words x y i k {one} {other} below from all of_one of_other =
+    let here : k / 64 ≡ i = omega (arith, below, from) in
+    ap (λ b. b || other) (of_one here) ∙ ap (λ b. eqb (bit_at x (k % 64)) 1 || b) (of_other here)
+    ∙ sym (or-bit (bit_at x (k % 64)) (bit_at y (k % 64)) (bit_at-lt x (k % 64)) (bit_at-lt y (k % 64)))
+    ∙ ap (λ n. eqb n 1) (sym (bit_at_or x y (k % 64)) ∙ ap (λ w. bit_at w (k % 64)) all ∙ bit_at_mask_inside 0 64 (k % 64) (omega arith) (omega arith))

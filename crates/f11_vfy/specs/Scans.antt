@@ -1,7 +1,10 @@
 -- What each scan over slots or blocks finds, by what is kept of them.
-use Rattle.std.specs.Prelude.{◌≡◌, ◌≢◌, ◌<◌, ◌≤◌, ◌+◌, ◌&&◌, ℕ, zero, suc, Bool, true, false, not, nat_lt, if◌then◌else◌}
+use Rattle.std.specs.Prelude.{◌≡◌, ◌≢◌, ◌<◌, ◌≤◌, ◌+◌, ◌*◌, ◌&&◌, ℕ, List, min, zero, suc, Bool, true, false, not, nat_lt, if◌then◌else◌}
 use Rattle.std.specs.Int.{bit_at}
+use Rattle.f11_findings.specs.Finding.{finding}
+use Rattle.f11_findings.specs.declared.finding.Finding.{Finding}
 use Rattle.f11_vfy.specs.Bits.{has, limit_of}
+use Rattle.f11_vfy.specs.Found.{Finds, FoundAmong}
 use Rattle.f11_vfy.specs.declared.bits.Bits.{Bits}
 use Rattle.f11_vfy.specs.declared.scans.Kind.{Kind}
 use Rattle.f11_vfy.specs.declared.scans.Kind.TheVariants.{BadHeader, WrongLink, LinkPastLast, LinkToVolume, DeadHeader, Orphan, Marked, NotClosed}
@@ -50,3 +53,8 @@ ends_lost named free k = is_lost named free k && not (is_lost named free (k + 1)
 unfoldable pub start_of : (ℕ → Bool) → ℕ → ℕ
 start_of test zero = 0
 start_of test (suc k) = if test k then start_of test k else suc k
+
+-- The runs of lost blocks that end in word i were found, and one that goes on behind it begins there.
+pub record FindsLost (named free : Bits) (i next : ℕ) (old new : List Finding) : Type 0 where
+  pub next_is : next ≡ start_of (is_lost named free) (min (64 * (i + 1)) (limit_of free))
+  pub found : Finds (FoundAmong (λ k. (64 * i ≤ k) × (ends_lost named free k ≡ true)) (λ k. finding 1 (start_of (is_lost named free) k) k) (min (64 * (i + 1)) (limit_of free))) old new

@@ -15,7 +15,7 @@ pub struct Bits {
 }
 
 impl Bits {
-    ghost use Rattle.f11_vfy.specs.Bits.{has, limit_of, in_word};
+    ghost use Rattle.f11_vfy.specs.Bits.{has, limit_of, in_word, IsCommon};
 
     /// The empty set of numbers below the limit, which takes an eighth of so many bytes.
     ///
@@ -71,5 +71,21 @@ impl Bits {
     {
         let i = i as usize;
         self.words[i] = self.words[i] | mask;
+    }
+
+    /// The numbers that are in both sets, of which the other has no higher limit.
+    ///
+    /// # Errors
+    ///
+    /// `NoMemory` where there is no memory for them.
+    pub(crate) fn common(&self, alloc: Global, other: &Bits) -> Result<Bits, NoMemory>
+        requires { limit_of other.now ≤ limit_of self.now }
+        ensures { IfOk result (λ both. IsCommon self.now other.now both) }
+    {
+        let mut both = Bits::new(alloc, other.limit)?;
+        for i in 0..other.limit.div_ceil(64) {
+            both.add_word(i, self.word(i) & other.word(i));
+        }
+        Ok(both)
     }
 }

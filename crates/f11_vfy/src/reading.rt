@@ -7,7 +7,7 @@ ghost use Rattle.f11_vfy.specs.Parts.{IsReading};
 use crate::bits::Bits;
 use crate::chains::{Chains, find_chains};
 use crate::fault::ReadFault;
-use crate::scans::{Kind, add_all, add_headers, add_lost, add_marked, add_named_free};
+use crate::scans::{Kind, add_all, add_headers, add_lost, add_marked};
 use crate::space::free_blocks;
 use crate::survey::{Survey, survey_headers};
 use f11_bytes::NoMemory;
@@ -18,6 +18,9 @@ use std::alloc::Global;
 
 /// The code of a block that is named twice.
 const NAMED_TWICE: u8 = 9;
+
+/// The code of a block that is named and free.
+const NAMED_FREE: u8 = 10;
 
 /// The code of a header that is linked twice.
 const LINKED_TWICE: u8 = 12;
@@ -90,11 +93,12 @@ impl Reading {
             → IsExactly (IsVolumeFault v) found) }
     {
         let slots = &self.survey.slots;
+        let named_free = self.survey.tally.once.common(alloc, &self.free)?;
         let mut found = Findings::new(alloc);
         add_headers(&mut found, Kind::BadHeader, slots, &self.chains)?;
         add_all(&mut found, &self.survey.outside)?;
         add_marked(&mut found, NAMED_TWICE, &self.survey.tally.twice)?;
-        add_named_free(&mut found, &self.survey.tally.once, &self.free)?;
+        add_marked(&mut found, NAMED_FREE, &named_free)?;
         add_headers(&mut found, Kind::WrongLink, slots, &self.chains)?;
         add_marked(&mut found, LINKED_TWICE, &self.chains.linked.twice)?;
         add_headers(&mut found, Kind::LinkPastLast, slots, &self.chains)?;

@@ -1,11 +1,11 @@
 //! One scan over slots or blocks for each code, in ascending order, by what is kept of them.
-ghost use Rattle.std.specs.Prelude.{◌≡◌, ◌≤◌, ◌<◌, ◌+◌, ◌*◌, ◌↔◌, ◌&&◌, ℕ, true, not, min, length, slice_index, IsTrue, OnOk, Contains};
+ghost use Rattle.std.specs.Prelude.{◌≡◌, ◌≤◌, ◌<◌, ◌+◌, ◌*◌, ◌↔◌, ◌&&◌, ℕ, true, not, min, length, slice_index, IsTrue, IfOk, OnOk, Contains};
 ghost use Rattle.std.specs.Int.{bit_at};
 ghost use Rattle.f11_findings.specs.Finding.{finding};
 ghost use Rattle.f11_vfy.specs.Bits.{has, limit_of};
 ghost use Rattle.f11_vfy.specs.Chain.{IsSized};
 ghost use Rattle.f11_vfy.specs.Found.{Finds, FoundAmong};
-ghost use Rattle.f11_vfy.specs.Scans.{code_of, Holds, IsLinkedSlot, is_lost, ends_lost, start_of};
+ghost use Rattle.f11_vfy.specs.Scans.{code_of, Holds, FindsLost, IsLinkedSlot, is_lost, ends_lost, start_of};
 ghost use Rattle.f11_vfy.specs.Slot.{kept_slot};
 
 use crate::bits::Bits;
@@ -13,9 +13,6 @@ use crate::chains::Chains;
 use crate::slot::{Slot, State};
 use f11_bytes::NoMemory;
 use f11_findings::{Finding, Findings};
-
-/// The code of a block that is named and free.
-const NAMED_FREE: u8 = 10;
 
 /// The code of lost blocks.
 const LOST: u8 = 1;
@@ -156,41 +153,6 @@ fn add_marked_word(found: &mut Findings, code: u8, marks: &Bits, i: u32) -> Resu
     Ok(())
 }
 
-/// Adds the blocks of a volume that are named and free.
-///
-/// # Errors
-///
-/// `NoMemory` where there is no memory for a finding.
-pub(crate) fn add_named_free(
-    found: &mut Findings,
-    named: &Bits,
-    free: &Bits,
-) -> Result<(), NoMemory>
-    requires { limit_of free.now ≤ limit_of named.now }
-    ensures { OnOk result (Finds (FoundAmong (λ k. (has named.now k && has free.now k) ≡ true)
-        (λ k. finding 10 k 0) (limit_of free.now)) found.old found.new) }
-{
-    for k in 0..free.limit() {
-        let holds = is_named_free(named, free, k);
-        let finding = Finding {
-            code: NAMED_FREE,
-            a: k,
-            b: 0,
-        };
-        found.add_if(holds, finding)?;
-    }
-    Ok(())
-}
-
-/// Whether block `k` is named and free.
-fn is_named_free(named: &Bits, free: &Bits, k: u32) -> bool
-    requires named { k < limit_of named.now }
-    requires free { k < limit_of free.now }
-    ensures { result ≡ (has named.now k && has free.now k) }
-{
-    named.contains(k) && free.contains(k)
-}
-
 /// Whether block `k` of a volume is neither free nor named; none past its end is.
 #[tactic(auto, unfolding(crate::specs::Scans::is_lost))]
 fn is_lost(named: &Bits, free: &Bits, k: u32) -> bool
@@ -221,7 +183,36 @@ pub(crate) fn add_lost(found: &mut Findings, named: &Bits, free: &Bits) -> Resul
         found.old found.new) }
 {
     let mut start = 0;
-    for k in 0..free.limit() {
+    for i in 0..free.limit().div_ceil(64) {
+        start = add_lost_word(found, named, free, i, start)?;
+    }
+    Ok(())
+}
+
+/// Adds the runs that end in word `i`, where one that comes from before it began at `start`, and gives where one that goes on behind it
+/// begins. A word without a lost block is one step.
+///
+/// # Errors
+///
+/// `NoMemory` where there is no memory for a finding.
+fn add_lost_word(
+    found: &mut Findings,
+    named: &Bits,
+    free: &Bits,
+    i: u32,
+    start: u32,
+) -> Result<u32, NoMemory>
+    requires size { limit_of free.now ≤ limit_of named.now }
+    requires within { 64 * i < limit_of free.now }
+    requires start { start ≡ start_of (is_lost named.now free.now) (64 * i) }
+    ensures { IfOk result (λ next. FindsLost named.now free.now i next found.old found.new) }
+{
+    let end = (64 * i).saturating_add(64).min(free.limit());
+    if named.word(i) | free.word(i) == u64::MAX {
+        return Ok(end);
+    }
+    let mut start = start;
+    for k in 64 * i..end {
         let ends = ends_lost(named, free, k);
         let finding = Finding {
             code: LOST,
@@ -233,7 +224,7 @@ pub(crate) fn add_lost(found: &mut Findings, named: &Bits, free: &Bits) -> Resul
             start = k + 1;
         }
     }
-    Ok(())
+    Ok(start)
 }
 
 /// Adds other findings.

@@ -1,24 +1,32 @@
-use Rattle.std.proofs.Common.{◌∙◌, refl, sym, arith}
-use Rattle.f11_vfy.proofs.FoundLemmas.{among-none, among-all, among-test, start-stays, start-moves}
+use Rattle.std.proofs.Common.{◌≡◌, ◌+◌, ◌*◌, ◌∙◌, true, min, ap, arith}
+use Rattle.f11_findings.specs.Finding.{finding}
+use Rattle.f11_vfy.specs.Bits.{limit_of}
 use Rattle.f11_vfy.specs.Scans.{is_lost, ends_lost, start_of}
+use Rattle.f11_vfy.proofs.FoundLemmas.{among-none, among-all, among-behind}
 use Rattle.f11_vfy.proofs.scans.add_lost.Goals as goal
-use Rattle.f11_vfy.proofs.scans.add_lost.Goals.{then-not-is_lost, else-not-is_lost}
 
-pub loop-k-init : goal.loop-k-init
+pub loop-i-init : goal.loop-i-init
 unfolding start_of
-loop-k-init c = record { start = refl; low = omega arith; found = among-none _ _ _ }
+loop-i-init c =
+    let none : 0 ≡ min (64 * 0) (limit_of c.args.free.now) = omega arith in
+    record {
+      start = ap (start_of (is_lost c.args.named.now c.args.free.now)) none;
+      found = among-all _ _ 0 _ _ _ (omega arith) (omega arith) (among-none _ _ _);
+    }
 
-pub loop-k-preserved : goal.loop-k-preserved
-loop-k-preserved c =
+pub add_lost_word-requires-clause-start : goal.add_lost_word-requires-clause-start
+add_lost_word-requires-clause-start c =
+    let below : min (64 * c.loop-i.i) (limit_of c.args.free.now) ≡ 64 * c.loop-i.i = omega (arith, c.loop-i-test.true, c.div_ceil-i-end.ensures, c.limit.ensures) in
+    c.loop-i.invariant.start ∙ ap (start_of (is_lost c.args.named.now c.args.free.now)) below
+
+pub loop-i-preserved : goal.loop-i-preserved
+loop-i-preserved c =
     let lost = is_lost c.args.named.now c.args.free.now in
     record {
-      start = elim c.if-not-is_lost.branch [
-        | then-not-is_lost w ↦ w.start-is ∙ start-moves lost c.loop-k.k (sym c.is_lost.ensures ∙ w.if-not-is_lost.true)
-        | else-not-is_lost w ↦ w.start-is ∙ start-stays lost c.loop-k.k c.loop-k.start (sym c.is_lost.ensures ∙ w.if-not-is_lost.false) c.loop-k.invariant.start
-      ];
-      low = elim c.if-not-is_lost.branch [ then-not-is_lost w ↦ omega (arith, w.start-is) | else-not-is_lost w ↦ omega (arith, w.start-is, c.loop-k.invariant.low) ];
-      found = among-test (ends_lost c.args.named.now c.args.free.now) _ c.loop-k.k _ _ _ _ c.loop-k.invariant.found c.ends_lost-ends.ensures (rw c.loop-k.invariant.start at c.in_ok-add_if.ensures.adds);
+      start = c.in_ok-start.ensures.next_is;
+      found = among-behind (λ k. ends_lost c.args.named.now c.args.free.now k ≡ true) (λ k. finding 1 (start_of lost k) k) (64 * c.loop-i.i) (min (64 * c.loop-i.i) (limit_of c.args.free.now)) (min (64 * (c.loop-i.i + 1)) (limit_of c.args.free.now)) _ _ _
+          (omega arith) (omega arith) (λ k low high. omega (arith, low, high)) c.loop-i.invariant.found c.in_ok-start.ensures.found;
     }
 
 pub returns : goal.returns
-returns c = among-all _ _ c.loop-k.k _ _ _ (omega (arith, c.loop-k.auto.k-end, c.limit-k-end.ensures)) (omega (arith, c.loop-k-test.false, c.limit-k-end.ensures)) c.loop-k.invariant.found
+returns c = among-all _ _ _ _ _ _ (omega arith) (omega (arith, c.loop-i-test.false, c.div_ceil-i-end.ensures, c.limit.ensures)) c.loop-i.invariant.found

@@ -1,12 +1,12 @@
-use Rattle.std.proofs.Common.{◌≡◌, ◌≤◌, true}
+use Rattle.std.proofs.Common.{◌≡◌, ◌*◌, true, min}
 use Rattle.f11_findings.specs.Finding.{finding}
+use Rattle.f11_vfy.specs.Bits.{limit_of}
 use Rattle.f11_vfy.specs.Scans.{is_lost, ends_lost, start_of}
 use Rattle.f11_vfy.specs.Found.{Finds, FoundAmong}
 use Rattle.f11_vfy.proofs.scans.add_lost.Given as goal
 
-abbrev pub invariant-loop-k : goal.invariant-loop-k
-invariant-loop-k l = record {
-  start : l.start ≡ start_of (is_lost l.named l.free) l.k;
-  low : l.start ≤ l.k;
-  found : Finds (FoundAmong (λ k. ends_lost l.named l.free k ≡ true) (λ k. finding 1 (start_of (is_lost l.named l.free) k) k) l.k) l.initial.found l.found;
+abbrev pub invariant-loop-i : goal.invariant-loop-i
+invariant-loop-i l = record {
+  start : l.start ≡ start_of (is_lost l.named l.free) (min (64 * l.i) (limit_of l.free));
+  found : Finds (FoundAmong (λ k. ends_lost l.named l.free k ≡ true) (λ k. finding 1 (start_of (is_lost l.named l.free) k) k) (min (64 * l.i) (limit_of l.free))) l.initial.found l.found;
 }
