@@ -58,7 +58,7 @@ has_bit-more b first k j here is = go (cases_lt j first) (cases_lt j (first + k)
         yes true e = e
         yes false e = refl
 
-or_assoc : (s t u : Bool) → ((s || t) || u) ≡ (s || (t || u))
+pub or_assoc : (s t u : Bool) → ((s || t) || u) ≡ (s || (t || u))
 or_assoc true t u = refl
 or_assoc false t u = refl
 

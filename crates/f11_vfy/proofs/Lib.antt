@@ -11,6 +11,7 @@ pub mod SumLemmas
 pub mod TallyLemmas
 pub mod WordLemmas
 pub mod FreeLemmas
+pub mod FreeWordLemmas
 pub mod SlotLemmas
 pub mod ChainLemmas
 pub mod FoundLemmas

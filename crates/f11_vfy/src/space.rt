@@ -1,5 +1,5 @@
 //! The free blocks of a volume, read off its storage bitmap (Files-11 On-Disk Structure Level 1, "Storage Bitmap File").
-ghost use Rattle.std.specs.Prelude.{◌≡◌, ◌+◌, ◌-◌, ◌*◌, ◌<◌, ◌≤◌, ◌^◌, ◌||◌, ◌&&◌, ℕ, nat_le, nat_lt, min, length, IfOk, IsErrOf};
+ghost use Rattle.std.specs.Prelude.{◌≡◌, ◌+◌, ◌-◌, ◌*◌, ◌%◌, ◌<◌, ◌≤◌, ◌^◌, ◌||◌, ◌&&◌, ℕ, nat_le, nat_lt, min, length, IfOk, IsErrOf};
 ghost use Rattle.f11_bits.specs.Bitmap.{LiesWithin};
 ghost use Rattle.f11_bytes.specs.Bits.{bit};
 ghost use Rattle.f11_dev.specs.Looked.{Looked};
@@ -8,7 +8,7 @@ ghost use Rattle.f11_vfy.specs.Free.{ReadsFree, has_bit};
 
 use crate::bits::Bits;
 use crate::fault::ReadFault;
-use f11_bytes::{BLOCK_SIZE, Block, is_set};
+use f11_bytes::{BLOCK_SIZE, Block, is_set, read_word};
 use f11_dev::Device;
 use std::alloc::Global;
 
@@ -49,16 +49,35 @@ pub fn free_blocks<D: Device>(
     Ok(free)
 }
 
-/// Adds the numbers from `first` on, `count` of them, whose bits in the block are 1.
+/// Adds the numbers from `first` on, a multiple of 16, `count` of them, whose bits in the block are 1.
 fn add_bits(set: &mut Bits, first: u32, block: &Block, count: u32)
+    requires word { first % 16 ≡ 0 }
     requires bits { count ≤ 4096 }
     requires within { first + count ≤ limit_of set.old }
     ensures adds { (j : ℕ) → has set.new j ≡ (has set.old j || has_bit block.now first count j) }
     ensures limit { limit_of set.new ≡ limit_of set.old }
 {
-    for k in 0..count {
+    let words = count / 16;
+    add_words(set, first, block, words);
+    for k in 16 * words..count {
         if is_set(block, k) {
             set.insert(first + k);
         }
+    }
+}
+
+/// Adds those of the block's first words, so many.
+fn add_words(set: &mut Bits, first: u32, block: &Block, words: u32)
+    requires word { first % 16 ≡ 0 }
+    requires words { words ≤ 256 }
+    requires within { first + 16 * words ≤ limit_of set.old }
+    ensures adds { (j : ℕ) → has set.new j
+        ≡ (has set.old j || has_bit block.now first (16 * words) j) }
+    ensures limit { limit_of set.new ≡ limit_of set.old }
+{
+    for i in 0..words {
+        let at = first + 16 * i;
+        let word = read_word(block, 2 * i as usize);
+        set.add_word(at / 64, u64::from(word) << (at % 64));
     }
 }

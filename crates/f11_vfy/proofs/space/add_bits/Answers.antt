@@ -1,11 +1,11 @@
-use Rattle.std.proofs.Common.{◌∙◌, refl, ap, sym}
+use Rattle.std.proofs.Common.{◌∙◌, ap, sym}
 use Rattle.f11_vfy.specs.Bits.{has, limit_of}
-use Rattle.f11_vfy.proofs.FreeLemmas.{adds-none, adds-bit, adds-no_bit}
+use Rattle.f11_vfy.proofs.FreeLemmas.{adds-bit, adds-no_bit}
 use Rattle.f11_vfy.proofs.space.add_bits.Goals as goal
 use Rattle.f11_vfy.proofs.space.add_bits.Goals.{then-is_set, else-is_set}
 
 pub loop-k-init : goal.loop-k-init
-loop-k-init c = record { limit = refl; adds = λ j. adds-none _ c.args.block.now c.args.first j }
+loop-k-init c = record { limit = c.add_words.ensures.limit; adds = c.add_words.ensures.adds }
 
 pub loop-k-preserved : goal.loop-k-preserved
 loop-k-preserved c = record {

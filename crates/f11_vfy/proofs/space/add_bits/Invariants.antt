@@ -6,6 +6,6 @@ use Rattle.f11_vfy.proofs.space.add_bits.Given as goal
 -- the bits so far are added
 abbrev pub invariant-loop-k : goal.invariant-loop-k
 invariant-loop-k l = record {
-  limit : limit_of l.set ≡ limit_of l.initial.set;
-  adds : (j : ℕ) → has l.set j ≡ (has l.initial.set j || has_bit l.block l.first l.k j);
+  limit : limit_of l.set ≡ limit_of l.fn.set;
+  adds : (j : ℕ) → has l.set j ≡ (has l.fn.set j || has_bit l.block l.first l.k j);
 }
