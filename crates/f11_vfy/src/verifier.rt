@@ -46,9 +46,8 @@ pub enum VfyError<D: Device> {
 /// It writes nothing. It reads each candidate for the home block up to the one found; each block of the index bitmap, each header in use
 /// and each block of the storage bitmap once, and the headers of files 1 to 4 once more; then the headers and the blocks of each
 /// directory, up to its end: its first header twice, each other header and each block once. It takes two bits for each block that a
-/// retrieval pointer can name (4 MiB in all), a bit for each block of the volume, some 20 bytes a slot, and the blocks of one directory at
-/// a time, up to its end, with four bytes for each block that its headers name. The name of each of a directory's records is compared
-/// with those before it.
+/// retrieval pointer can name (4 MiB in all), two bits for each block of the volume, some 20 bytes a slot, and for one directory at a
+/// time its blocks, up to its end, and its records' names, with four bytes for each block that its headers name.
 ///
 /// # Errors
 ///
