@@ -7,5 +7,6 @@ pub mod Name
 pub mod Output
 pub mod Report
 pub mod Rights
+pub mod RtList
 pub mod RtVolume
 pub mod VfyCommand

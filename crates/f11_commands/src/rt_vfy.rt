@@ -53,7 +53,11 @@ fn write_accepted<W: Write>(writer: &mut W, notes: &Notes) -> io::Result<()>
 }
 
 /// Writes the lines of one with faults.
-fn write_faulty<W: Write>(writer: &mut W, faults: &Faults, notes: &Notes) -> io::Result<()>
+pub(crate) fn write_faulty<W: Write>(
+    writer: &mut W,
+    faults: &Faults,
+    notes: &Notes,
+) -> io::Result<()>
     ensures { OnOk result (Takes W.contents writer.old writer.new
         (rt_fault_lines faults.now ++ (rt_note_lines notes.now ++ (codes "faulty" ++ 10 ∷ [])))) }
 {

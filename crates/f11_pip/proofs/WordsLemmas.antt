@@ -11,7 +11,7 @@ use Rattle.f11_store.specs.declared.callers.Uic.{Uic}
 use Rattle.f11_pip.specs.Commands.{MeetsDump, MeetsRights, command_and_word, program_app}
 use Rattle.f11_pip.specs.Octal.{SpellsUic}
 use Rattle.f11_pip.specs.Words.{AskNoRights, is_option}
-use Rattle.f11_pip.specs.declared.words.Words.TheVariants.{Dump, Home, Init, Name, Rights, RtInit, RtVfy, Vfy}
+use Rattle.f11_pip.specs.declared.words.Words.TheVariants.{Dump, Home, Init, Name, Rights, RtInit, RtList, RtVfy, Vfy}
 
 pub is_simple-program : is_simple program_app ≡ true
 unfolding clap_on_literals
@@ -27,6 +27,17 @@ pub subcommand_of-home : (program image : Text) → is_option image ≡ false
 unfolding clap_on_literals
 subcommand_of-home program [] plain = refl
 subcommand_of-home program (b ∷ bs) plain = rw (plain, plain) refl
+
+pub takes-rt_list : (program image : Text) → is_option image ≡ false → takes program_app (program ∷ codes "rt-list" ∷ image ∷ []) ≡ true
+unfolding clap_on_literals
+takes-rt_list program [] plain = refl
+takes-rt_list program (b ∷ bs) plain = simp plain
+
+pub subcommand_of-rt_list : (program image : Text) → is_option image ≡ false
+    → command_and_word (codes "image") (subcommand_of program_app (program ∷ codes "rt-list" ∷ image ∷ [])) ≡ Some (codes "rt-list", Some image)
+unfolding clap_on_literals
+subcommand_of-rt_list program [] plain = refl
+subcommand_of-rt_list program (b ∷ bs) plain = rw (plain, plain) refl
 
 pub takes-rt_vfy : (program image : Text) → is_option image ≡ false → takes program_app (program ∷ codes "rt-vfy" ∷ image ∷ []) ≡ true
 unfolding clap_on_literals
@@ -144,6 +155,7 @@ no_caller caller owner word none (Home image) asks = asks
 no_caller caller owner word none (Name text) asks = asks
 no_caller caller owner word none (Vfy image) asks = asks
 no_caller caller owner word none (Init to count slots_is label_is max_is) asks = asks
+no_caller caller owner word none (RtList image) asks = asks
 no_caller caller owner word none (RtVfy image) asks = asks
 no_caller caller owner word none (RtInit to count segments_are) asks = asks
 no_caller caller owner word none (Rights c o w) asks = none c asks.0
@@ -154,6 +166,7 @@ no_owner caller owner word none (Home image) asks = asks
 no_owner caller owner word none (Name text) asks = asks
 no_owner caller owner word none (Vfy image) asks = asks
 no_owner caller owner word none (Init to count slots_is label_is max_is) asks = asks
+no_owner caller owner word none (RtList image) asks = asks
 no_owner caller owner word none (RtVfy image) asks = asks
 no_owner caller owner word none (RtInit to count segments_are) asks = asks
 no_owner caller owner word none (Rights c o w) asks = none o asks.1

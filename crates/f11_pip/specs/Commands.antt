@@ -47,6 +47,10 @@ abbrev pub rt_init_app : App
 rt_init_app = with_rule (with_rule (with_rule (new_app (codes "rt-init")) (option_rule (codes "blocks") true)) (option_rule (codes "segments") true))
     (needed_rule (codes "image"))
 
+-- `rt-list IMAGE`
+abbrev pub rt_list_app : App
+rt_list_app = with_rule (new_app (codes "rt-list")) (needed_rule (codes "image"))
+
 -- `rt-vfy IMAGE`
 abbrev pub rt_vfy_app : App
 rt_vfy_app = with_rule (new_app (codes "rt-vfy")) (needed_rule (codes "image"))
@@ -58,7 +62,7 @@ files_app = with_subcommand (with_subcommand (with_subcommand (with_subcommand (
 
 -- and those on RT-11 volumes
 abbrev pub program_app : App
-program_app = with_subcommand (with_subcommand files_app rt_init_app.top) rt_vfy_app.top
+program_app = with_subcommand (with_subcommand (with_subcommand files_app rt_init_app.top) rt_list_app.top) rt_vfy_app.top
 
 -- the name of the command that was met, and its word of this name
 abbrev pub command_and_word : Text → Option (Text × List Row) → Option (Text × Option Text)

@@ -5,7 +5,7 @@ use Rattle.f11_pip.specs.Octal.{SpellsProtection, SpellsUic}
 use Rattle.f11_pip.specs.declared.outcome.Failure.{Failure}
 use Rattle.f11_pip.specs.declared.outcome.Failure.TheVariants.{NoMemory}
 use Rattle.f11_pip.specs.declared.words.Words.{Words}
-use Rattle.f11_pip.specs.declared.words.Words.TheVariants.{Dump, Home, Init, Name, Rights, RtInit, RtVfy, Vfy}
+use Rattle.f11_pip.specs.declared.words.Words.TheVariants.{Dump, Home, Init, Name, Rights, RtInit, RtList, RtVfy, Vfy}
 
 -- a word that begins with a hyphen (45) is an option
 abbrev pub is_option : List ℕ → Bool
@@ -62,6 +62,11 @@ abbrev pub AsksInit : List ℕ → List ℕ → List ℕ → Option (List ℕ) �
 AsksInit blocks slots label max image (Init to count slots_are label_is files) =
     (to.now ≡ image) × SpellsCount blocks count × SpellsNumber slots slots_are × (label_is.now ≡ label) × SpellsMax max files
 AsksInit blocks slots label max image _ = ⊥
+
+-- the words ask that the areas of the RT-11 volume in this image be listed
+abbrev pub AsksRtList : List ℕ → Words → Type 0
+AsksRtList name (RtList image) = image.now ≡ name
+AsksRtList name _ = ⊥
 
 -- the words ask that the RT-11 volume in this image be verified
 abbrev pub AsksRtVfy : List ℕ → Words → Type 0

@@ -8,7 +8,7 @@ struct Synopsis {
     does: &'static str,
 }
 
-const COMMANDS: [Synopsis; 8] = [
+const COMMANDS: [Synopsis; 9] = [
     Synopsis {
         name: "dump",
         words: "f11_pip dump IMAGE NUMBER",
@@ -38,6 +38,11 @@ const COMMANDS: [Synopsis; 8] = [
         name: "rt-init",
         words: "f11_pip rt-init --blocks N --segments N IMAGE",
         does: "makes an image file with a fresh RT-11 volume",
+    },
+    Synopsis {
+        name: "rt-list",
+        words: "f11_pip rt-list IMAGE",
+        does: "lists the areas of an RT-11 volume, which is verified first",
     },
     Synopsis {
         name: "rt-vfy",

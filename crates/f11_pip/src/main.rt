@@ -13,7 +13,7 @@ mod words;
 
 use f11_commands::{
     Answer, print_header, print_home, print_init, print_name, print_rights, print_rt_init,
-    print_rt_vfy, print_vfy, refuse_init,
+    print_rt_list, print_rt_vfy, print_vfy, refuse_init,
 };
 use f11_dev::FileImage;
 use f11_store::Uic;
@@ -136,6 +136,9 @@ fn run<W: Write>(rt: &HostRuntime, words: Words<'_>, writer: &mut W) -> Result<A
         } => {
             let device = FileImage::create(rt, image, u32::from(blocks))?;
             print_rt_init(device, segments, writer)?
+        }
+        Words::RtList { image } => {
+            print_rt_list(rt.alloc(), FileImage::open_to_read(rt, image)?, writer)?
         }
         Words::RtVfy { image } => {
             print_rt_vfy(rt.alloc(), FileImage::open_to_read(rt, image)?, writer)?

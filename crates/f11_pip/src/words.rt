@@ -3,8 +3,8 @@ ghost use Rattle.std.specs.Prelude.{◌≡◌, ◌≤◌, ◌⊎◌, length, ℕ
 ghost use Rattle.std.specs.Result.{result_ok};
 ghost use Rattle.clap.specs.Words.{app_of, first_value, found_of, rule_of, subcommand_rows_of};
 ghost use Rattle.f11_store.specs.declared.callers.Uic.{Uic};
-ghost use Rattle.f11_pip.specs.Words.{AskNoRights, AsksDump, AsksHome, AsksInit, AsksName, AsksRights, AsksRtInit, AsksRtVfy, AsksVfy, SpellsMax, FailsToAskDump, FailsToAskRights, IsDumpLine, IsLine, IsRightsLine};
-ghost use Rattle.f11_pip.specs.Commands.{HasDumpWords, HasInitWords, HasRightsWords, HasRtInitWords, HasWord, MeetsDump, MeetsRights, MeetsWord, dump_app, files_app, home_app, init_app, init_options, name_app, needed_rule, option_rule, program_app, rights_app, rt_init_app, rt_vfy_app, vfy_app};
+ghost use Rattle.f11_pip.specs.Words.{AskNoRights, AsksDump, AsksHome, AsksInit, AsksName, AsksRights, AsksRtInit, AsksRtList, AsksRtVfy, AsksVfy, SpellsMax, FailsToAskDump, FailsToAskRights, IsDumpLine, IsLine, IsRightsLine};
+ghost use Rattle.f11_pip.specs.Commands.{HasDumpWords, HasInitWords, HasRightsWords, HasRtInitWords, HasWord, MeetsDump, MeetsRights, MeetsWord, dump_app, files_app, home_app, init_app, init_options, name_app, needed_rule, option_rule, program_app, rights_app, rt_init_app, rt_list_app, rt_vfy_app, vfy_app};
 ghost use Rattle.f11_pip.specs.Decimal.{IsNumber, SpellsNumber};
 ghost use Rattle.f11_pip.specs.Octal.{IsProtection, SpellsProtection, SpellsUic};
 
@@ -52,6 +52,10 @@ pub enum Words<'a> {
         blocks: u16,
         segments: u16,
     },
+    /// `rt-list IMAGE`
+    RtList {
+        image: &'a str,
+    },
     /// `rt-vfy IMAGE`
     RtVfy {
         image: &'a str,
@@ -80,6 +84,8 @@ pub fn parse<'a, S: AsStr>(alloc: Global, words: &'a [S]) -> Result<Words<'a>, F
     ensures rights { (caller owner word : List ℕ)
         → IsRightsLine caller owner word (map S.text words.entry.now)
         → MatchResult result (AsksRights caller owner word) (FailsToAskRights caller owner word) }
+    ensures rt_list { (image : List ℕ) → IsLine (codes "rt-list") image (map S.text words.entry.now)
+        → MatchResult result (AsksRtList image) (λ failure. failure ≡ Failure.NoMemory) }
     ensures rt_vfy { (image : List ℕ) → IsLine (codes "rt-vfy") image (map S.text words.entry.now)
         → MatchResult result (AsksRtVfy image) (λ failure. failure ≡ Failure.NoMemory) }
     ensures vfy { (image : List ℕ) → IsLine (codes "vfy") image (map S.text words.entry.now)
@@ -98,6 +104,7 @@ fn program<'a>(alloc: Global) -> Result<Command<'a>, AllocError>
 {
     files(alloc)?
         .subcommand(rt_init(alloc)?)?
+        .subcommand(rt_list(alloc)?)?
         .subcommand(rt_vfy(alloc)?)
 }
 
@@ -129,6 +136,9 @@ fn command_of<'a>(matches: &ArgMatches<'a>) -> Result<Words<'a>, Failure>
         → MeetsRights caller owner word (subcommand_rows_of matches.now)
         → MatchResult result (AsksRights caller owner word)
         (λ _. AskNoRights caller owner word) }
+    ensures rt_list { (image : List ℕ)
+        → MeetsWord (codes "rt-list") (codes "image") image (subcommand_rows_of matches.now)
+        → IsOkAnd result (AsksRtList image) }
     ensures rt_vfy { (image : List ℕ)
         → MeetsWord (codes "rt-vfy") (codes "image") image (subcommand_rows_of matches.now)
         → IsOkAnd result (AsksRtVfy image) }
@@ -145,6 +155,7 @@ fn command_of<'a>(matches: &ArgMatches<'a>) -> Result<Words<'a>, Failure>
         Some(("name", given)) => name_of(given),
         Some(("rights", given)) => rights_of(given),
         Some(("rt-init", given)) => rt_init_of(given),
+        Some(("rt-list", given)) => rt_list_of(given),
         Some(("rt-vfy", given)) => rt_vfy_of(given),
         Some(("vfy", given)) => vfy_of(given),
         _ => Err(Failure::Usage),
@@ -314,6 +325,21 @@ fn rt_init_of<'a>(given: &ArgMatches<'a>) -> Result<Words<'a>, Failure>
         blocks: read_number(word_of(given, "blocks")?).ok_or(Failure::Usage)?,
         segments: read_number(word_of(given, "segments")?).ok_or(Failure::Usage)?,
     })
+}
+
+fn rt_list<'a>(alloc: Global) -> Result<Command<'a>, AllocError>
+    ensures { IfOk result (λ command. app_of command ≡ rt_list_app) }
+{
+    Command::new(alloc, "rt-list").arg(needed(alloc, "image"))
+}
+
+fn rt_list_of<'a>(given: &ArgMatches<'a>) -> Result<Words<'a>, Failure>
+    ensures rt_list { (image : List ℕ) → HasWord (codes "image") image given.now
+        → IsOkAnd result (AsksRtList image) }
+    ensures usage { IfErr result (λ failure. failure ≡ Failure.Usage) }
+{
+    let image = word_of(given, "image")?;
+    Ok(Words::RtList { image })
 }
 
 fn rt_vfy<'a>(alloc: Global) -> Result<Command<'a>, AllocError>

@@ -8,4 +8,12 @@ pub mod FaultLemmas
 pub mod NoteLemmas
 pub mod VerdictLemmas
 pub mod FreshLemmas
+pub mod SoundLemmas
+pub mod WalkLemmas
+pub mod LookingLemmas
+pub mod FileLemmas
+pub mod KeepLemmas
+pub mod BlockLemmas
+pub mod AnswerLemmas
+pub mod ListLemmas
 pub mod TextLemmas

@@ -12,7 +12,7 @@ use Rattle.std.proofs.lemmas.Bool.Decides.{nat_tests}
 use Rattle.rt11_volume.specs.declared.directory.Visited.{Visited}
 
 -- those visited and what the walk finds behind the last of them, in so many steps
-pub walk_on : ℕ → Image → List ℕ → ℕ → List ℕ
+unfoldable pub walk_on : ℕ → Image → List ℕ → ℕ → List ℕ
 walk_on most image seen last = if goes_on image seen last then walked most image seen (next_of image last) else seen
 
 -- These segments were visited, in so many steps fewer than the whole walk.
@@ -34,15 +34,15 @@ pub has_number-any : (found : List Visited) (n : ℕ) → list_any (λ v. v.numb
 has_number-any found n = sym (list_any-map (λ v. v.number) (λ j. j == n) found)
 
 -- one step of the walk
-walked-step : (most : ℕ) (image : Image) (seen : List ℕ) (k : ℕ) → walked (suc most) image seen k ≡ walk_on most image (seen ++ k ∷ []) k
+pub walked-step : (most : ℕ) (image : Image) (seen : List ℕ) (k : ℕ) → walked (suc most) image seen k ≡ walk_on most image (seen ++ k ∷ []) k
 unfolding walked walk_on
 walked-step most image seen k = refl
 
-walk_on-goes : (most : ℕ) (image : Image) (seen : List ℕ) (last : ℕ) → goes_on image seen last ≡ true → walk_on most image seen last ≡ walked most image seen (next_of image last)
+pub walk_on-goes : (most : ℕ) (image : Image) (seen : List ℕ) (last : ℕ) → goes_on image seen last ≡ true → walk_on most image seen last ≡ walked most image seen (next_of image last)
 unfolding walk_on
 walk_on-goes most image seen last goes = ap (λ b. if b then walked most image seen (next_of image last) else seen) goes
 
-walk_on-ends : (most : ℕ) (image : Image) (seen : List ℕ) (last : ℕ) → goes_on image seen last ≡ false → walk_on most image seen last ≡ seen
+pub walk_on-ends : (most : ℕ) (image : Image) (seen : List ℕ) (last : ℕ) → goes_on image seen last ≡ false → walk_on most image seen last ≡ seen
 unfolding walk_on
 walk_on-ends most image seen last ends = ap (λ b. if b then walked most image seen (next_of image last) else seen) ends
 

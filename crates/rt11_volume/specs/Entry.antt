@@ -42,8 +42,12 @@ abbrev pub is_one_kind : ℕ → Bool
 is_one_kind word = bit_at word 8 + bit_at word 9 + bit_at word 10 == 1
 
 -- the kind of an area with such a status
+abbrev pub kind_of : ℕ → RtKind
+kind_of word = if has_bit word 8 then Tentative else (if has_bit word 9 then Empty else Permanent)
+
+-- and of one with such an entry
 abbrev pub kind : List ℕ → RtKind
-kind e = if has_bit (status e) 8 then Tentative else (if has_bit (status e) 9 then Empty else Permanent)
+kind e = kind_of (status e)
 
 -- the entry is of this kind and of no other
 abbrev pub is_tentative : List ℕ → Bool

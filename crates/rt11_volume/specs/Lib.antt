@@ -12,3 +12,7 @@ pub mod Search
 pub mod Operations
 pub mod Calls
 pub mod Fresh
+pub mod Refusal
+pub mod Looking
+pub mod Files
+pub mod Listing

@@ -1,6 +1,8 @@
 //! An entry of the directory.
 ghost use Rattle.std.specs.Prelude.{◌≡◌, ◌<◌, ◌&&◌};
-ghost use Rattle.rt11_volume.specs.Entry.{has_bit, is_one_kind, is_same_name};
+ghost use Rattle.rt11_volume.specs.Entry.{has_bit, is_one_kind, is_same_name, kind_of};
+
+use crate::area::RtKind;
 
 /// The bit of a tentative area in a status word: octal 400.
 pub(crate) const TENTATIVE: u32 = 8;
@@ -50,6 +52,26 @@ impl Entry {
         ensures { result ≡ (is_one_kind self.now.status && has_bit self.now.status 10) }
     {
         is_one_kind(self.status) && has_bit(self.status, PERMANENT)
+    }
+
+    /// The kind of its area.
+    pub(crate) fn kind(&self) -> RtKind
+        ensures { result ≡ kind_of self.now.status }
+    {
+        if has_bit(self.status, TENTATIVE) {
+            RtKind::Tentative
+        } else if has_bit(self.status, EMPTY) {
+            RtKind::Empty
+        } else {
+            RtKind::Permanent
+        }
+    }
+
+    /// Whether it is protected.
+    pub(crate) fn is_protected(&self) -> bool
+        ensures { result ≡ has_bit self.now.status 15 }
+    {
+        has_bit(self.status, PROTECTED)
     }
 
     /// Whether it is that of a file of this name.

@@ -1,5 +1,5 @@
 //! The names of files.
-ghost use Rattle.std.specs.Prelude.{◌≡◌, ◌≢◌, ◌↔◌, ℕ, ◌≤◌, ◌==◌, List, position, [], ◌∷◌, ◌++◌, All, length, drop, slice_index_or, IsTrue, IsNone, IfSome, IfOk, string_bytes, IsSomeAnd, SomeIff};
+ghost use Rattle.std.specs.Prelude.{◌≡◌, ◌≢◌, ◌↔◌, ℕ, ◌≤◌, ◌==◌, List, position, [], ◌∷◌, ◌++◌, All, length, drop, slice_index_or, IsTrue, IsNone, IfSome, IfOk, string_bytes, IsSomeAnd, SomeIff, if◌then◌else◌};
 ghost use Rattle.std.specs.List.{AllPass};
 ghost use Rattle.f11_rad50.specs.Name.{is_name_character};
 ghost use Rattle.f11_rad50.specs.Radix50.{radix50};
@@ -141,7 +141,8 @@ impl RtName {
 
     /// The name whose words these are, and `None` where they are the words of no name.
     pub fn from_words(words: [u16; 3]) -> Option<RtName>
-        ensures { SomeIff result (IsRtName words) words }
+        ensures name { SomeIff result (IsRtName words) words }
+        ensures exact { result ≡ (if is_rt_name words then Some words else None) }
     {
         let [first, second, kind] = words;
         if is_name(first, second, kind) {

@@ -2,7 +2,7 @@
 ghost use Rattle.std.specs.Prelude.{◌≡◌, ◌↔◌, ◌+◌, ◌*◌, ◌^◌, ◌<◌, ◌≤◌, [], length, IsTrue, IfOk, OnErr, OnOk, slice_index, slice_index_or, slice_set};
 ghost use Rattle.f11_dev.specs.Looked.{Looked};
 ghost use Rattle.rt11_volume.specs.Entry.{entry_size};
-ghost use Rattle.rt11_volume.specs.Segment.{segment_lbn, segment_count, next_segment, highest_segment, extra_bytes, first_block, entry_room, entry_place, entries, HasEnd, segment_with, areas_end};
+ghost use Rattle.rt11_volume.specs.Segment.{segment_lbn, segment_count, next_segment, highest_segment, extra_bytes, first_block, entry_room, entry_place, entries, HasEnd, segment_with, area_start, areas_end};
 ghost use Rattle.rt11_volume.specs.InHand.{ReadsSegment, SaysEntry};
 
 use crate::entry::{END, Entry, has_bit};
@@ -166,16 +166,25 @@ impl Segment {
         }
     }
 
+    /// Where area `i` begins, or would behind the last.
+    pub(crate) fn area_start(&self, i: usize) -> u32
+        requires { i ≤ length (entries (extra_bytes self.now) self.now) }
+        ensures start { result ≡ area_start (segment_with 0 self.now) i }
+        ensures low { result < 2 ^ 24 }
+    {
+        let mut start = u32::from(self.first());
+        for j in 0..i {
+            start += u32::from(self.entry(j).length);
+        }
+        start
+    }
+
     /// Where the areas end.
     pub(crate) fn areas_end(&self) -> u32
         ensures end { result ≡ areas_end (segment_with 0 self.now) }
         ensures low { result < 2 ^ 24 }
     {
-        let mut end = u32::from(self.first());
-        for i in 0..self.entry_count() {
-            end += u32::from(self.entry(i).length);
-        }
-        end
+        self.area_start(self.entry_count())
     }
 
     /// Whether an end mark stands where an entry's status would, if only behind the last whole entry.

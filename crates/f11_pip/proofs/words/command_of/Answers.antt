@@ -34,7 +34,12 @@ returns-in-Some-vfy-default-clause-vfy c image met =
     c.vfy_of.ensures.vfy image (first_value-rows (found_of c.in-Some-vfy-default.given.now) (codes "image")
     ∙ first_of-met _ _ _ _ image c.in-Some-vfy-default.ensures.rows met)
 
-pub returns-in-Some-text-default-2-clause-rt_vfy : goal.returns-in-Some-text-default-2-clause-rt_vfy
-returns-in-Some-text-default-2-clause-rt_vfy c image met =
-    c.rt_vfy_of.ensures.rt_vfy image (first_value-rows (found_of c.in-Some-text-default-2.given.now) (codes "image")
+pub returns-in-Some-text-default-2-clause-rt_list : goal.returns-in-Some-text-default-2-clause-rt_list
+returns-in-Some-text-default-2-clause-rt_list c image met =
+    c.rt_list_of.ensures.rt_list image (first_value-rows (found_of c.in-Some-text-default-2.given.now) (codes "image")
     ∙ first_of-met _ _ _ _ image c.in-Some-text-default-2.ensures.rows met)
+
+pub returns-in-Some-text-default-3-clause-rt_vfy : goal.returns-in-Some-text-default-3-clause-rt_vfy
+returns-in-Some-text-default-3-clause-rt_vfy c image met =
+    c.rt_vfy_of.ensures.rt_vfy image (first_value-rows (found_of c.in-Some-text-default-3.given.now) (codes "image")
+    ∙ first_of-met _ _ _ _ image c.in-Some-text-default-3.ensures.rows met)

@@ -3,7 +3,7 @@ use Rattle.clap.specs.Words.{is_simple, subcommand_of, takes}
 use Rattle.f11_pip.specs.Commands.{command_and_word}
 use Rattle.f11_pip.specs.Words.{AskNoRights, AsksDump, AsksRights}
 use Rattle.f11_pip.specs.Decimal.{IsNumber}
-use Rattle.f11_pip.proofs.WordsLemmas.{failure_out_of_memory, match_ok, no_memory_or_none, none_or_no_memory, takes-dump, takes-home, takes-name, takes-rights, takes-rt_vfy, takes-vfy, subcommand_of-rt_vfy, subcommand_of-vfy, subcommand_of-dump, subcommand_of-home, subcommand_of-name, subcommand_of-rights, subcommand_of-none, is_simple-program}
+use Rattle.f11_pip.proofs.WordsLemmas.{failure_out_of_memory, match_ok, no_memory_or_none, none_or_no_memory, takes-dump, takes-home, takes-name, takes-rights, takes-rt_list, takes-rt_vfy, takes-vfy, subcommand_of-rt_list, subcommand_of-rt_vfy, subcommand_of-vfy, subcommand_of-dump, subcommand_of-home, subcommand_of-name, subcommand_of-rights, subcommand_of-none, is_simple-program}
 use Rattle.f11_pip.proofs.words.parse.Goals as goal
 
 pub returns-in_err-matches-clause-home : goal.returns-in_err-matches-clause-home
@@ -76,6 +76,17 @@ returns-clause-vfy g c image line =
     let simple = ap is_simple c.in_ok-program.ensures ∙ is_simple-program in
     let met = (c.in_ok-matches.ensures.matches simple).1 ∙ ap₂ subcommand_of c.in_ok-program.ensures line.is_line in
     match_ok _ _ c.command_of.result (c.command_of.ensures.vfy image (ap (command_and_word (codes "image")) met ∙ subcommand_of-vfy line.program image line.plain))
+
+pub returns-in_err-matches-clause-rt_list : goal.returns-in_err-matches-clause-rt_list
+returns-in_err-matches-clause-rt_list g c image line =
+    failure_out_of_memory _ c.from_residual-in_err-matches.result _ c.from_residual-in_err-matches.ensures.1
+    (c.in_err-matches.ensures.passes (ap₂ takes c.in_ok-program.ensures line.is_line ∙ takes-rt_list line.program image line.plain))
+
+pub returns-clause-rt_list : goal.returns-clause-rt_list
+returns-clause-rt_list g c image line =
+    let simple = ap is_simple c.in_ok-program.ensures ∙ is_simple-program in
+    let met = (c.in_ok-matches.ensures.matches simple).1 ∙ ap₂ subcommand_of c.in_ok-program.ensures line.is_line in
+    match_ok _ _ c.command_of.result (c.command_of.ensures.rt_list image (ap (command_and_word (codes "image")) met ∙ subcommand_of-rt_list line.program image line.plain))
 
 pub returns-in_err-matches-clause-rt_vfy : goal.returns-in_err-matches-clause-rt_vfy
 returns-in_err-matches-clause-rt_vfy g c image line =

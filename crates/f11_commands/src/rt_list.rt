@@ -1,0 +1,114 @@
+//! The command `rt-list`.
+ghost use Rattle.std.specs.Prelude.{◌≡◌, OnOk};
+ghost use Rattle.f11_commands.specs.Output.{Takes};
+ghost use Rattle.f11_commands.specs.RtList.{area_line, area_lines, PrintsList, FailsToVerifyOrList, IsVerifiedAndListed};
+ghost use Rattle.f11_commands.specs.RtVolume.{PrintsFaulty};
+
+use crate::outcome::{Answer, Failure};
+use crate::rt_vfy::write_faulty;
+use f11_dev::Device;
+use rt11_volume::{RtArea, RtKind, RtName, RtRefusal, RtReport, RtVfyError, verify};
+use std::alloc::Global;
+use std::fmt;
+use std::io::{self, Write};
+
+/// The name of a file, or `?`.
+#[derive(Clone, Copy)]
+struct ShownName(Option<RtName>);
+
+impl fmt::Display for ShownName {
+    ghost use Rattle.std.specs.Prelude.{Some};
+    ghost use Rattle.f11_commands.specs.RtList.{name_shown};
+
+    ghost output = { λ n. Some (name_shown n.0) };
+
+    fn fmt<W: fmt::Write>(&self, f: &mut fmt::Formatter<W>) -> fmt::Result {
+        match self.0 {
+            Some(name) => write!(f, "{name}"),
+            None => write!(f, "?"),
+        }
+    }
+}
+
+/// What stands behind a protected file.
+#[derive(Clone, Copy)]
+struct ShownProtection(bool);
+
+impl fmt::Display for ShownProtection {
+    ghost use Rattle.std.specs.Prelude.{Some};
+    ghost use Rattle.f11_commands.specs.RtList.{protection_shown};
+
+    ghost output = { λ p. Some (protection_shown p.0) };
+
+    fn fmt<W: fmt::Write>(&self, f: &mut fmt::Formatter<W>) -> fmt::Result {
+        if self.0 {
+            write!(f, " protected")
+        } else {
+            Ok(())
+        }
+    }
+}
+
+/// Verifies the RT-11 volume on a device and writes a line for each of its areas, in the order of its segments and their entries;
+/// where it has faults the lines of `rt-vfy`, with which it answers [`Answer::Fault`].
+///
+/// # Errors
+///
+/// [`Failure::DeviceFault`] where a transfer failed, [`Failure::NoMemory`] where there was no memory, and
+/// [`Failure::CannotWrite`] where the writer takes no more: then it may hold a part of the lines.
+pub fn print_rt_list<D: Device + Drop, W: Write>(
+    alloc: Global,
+    device: D,
+    writer: &mut W,
+) -> Result<Answer, Failure>
+    ensures listed { result ≡ Ok Answer.Done
+        → PrintsList (D.disk device) W.contents writer.old writer.new }
+    ensures faulty { result ≡ Ok Answer.Fault
+        → PrintsFaulty (D.disk device) W.contents writer.old writer.new }
+    ensures device_fault { result ≡ Err Failure.DeviceFault
+        → FailsToVerifyOrList D.disk device W.contents writer.old writer.new }
+    ensures cannot_write { result ≡ Err Failure.CannotWrite → IsVerifiedAndListed D.disk device }
+{
+    match verify(alloc, device) {
+        Ok(RtReport::Accepted(mut volume, _notes)) => match volume.list(alloc) {
+            Ok(areas) => {
+                write_areas(writer, &areas)?;
+                Ok(Answer::Done)
+            }
+            Err(RtRefusal::NoMemory) => Err(Failure::NoMemory),
+            Err(_) => Err(Failure::DeviceFault),
+        },
+        Ok(RtReport::Faulty(_device, faults, notes)) => {
+            write_faulty(writer, &faults, &notes)?;
+            Ok(Answer::Fault)
+        }
+        Err(RtVfyError::DeviceFault(_device)) => Err(Failure::DeviceFault),
+        Err(RtVfyError::NoMemory(_device)) => Err(Failure::NoMemory),
+    }
+}
+
+/// Writes the lines of areas.
+fn write_areas<W: Write>(writer: &mut W, areas: &[RtArea]) -> io::Result<()>
+    ensures { OnOk result (Takes W.contents writer.old writer.new (area_lines areas.now)) }
+{
+    for area in areas {
+        write_area(writer, area)?;
+    }
+    Ok(())
+}
+
+/// Writes the line of an area.
+fn write_area<W: Write>(writer: &mut W, area: &RtArea) -> io::Result<()>
+    ensures { OnOk result (Takes W.contents writer.old writer.new (area_line area.now)) }
+{
+    let RtArea { start, length, .. } = *area;
+    match area.kind {
+        RtKind::Tentative => writeln!(writer, "tent {start} {length}"),
+        RtKind::Empty => writeln!(writer, "empty {start} {length}"),
+        RtKind::Permanent => {
+            let name = ShownName(area.name);
+            let protection = ShownProtection(area.protected);
+            writeln!(writer, "perm {name} {start} {length}{protection}")
+        }
+    }
+}

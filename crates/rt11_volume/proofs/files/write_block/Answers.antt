@@ -1,0 +1,53 @@
+use Rattle.std.proofs.Common.{ap, sym, subst, length, arith}
+use Rattle.f11_dev.specs.Disk.{Disk}
+use Rattle.f11_dev.specs.Image.{Image}
+use Rattle.f11_dev.specs.Went.{Went}
+use Rattle.std.specs.Prelude.{slice_set}
+use Rattle.f11_dev.proofs.WentLemmas.{went_looked, went_write, went_failed_write, went_more, went_within}
+use Rattle.rt11_volume.specs.Files.{HasBlockWritten}
+use Rattle.rt11_volume.specs.declared.refusal.RtRefusal.TheVariants.{DeviceFault}
+use Rattle.rt11_volume.proofs.SoundLemmas.{sound_from}
+use Rattle.rt11_volume.proofs.AnswerLemmas.{faults-handed_on}
+use Rattle.rt11_volume.proofs.BlockLemmas.{block-written}
+use Rattle.rt11_volume.proofs.files.write_block.Goals as goal
+
+pub returns-in_err-lbn-clause-went : goal.returns-in_err-lbn-clause-went
+returns-in_err-lbn-clause-went g c =
+    let old = g.D.Device.disk c.args.device.now in
+    let P = HasBlockWritten c.args.name c.args.place c.args.block.now old in
+    subst (λ n. Went P old (g.D.Device.disk c.reach.new.device) 63 n) (sym (faults-handed_on c.from_residual.result c.in_err-lbn.field-0.0 c.from_residual.ensures.1))
+    (went_within P (went_looked P c.in_err-lbn.ensures.looked) (omega arith))
+
+pub returns-in_err-write-clause-went : goal.returns-in_err-write-clause-went
+returns-in_err-write-clause-went g c =
+    let old = g.D.Device.disk c.args.device.now in
+    let now = g.D.Device.disk c.reach.new.device in
+    let looked = c.in_ok-lbn.ensures.looked in
+    let P = HasBlockWritten c.args.name c.args.place c.args.block.now old in
+    subst (λ n. Went P old (g.D.Device.disk c.write.new.self) 63 n) (sym (faults-handed_on c.from_residual-in_err-write.result DeviceFault c.from_residual-in_err-write.ensures.1))
+    (went_more P (went_looked P looked) (went_failed_write P now _ c.in_ok-lbn.lbn c.args.block.now c.in_err-write.ensures.writes.err (λ sound.
+    subst (λ (image : Image). P (slice_set image c.in_ok-lbn.lbn c.args.block.now)) (sym looked.image)
+    (λ again. block-written c.args.name old.image c.args.place c.in_ok-lbn.lbn c.args.block.now (sound_from old.image again.accepted) (c.in_ok-lbn.ensures.found again)
+    (omega (arith, c.in_ok-lbn.ensures.within, ap (λ (image : Image). length image) looked.image))) sound)))
+
+pub returns-clause-went : goal.returns-clause-went
+returns-clause-went g c =
+    let old = g.D.Device.disk c.args.device.now in
+    let now = g.D.Device.disk c.reach.new.device in
+    let looked = c.in_ok-lbn.ensures.looked in
+    let P = HasBlockWritten c.args.name c.args.place c.args.block.now old in
+    went_more P (went_looked P looked) (went_write P now _ c.in_ok-lbn.lbn c.args.block.now c.in_ok-write.ensures.writes.ok (λ sound.
+    subst (λ (image : Image). P (slice_set image c.in_ok-lbn.lbn c.args.block.now)) (sym looked.image)
+    (λ again. block-written c.args.name old.image c.args.place c.in_ok-lbn.lbn c.args.block.now (sound_from old.image again.accepted) (c.in_ok-lbn.ensures.found again)
+    (omega (arith, c.in_ok-lbn.ensures.within, ap (λ (image : Image). length image) looked.image))) sound))
+
+pub returns-clause-written : goal.returns-clause-written
+returns-clause-written g c = λ sound.
+    let old = g.D.Device.disk c.args.device.now in
+    let now = g.D.Device.disk c.reach.new.device in
+    let looked = c.in_ok-lbn.ensures.looked in
+    let P = HasBlockWritten c.args.name c.args.place c.args.block.now old in
+    subst P (sym (ap (λ (d : Disk). d.image) c.in_ok-write.ensures.writes.ok))
+    (subst (λ (image : Image). P (slice_set image c.in_ok-lbn.lbn c.args.block.now)) (sym looked.image)
+    (λ again. block-written c.args.name old.image c.args.place c.in_ok-lbn.lbn c.args.block.now (sound_from old.image again.accepted) (c.in_ok-lbn.ensures.found again)
+    (omega (arith, c.in_ok-lbn.ensures.within, ap (λ (image : Image). length image) looked.image)))) sound

@@ -1,0 +1,117 @@
+-- What the calls on an RT-11 volume's files answer, and what they do to its disk.
+use Rattle.std.specs.Prelude.{◌≡◌, ◌↔◌, ℕ, ◌+◌, ◌<◌, ◌≤◌, Bool, true, false, ◌||◌, if◌then◌else◌, List, Result, Ok, Err, IsErrOf, Some, ⊤}
+use Rattle.std.specs.List.{slice_get}
+use Rattle.f11_dev.specs.Disk.{Disk}
+use Rattle.f11_dev.specs.Image.{Image}
+use Rattle.f11_dev.specs.declared.device.Device.{Ghosts}
+use Rattle.rt11_volume.specs.Calls.{volume_device, has_failed}
+use Rattle.rt11_volume.specs.Entry.{is_file_named}
+use Rattle.rt11_volume.specs.Looking.{IsSoundDisk}
+use Rattle.rt11_volume.specs.Operations.{with_block}
+use Rattle.rt11_volume.specs.Search.{IsFirst, HasNone}
+use Rattle.rt11_volume.specs.Segment.{Segment}
+use Rattle.rt11_volume.specs.Store.{RtStore, rt_store_of, Area, area_at}
+use Rattle.rt11_volume.specs.Verdict.{IsRtAccepted}
+use Rattle.rt11_volume.specs.declared.refusal.RtRefusal.{RtRefusal}
+use Rattle.rt11_volume.specs.declared.refusal.RtRefusal.TheVariants.{Failed, NoSuchFile, EndOfFile, Protected, DuplicateName, NoSpace, DirectoryFull, NoMemory, DeviceFault}
+use Rattle.rt11_volume.specs.declared.volume.RtAccepted.{RtAccepted}
+
+-- whether a refusal is that of a transfer that failed
+abbrev pub is_fault : RtRefusal → Bool
+is_fault Failed = false
+is_fault NoSuchFile = false
+is_fault EndOfFile = false
+is_fault Protected = false
+is_fault DuplicateName = false
+is_fault NoSpace = false
+is_fault DirectoryFull = false
+is_fault NoMemory = false
+is_fault DeviceFault = true
+
+-- whether an answer is
+abbrev pub is_device_fault : {T : Type 0} → Result T RtRefusal → Bool
+is_device_fault (Ok x) = false
+is_device_fault (Err refusal) = is_fault refusal
+
+-- how many transfers failed, by the answer
+abbrev pub faults_in : {T : Type 0} → Result T RtRefusal → ℕ
+faults_in result = if is_device_fault result then 1 else 0
+
+-- A call answers `Failed` exactly where an earlier one answered `DeviceFault`, and then does nothing.
+pub record Answers {D T : Type 0} {met : Ghosts D} (disk : D → Disk) (result : Result T RtRefusal) (old new : RtAccepted D met) : Type 0 where
+  pub failed : IsErrOf result Failed ↔ (has_failed old ≡ true)
+  pub untouched : has_failed old ≡ true → disk (volume_device new) ≡ disk (volume_device old)
+  pub next : has_failed new ≡ (has_failed old || is_device_fault result)
+
+-- The file of a name: the first permanent entry with it, in link order.
+pub record HasFile (name : List ℕ) (store : RtStore) : Type 0 where
+  pub place : ℕ
+  pub i : ℕ
+  pub segment : Segment
+  pub entry : List ℕ
+  pub first : IsFirst (is_file_named name) store.segments place i segment entry
+
+-- its area
+abbrev pub file_area : {name : List ℕ} {store : RtStore} → HasFile name store → Area
+file_area {store = store} file = area_at store file.segment file.i
+
+-- there is no file of this name
+abbrev pub HasNoFile : List ℕ → RtStore → Type 0
+HasNoFile name store = HasNone (is_file_named name) store.segments
+
+-- The file begins at a block, and has so many.
+pub record IsFileAt (name : List ℕ) (store : RtStore) (start length : ℕ) : Type 0 where
+  pub file : HasFile name store
+  pub start_is : start ≡ (file_area file).start
+  pub length_is : length ≡ (file_area file).length
+
+-- why a file is not found
+abbrev pub FailsToFind : RtRefusal → List ℕ → Disk → Type 0
+FailsToFind Failed name disk = ⊤
+FailsToFind NoSuchFile name disk = IsSoundDisk disk → HasNoFile name (rt_store_of disk.image)
+FailsToFind EndOfFile name disk = ⊥
+FailsToFind Protected name disk = ⊥
+FailsToFind DuplicateName name disk = ⊥
+FailsToFind NoSpace name disk = ⊥
+FailsToFind DirectoryFull name disk = ⊥
+FailsToFind NoMemory name disk = ⊥
+FailsToFind DeviceFault name disk = ⊤
+
+-- The file has a block at this place, from 0.
+pub record HasBlock (name : List ℕ) (store : RtStore) (place : ℕ) (block : List ℕ) : Type 0 where
+  pub file : HasFile name store
+  pub block_is : slice_get (file_area file).contents place ≡ Some block
+
+-- Block `lbn` is that one.
+pub record IsBlockAt (name : List ℕ) (store : RtStore) (place lbn : ℕ) : Type 0 where
+  pub file : HasFile name store
+  pub inside : place < (file_area file).length
+  pub lbn_is : lbn ≡ (file_area file).start + place
+
+-- It has none.
+pub record IsPastEnd (name : List ℕ) (store : RtStore) (place : ℕ) : Type 0 where
+  pub file : HasFile name store
+  pub past : (file_area file).length ≤ place
+
+-- why no block of a file is reached
+abbrev pub FailsToReach : RtRefusal → List ℕ → ℕ → Disk → Type 0
+FailsToReach Failed name place disk = ⊤
+FailsToReach NoSuchFile name place disk = IsSoundDisk disk → HasNoFile name (rt_store_of disk.image)
+FailsToReach EndOfFile name place disk = IsSoundDisk disk → IsPastEnd name (rt_store_of disk.image) place
+FailsToReach Protected name place disk = ⊥
+FailsToReach DuplicateName name place disk = ⊥
+FailsToReach NoSpace name place disk = ⊥
+FailsToReach DirectoryFull name place disk = ⊥
+FailsToReach NoMemory name place disk = ⊥
+FailsToReach DeviceFault name place disk = ⊤
+
+-- The block at this place of the file was replaced, and nothing else; the image is accepted as it was.
+pub record WritesBlock (name : List ℕ) (place : ℕ) (block : List ℕ) (old new : Image) : Type 0 where
+  pub file : HasFile name (rt_store_of old)
+  pub inside : place < (file_area file).length
+  pub store_is : rt_store_of new ≡ with_block (rt_store_of old) ((file_area file).start + place) block
+  pub accepted : IsRtAccepted new
+
+-- the images that stand while it is written
+abbrev pub HasBlockWritten : List ℕ → ℕ → List ℕ → Disk → Image → Type 0
+HasBlockWritten name place block old image = IsSoundDisk old → WritesBlock name place block old.image image

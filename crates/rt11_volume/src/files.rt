@@ -1,0 +1,169 @@
+//! The calls on the files of a volume.
+ghost use Rattle.std.specs.Prelude.{◌≡◌, false, IfOk, IfErr, OnOk, OnErr, IsErrOf};
+ghost use Rattle.f11_dev.specs.Looked.{Looked};
+ghost use Rattle.f11_dev.specs.Went.{Went};
+ghost use Rattle.rt11_volume.specs.Files.{is_device_fault, faults_in, FailsToReach, HasBlock, WritesBlock, HasBlockWritten};
+ghost use Rattle.rt11_volume.specs.Listing.{ListsAreas, FailsToList};
+ghost use Rattle.rt11_volume.specs.Looking.{IsSoundDisk};
+ghost use Rattle.rt11_volume.specs.Store.{rt_store_of};
+
+use crate::area::RtArea;
+use crate::list::list_areas;
+use crate::lookup::{locate, reach};
+use crate::name::RtName;
+use crate::refusal::RtRefusal;
+use crate::volume::RtAccepted;
+use f11_bytes::Block;
+use f11_dev::Device;
+use std::alloc::Global;
+
+/// Whether an answer is that a transfer failed.
+fn is_device_fault<T>(answer: &Result<T, RtRefusal>) -> bool
+    ensures { result ≡ is_device_fault answer.now }
+{
+    matches!(answer, Err(RtRefusal::DeviceFault))
+}
+
+/// Reads the block at a place of the file of a name, from 0.
+fn read_block<D: Device>(
+    device: &mut D,
+    name: [u16; 3],
+    place: u16,
+    into: &mut Block,
+) -> Result<(), RtRefusal>
+    ensures looked { Looked (D.disk device.old) (D.disk device.new) 63 (faults_in result) }
+    ensures read { OnOk result (IsSoundDisk (D.disk device.old)
+        → HasBlock name (rt_store_of (D.disk device.old).image) place into.new) }
+    ensures refused { IfErr result (λ refusal.
+        FailsToReach refusal name place (D.disk device.old)) }
+    ensures kept { is_device_fault result ≡ false → OnErr result (into.new ≡ into.old) }
+    ensures judged { ¬ IsErrOf result RtRefusal.Failed }
+{
+    let lbn = reach(device, name, place)?;
+    device.read(lbn, into)?;
+    Ok(())
+}
+
+/// Writes the block at a place of the file of a name, from 0.
+fn write_block<D: Device>(
+    device: &mut D,
+    name: [u16; 3],
+    place: u16,
+    block: &Block,
+) -> Result<(), RtRefusal>
+    ensures went { Went (HasBlockWritten name place block.now (D.disk device.old))
+        (D.disk device.old) (D.disk device.new) 63 (faults_in result) }
+    ensures written { OnOk result (HasBlockWritten name place block.now (D.disk device.old)
+        (D.disk device.new).image) }
+    ensures refused { IfErr result (λ refusal.
+        FailsToReach refusal name place (D.disk device.old)) }
+    ensures kept { is_device_fault result ≡ false → OnErr result
+        (Looked (D.disk device.old) (D.disk device.new) 62 0) }
+    ensures judged { ¬ IsErrOf result RtRefusal.Failed }
+{
+    let lbn = reach(device, name, place)?;
+    device.write(lbn, block)?;
+    Ok(())
+}
+
+impl<D: Device> RtAccepted<D> {
+    ghost use Rattle.rt11_volume.specs.Calls.{volume_device};
+    ghost use Rattle.rt11_volume.specs.Files.{Answers, IsFileAt, FailsToFind};
+
+    /// All areas, in the order of the segments and of their entries (profile: a name is shown for a file alone). It takes memory
+    /// for the list.
+    ///
+    /// # Errors
+    ///
+    /// `Failed` where an earlier call answered `DeviceFault`, `NoMemory` where there was no memory, `DeviceFault` where a transfer
+    /// failed.
+    pub fn list(&mut self, alloc: Global) -> Result<Vec<RtArea>, RtRefusal>
+        ensures answers { Answers D.disk result self.old self.new }
+        ensures looked { Looked (D.disk (volume_device self.old))
+            (D.disk (volume_device self.new)) 62 (faults_in result) }
+        ensures listed { IfOk result (λ areas. IsSoundDisk (D.disk (volume_device self.old))
+            → ListsAreas (rt_store_of (D.disk (volume_device self.old)).image) areas.items) }
+        ensures refused { IfErr result FailsToList }
+    {
+        if self.failed {
+            return Err(RtRefusal::Failed);
+        }
+        let answer = list_areas(alloc, &mut self.device);
+        self.failed = is_device_fault(&answer);
+        answer
+    }
+
+    /// Finds a file: the first permanent entry of this name, in link order. Answers its first block and its length in blocks.
+    ///
+    /// # Errors
+    ///
+    /// `Failed` where an earlier call answered `DeviceFault`, `NoSuchFile` where there is none, `DeviceFault` where a transfer failed.
+    pub fn find(&mut self, name: &RtName) -> Result<(u16, u16), RtRefusal>
+        ensures answers { Answers D.disk result self.old self.new }
+        ensures looked { Looked (D.disk (volume_device self.old))
+            (D.disk (volume_device self.new)) 62 (faults_in result) }
+        ensures found { IfOk result (λ at. IsSoundDisk (D.disk (volume_device self.old))
+            → IsFileAt name.now (rt_store_of (D.disk (volume_device self.old)).image) at.0 at.1) }
+        ensures refused { IfErr result (λ refusal.
+            FailsToFind refusal name.now (D.disk (volume_device self.old))) }
+    {
+        if self.failed {
+            return Err(RtRefusal::Failed);
+        }
+        let answer = locate(&mut self.device, name.words());
+        self.failed = is_device_fault(&answer);
+        answer
+    }
+
+    /// Reads the block at a place of a file, from 0. Where it is refused, but for `DeviceFault`, `into` stays as it is.
+    ///
+    /// # Errors
+    ///
+    /// `Failed` where an earlier call answered `DeviceFault`, `NoSuchFile` where there is no such file, `EndOfFile` where it has no
+    /// block at that place, `DeviceFault` where a transfer failed.
+    pub fn read(&mut self, name: &RtName, place: u16, into: &mut Block) -> Result<(), RtRefusal>
+        ensures answers { Answers D.disk result self.old self.new }
+        ensures looked { Looked (D.disk (volume_device self.old))
+            (D.disk (volume_device self.new)) 63 (faults_in result) }
+        ensures read { OnOk result (IsSoundDisk (D.disk (volume_device self.old))
+            → HasBlock name.now (rt_store_of (D.disk (volume_device self.old)).image)
+            place into.new) }
+        ensures refused { IfErr result (λ refusal.
+            FailsToReach refusal name.now place (D.disk (volume_device self.old))) }
+        ensures kept { is_device_fault result ≡ false → OnErr result (into.new ≡ into.old) }
+    {
+        if self.failed {
+            return Err(RtRefusal::Failed);
+        }
+        let answer = read_block(&mut self.device, name.words(), place, into);
+        self.failed = is_device_fault(&answer);
+        answer
+    }
+
+    /// Writes the block at a place of a file, from 0, and nothing else.
+    ///
+    /// # Errors
+    ///
+    /// `Failed` where an earlier call answered `DeviceFault`, `NoSuchFile` where there is no such file, `EndOfFile` where it has no
+    /// block at that place, `DeviceFault` where a transfer failed.
+    pub fn write(&mut self, name: &RtName, place: u16, block: &Block) -> Result<(), RtRefusal>
+        ensures answers { Answers D.disk result self.old self.new }
+        ensures went { Went
+            (HasBlockWritten name.now place block.now (D.disk (volume_device self.old)))
+            (D.disk (volume_device self.old)) (D.disk (volume_device self.new))
+            63 (faults_in result) }
+        ensures written { OnOk result (HasBlockWritten name.now place block.now
+            (D.disk (volume_device self.old)) (D.disk (volume_device self.new)).image) }
+        ensures refused { IfErr result (λ refusal.
+            FailsToReach refusal name.now place (D.disk (volume_device self.old))) }
+        ensures kept { is_device_fault result ≡ false → OnErr result
+            (Looked (D.disk (volume_device self.old)) (D.disk (volume_device self.new)) 62 0) }
+    {
+        if self.failed {
+            return Err(RtRefusal::Failed);
+        }
+        let answer = write_block(&mut self.device, name.words(), place, block);
+        self.failed = is_device_fault(&answer);
+        answer
+    }
+}
