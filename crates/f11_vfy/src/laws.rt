@@ -1,4 +1,5 @@
 //! Laws of what the verifier finds, each the contract of a function that does nothing.
+ghost use Rattle.f11_vfy.specs.FileLaws as files;
 ghost use Rattle.f11_vfy.specs.Laws as laws;
 
 /// A fault of the frame is a fault, and the only one.
@@ -18,4 +19,11 @@ pub fn sound()
 pub fn readings()
     ensures directory { laws.DirectoryIsSaid }
     ensures volume { laws.VolumeIsRead }
+{}
+
+/// The files of a sound volume: they are chained, each is sound, and no block stands twice among those of all.
+pub fn files()
+    ensures volume { files.VolumeHasSoundFiles }
+    ensures image { files.ImageHasSoundFiles }
+    ensures index { files.IndexFileIsApart }
 {}

@@ -1,0 +1,5 @@
+use Rattle.f11_vfy.proofs.FileLemmas.{volume-files, image-files, index-apart}
+use Rattle.f11_vfy.proofs.laws.files.Goals as goal
+
+pub returns : goal.returns
+returns c = record { volume = volume-files; image = image-files; index = index-apart }
