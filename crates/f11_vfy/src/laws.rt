@@ -8,11 +8,12 @@ pub fn frames()
     ensures only { laws.FrameFaultIsOnly }
 {}
 
-/// A volume has no fault exactly where it is sound, and an image is accepted exactly where its frame is as it should be and
-/// its volume is sound.
+/// A volume has no fault exactly where it is sound, an image is accepted exactly where its frame is as it should be and its
+/// volume is sound, and there is such an image: a fresh volume's.
 pub fn sound()
     ensures volume { laws.FaultlessIsSound }
     ensures image { laws.AcceptedIsSound }
+    ensures fresh { laws.FreshIsSound }
 {}
 
 /// What is read of a volume is what the definitions speak of.
