@@ -55,8 +55,9 @@ pub fn changed_headers()
     ensures next { changes.NextBecomesLast }
 {}
 
-/// A write of a block that is none of the index file's.
+/// A write of blocks that are none of the index file's.
 pub fn other_writes()
+    ensures images { laws.OtherImagesKeep }
     ensures keeps { laws.OtherWriteKeeps }
     ensures stays { laws.OtherWriteStaysFor }
 {}
