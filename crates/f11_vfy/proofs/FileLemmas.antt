@@ -1,26 +1,30 @@
 -- The files of a sound volume.
-use Rattle.std.proofs.Common.{◌≡◌, ◌<◌, ◌≤◌, ◌+◌, ◌-◌, ℕ, suc, List, [], ◌∷◌, length, take, Some, refl, sym, ap, subst, ◌∙◌, inl, inr, arith}
+use Rattle.std.proofs.Common.{drop, slice_index, zero, Option, None, ◌≡◌, ◌<◌, ◌≤◌, ◌+◌, ◌-◌, ℕ, suc, List, [], ◌∷◌, length, take, Some, refl, sym, ap, subst, ◌∙◌, inl, inr, arith}
 use Rattle.std.specs.List.{slice_get, flat_map}
 use Rattle.std.proofs.lemmas.Bool.{cases_eq, cases_lt}
-use Rattle.std.proofs.lemmas.List.{length-append}
+use Rattle.std.proofs.lemmas.List.{length-append, length-take, length-drop}
 use Rattle.std.proofs.lemmas.Option.{slice_get-get_or}
 use Rattle.f11_dev.specs.Image.{Image}
 use Rattle.f11_home.specs.Home.{HomeFields}
 use Rattle.f11_index.specs.HeaderBlock.{segment_number, link_of, blocks_named}
-use Rattle.f11_index.specs.Headers.{headers_of, IsChained}
+use Rattle.f11_index.specs.Headers.{next_of, headers_from, headers_of, IsChained}
 use Rattle.f11_index.specs.IndexFile.{index_file}
 use Rattle.f11_index.specs.Sound.{AreApart}
-use Rattle.f11_index.specs.Table.{Table, table_of, IsFile, IsHeaderOf}
+use Rattle.f11_index.specs.Table.{Table, table_of, IsFile, IsHeaderOf, next, IsWholeFile}
 use Rattle.f11_index.proofs.ChainLemmas.{live_of-header}
-use Rattle.f11_index.proofs.HeadersLemmas.{place-has, chained-whole, chained-apart}
+use Rattle.f11_index.proofs.NextLemmas.{next-found}
+use Rattle.f11_index.proofs.HeadersLemmas.{live-some, headers_from-some, headers_from-none, place-has, chained-whole, chained-apart}
 use Rattle.f11_chain.specs.FileHeaders.{file_blocks, IsSoundFile}
 use Rattle.f11_chain.proofs.FileOneLemmas.{file-one}
 use Rattle.f11_vfy.specs.FileLaws.{HasOneOwner, AreSoundFiles}
 use Rattle.f11_vfy.specs.Sound.{IsSoundVolume, HasSoundVolume}
 use Rattle.f11_vfy.specs.Volume.{Volume, volume_of, IsCell}
-use Rattle.f11_vfy.specs.Space.{storage_bitmap}
-use Rattle.f11_vfy.proofs.MemberLemmas.{all-from, at-place}
-use Rattle.f11_index.proofs.PlaceLemmas.{slice_get-append_front}
+use Rattle.f11_vfy.specs.Contents.{following}
+use Rattle.f11_vfy.specs.Space.{bitmap_count, bitmap_file, control_block, storage_bitmap}
+use Rattle.f11_vfy.proofs.MemberLemmas.{contained, all-from, all-each, at-place}
+use Rattle.f11_vfy.proofs.PlaceLemmas.{following-none}
+use Rattle.f11_index.proofs.PlaceLemmas.{slice_get-append_front, slice_get-header}
+use Rattle.f11_bits.specs.Bitmap.{IsBitmap, LiesWithin}
 use Rattle.f11_map.proofs.MapLemmas.{slice_get-append_back}
 
 -- Element i of lists laid end to end is one of the list of this number, at this place.
@@ -133,3 +137,59 @@ index-apart image home is =
     let files = image-files image home is in
     let file = is.framed.indexed.file.whole.file in
     subst AreApart (file-one image home is.framed.indexed.file) (λ i j lbn one other. (files.one_owner 1 1 i j lbn file file one other).1)
+
+-- the blocks of the storage bitmap stand behind the control block
+pub place-at : (image : Image) (home : HomeFields) (i : ℕ) → i < length (storage_bitmap image home).places
+    → slice_get (bitmap_file (table_of image home)) (1 + i) ≡ Some (slice_index (storage_bitmap image home).places i)
+unfolding storage_bitmap
+place-at image home i within =
+    let t = table_of image home in
+    slice_get-header (bitmap_file t) 1 (bitmap_count (control_block image t)) i _ 0 within refl
+
+pub bitmap-is : (image : Image) (home : HomeFields) → HasSoundVolume image home → IsBitmap (storage_bitmap image home) × LiesWithin (storage_bitmap image home) (length image)
+unfolding storage_bitmap
+bitmap-is image home is =
+    let t = table_of image home in
+    let files = image-files image home is in
+    let two = is.framed.bitmap.sound.whole.file in
+    let control = is.framed.control in
+    let count : length (storage_bitmap image home).places ≡ bitmap_count (control_block image t) =
+    omega (arith, control.in_file, length-take (bitmap_count (control_block image t)) (drop 1 (bitmap_file t)), length-drop 1 (bitmap_file t)) in (
+      record {
+        some = omega (arith, count, control.some_bitmap);
+        few = omega (arith, count, control.few_bitmap);
+        apart = λ i j one other same.
+            let there : slice_get (bitmap_file t) (1 + j) ≡ Some (slice_index (storage_bitmap image home).places i) = place-at image home j other ∙ ap Some (sym same) in
+            let places = (files.one_owner 2 2 (1 + i) (1 + j) _ two two (place-at image home i one) there).1 in
+            omega (arith, places);
+        sized = control.some_blocks;
+        covered = omega (arith, count, control.covered);
+      },
+      λ i within.
+          let at = place-at image home i within in
+          all-each (λ lbn. lbn < length image) (bitmap_file t) is.framed.bitmap.sound.within _ (contained (bitmap_file t) (1 + i) _ at),
+    )
+
+-- a header's next one is the one that its link names
+next-none : (t : Table) (n : ℕ) → (link_of (t.header n)).number ≡ 0 → next_of t n ≡ None
+next-none t n none = go (next_of t n) refl
+  where
+    go : (o : Option ℕ) → next_of t n ≡ o → o ≡ None
+    go None is = refl
+    go (Some m) is = let goes = (next-found t n m).0 is in absurd (omega (arith, none, goes.number, live-some goes.to))
+
+following-some : (most : ℕ) (t : Table) (n : ℕ) → following (suc most) t (Some n) ≡ n ∷ following most t (next_of t n)
+unfolding following
+following-some most t n = refl
+
+pub reached-are : (most : ℕ) (t : Table) (f : ℕ) {n : ℕ} → IsWholeFile t f → IsHeaderOf t f n → following most t (Some n) ≡ headers_from most t n
+unfolding following headers_from
+reached-are zero t f {n} whole of = refl
+reached-are (suc most) t f {n} whole of =
+    let to = (link_of (t.header n)).number in
+    let some : 0 < n = live-some (live_of-header of) in
+    let rest : following most t (next_of t n) ≡ headers_from most t to = elim (whole.links n of) [
+      | inl none ↦ ap (following most t) (next-none t n none) ∙ following-none t most ∙ sym (ap (headers_from most t) none ∙ headers_from-none most t)
+      | inr goes ↦ ap (following most t) ((next-found t n to).1 goes) ∙ reached-are most t f whole (next of goes)
+    ] in
+    ap (λ hs. n ∷ hs) rest ∙ sym (headers_from-some most t n some)

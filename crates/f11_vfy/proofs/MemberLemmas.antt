@@ -11,7 +11,7 @@ use Rattle.f11_map.proofs.MapLemmas.{slice_get-append_back}
 pub at-place : (xs : List ℕ) (x : ℕ) (has : Contains xs x) → slice_get xs has.0 ≡ Some x
 at-place xs x has = slice_get-get_or xs has.0 x has.1 ∙ ap Some has.2
 
-contained : (xs : List ℕ) (i x : ℕ) → slice_get xs i ≡ Some x → Contains xs x
+pub contained : (xs : List ℕ) (i x : ℕ) → slice_get xs i ≡ Some x → Contains xs x
 contained xs i x at = (i, slice_get_within xs i x at, get_or_from_slice_get xs i x x at)
 
 pub in-front : (xs ys : List ℕ) (x : ℕ) → Contains xs x → Contains (xs ++ ys) x

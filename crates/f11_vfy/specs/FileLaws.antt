@@ -1,14 +1,17 @@
 -- Laws of the files of a sound volume (Files-11 On-Disk Structure Level 1, "File Header" and "Map Area").
 use Rattle.std.specs.Prelude.{◌≡◌, ℕ, length, Some}
 use Rattle.std.specs.List.{slice_get}
+use Rattle.f11_bits.specs.Bitmap.{IsBitmap, LiesWithin}
 use Rattle.f11_dev.specs.Image.{Image}
 use Rattle.f11_home.specs.Home.{HomeFields}
-use Rattle.f11_index.specs.Headers.{IsChained}
+use Rattle.f11_index.specs.Headers.{headers_of, IsChained}
 use Rattle.f11_index.specs.IndexFile.{index_file}
 use Rattle.f11_index.specs.Sound.{AreApart}
-use Rattle.f11_index.specs.Table.{Table, table_of, IsFile}
+use Rattle.f11_index.specs.Table.{Table, table_of, IsFile, IsWholeFile}
 use Rattle.f11_chain.specs.FileHeaders.{file_blocks, IsSoundFile}
+use Rattle.f11_vfy.specs.Contents.{headers_reached}
 use Rattle.f11_vfy.specs.Sound.{IsSoundVolume, HasSoundVolume}
+use Rattle.f11_vfy.specs.Space.{storage_bitmap}
 use Rattle.f11_vfy.specs.Volume.{Volume}
 
 -- no block stands twice among a file's, nor among those of two files
@@ -35,3 +38,13 @@ ImageHasSoundFiles = (image : Image) (home : HomeFields) → HasSoundVolume imag
 -- no block stands twice in its index file
 abbrev pub IndexFileIsApart : Type 0
 IndexFileIsApart = (image : Image) (home : HomeFields) → HasSoundVolume image home → AreApart (index_file image home)
+
+-- nor in its storage bitmap, which has 1 to 126 blocks on the device, with a bit for each block of the volume
+abbrev pub StorageBitmapIsOne : Type 0
+StorageBitmapIsOne =
+    (image : Image) (home : HomeFields) → HasSoundVolume image home →
+    IsBitmap (storage_bitmap image home) × LiesWithin (storage_bitmap image home) (length image)
+
+-- the headers that are reached from the first of a whole file are the file's
+abbrev pub ReachedAreTheFiles : Type 0
+ReachedAreTheFiles = (t : Table) (f : ℕ) → IsWholeFile t f → headers_reached t f ≡ headers_of t f

@@ -27,4 +27,6 @@ pub fn files()
     ensures volume { files.VolumeHasSoundFiles }
     ensures image { files.ImageHasSoundFiles }
     ensures index { files.IndexFileIsApart }
+    ensures bitmap { files.StorageBitmapIsOne }
+    ensures reached { files.ReachedAreTheFiles }
 {}
