@@ -1,0 +1,7 @@
+pub mod ShrinkLemmas
+pub mod ImageLemmas
+pub mod OwnerLemmas
+pub mod FrameLemmas
+pub mod ContentLemmas
+pub mod OtherLemmas
+pub mod BitmapLemmas

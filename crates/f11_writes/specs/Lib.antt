@@ -1,0 +1,3 @@
+pub mod Kept
+pub mod Volumes
+pub mod Laws

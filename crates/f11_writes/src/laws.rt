@@ -1,0 +1,23 @@
+//! Laws of writes, each the contract of a function that does nothing: layers above cite them.
+ghost use Rattle.f11_writes.specs.Laws as laws;
+ghost use Rattle.f11_writes.specs.Volumes as volumes;
+
+/// A volume that has lost headers, or has other blocks free.
+pub fn shrunk_volumes()
+    ensures sound { volumes.ShrunkIsSound }
+    ensures files { volumes.ShrunkKeepsFiles }
+{}
+
+/// A write of a block that the volume isn't read from.
+pub fn unread_writes()
+    ensures any { laws.UnreadWriteKeeps }
+    ensures file { laws.FileWriteKeeps }
+    ensures unnamed { laws.UnnamedWriteKeeps }
+{}
+
+/// A write of blocks of the storage bitmap.
+pub fn bitmap_writes()
+    ensures any { laws.BitmapWriteKeeps }
+    ensures used { laws.UsedMarksKeep }
+    ensures free { laws.FreeMarksKeep }
+{}
