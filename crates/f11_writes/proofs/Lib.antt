@@ -1,4 +1,5 @@
 pub mod ShrinkLemmas
+pub mod SetLemmas
 pub mod ImageLemmas
 pub mod OwnerLemmas
 pub mod FrameLemmas

@@ -8,6 +8,11 @@ pub fn shrunk_volumes()
     ensures files { volumes.ShrunkKeepsFiles }
 {}
 
+/// A volume one of whose headers is set.
+pub fn set_volumes()
+    ensures { volumes.SetIsSound }
+{}
+
 /// A write of a block that the volume isn't read from.
 pub fn unread_writes()
     ensures any { laws.UnreadWriteKeeps }
