@@ -13,7 +13,7 @@ use Rattle.f11_vfy.specs.Sound.{IsSoundVolume, HasSoundVolume}
 use Rattle.f11_vfy.specs.Space.{storage_bitmap}
 use Rattle.f11_vfy.specs.Volume.{Volume, volume_of, IsNamed}
 use Rattle.f11_vfy.proofs.FileLemmas.{image-files, place-at}
-use Rattle.f11_writes.specs.Kept.{KeepsButFree}
+use Rattle.f11_writes.specs.Kept.{said_of, KeepsButFree}
 use Rattle.f11_writes.specs.Volumes.{Shrinks}
 use Rattle.f11_writes.proofs.ContentLemmas.{file-stays-in}
 use Rattle.f11_writes.proofs.FrameLemmas.{CandidatesStay, ControlStays, framed-kept, bitmap-kept, volume-with-free}
@@ -76,6 +76,10 @@ module _ (old new : Image) (home : HomeFields) (is : HasSoundVolume old home) (o
     ];
   }
 
+  said-kept : table_of new home ≡ t → said_of home 2 new ≡ said_of home 2 old
+  unfolding file_of
+  said-kept same = ap (λ (u : Table). record (file_of new u 2) { blocks = [] }) same
+
   pub bitmap-keeps : OnlyUnnamed → KeepsButFree home old new
   bitmap-keeps only =
       let volume = volume-with-free old new home is others.size control keeps in
@@ -87,6 +91,7 @@ module _ (old new : Image) (home : HomeFields) (is : HasSoundVolume old home) (o
         index_file = keeps;
         bitmap = bitmap-kept old new home is others.size control keeps;
         volume = volume;
+        said = said-kept keeps.table;
         files = λ f file other.
             let sound = (image-files old home is).each f file in
             ap (λ (u : Table). file_of new u f) keeps.table

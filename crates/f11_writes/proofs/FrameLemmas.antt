@@ -56,6 +56,11 @@ module _ (old new : Image) (home : HomeFields) (size : length new ≡ length old
         fields = is.fields ∙ ap (fields_of (candidate is.place)) (sym (candidates is.place here));
       }
 
+-- the same blocks are free where the bitmap stays
+pub free-stays : (old new : Image) (home : HomeFields) → HasSoundVolume old home → KeepsBitmap (storage_bitmap old home) old new
+    → is_free new (storage_bitmap old home) ≡ is_free old (storage_bitmap old home)
+free-stays old new home is blocks = λ i lbn. is_free-kept (storage_bitmap old home) old new lbn (bitmap-is old home is).0 blocks i
+
 -- an image whose headers may be others
 module _ (old new : Image) (home : HomeFields) (is : HasSoundVolume old home) (size : length new ≡ length old) (control : ControlStays home old new)
     (file : bitmap_file (table_of new home) ≡ bitmap_file (table_of old home)) where
@@ -66,6 +71,10 @@ module _ (old new : Image) (home : HomeFields) (is : HasSoundVolume old home) (s
   pub bitmap-stays : storage_bitmap new home ≡ storage_bitmap old home
   unfolding storage_bitmap
   bitmap-stays = λ i. record { places = take (bitmap_count (control-same i)) (drop 1 (file i)); size = stated_size (control-same i) }
+
+  pub volume-with-headers : volume_of new home ≡ record (volume_of old home) { table = table_of new home; free = is_free new (storage_bitmap old home) }
+  unfolding volume_of
+  volume-with-headers = λ i. record { table = table_of new home; size = (bitmap-stays i).size; free = is_free new (bitmap-stays i) }
 
   pub framed : CandidatesStay home old new → IsIndexFile new home → AreNamedBefore (table_of new home) home.lbn
       → ((n : ℕ) → 2 ≤ n → n ≤ 4 → IsOwnFile (table_of new home) n) → IsWholeFile (table_of new home) 2 → HasNonePast (index_of new home) → IsFramed new home
@@ -109,9 +118,8 @@ module _ (old new : Image) (home : HomeFields) (is : HasSoundVolume old home) (s
 
   pub volume-with-free : volume_of new home ≡ record (volume_of old home) { free = is_free new (storage_bitmap old home) }
   unfolding volume_of
-  volume-with-free = λ i. record { table = keeps.table i; size = (bitmap-kept i).size; free = is_free new (bitmap-kept i) }
+  volume-with-free = volume-with-headers old new home is size control file-kept ∙ (λ i. record (volume_of old home) { table = keeps.table i; free = is_free new (storage_bitmap old home) })
 
   pub volume-kept : KeepsBitmap (storage_bitmap old home) old new → volume_of new home ≡ volume_of old home
   unfolding volume_of
-  volume-kept blocks =
-      volume-with-free ∙ (λ i. record (volume_of old home) { free = λ lbn. is_free-kept (storage_bitmap old home) old new lbn (bitmap-is old home is).0 blocks i })
+  volume-kept blocks = volume-with-free ∙ (λ i. record (volume_of old home) { free = free-stays old new home is blocks i })

@@ -1,5 +1,5 @@
 -- A volume one of whose headers is set.
-use Rattle.std.proofs.Common.{◌≡◌, ◌≢◌, ◌⊎◌, ℕ, ◌+◌, ◌<◌, true, false, List, Some, refl, sym, ap, subst, ◌∙◌, inl, inr, arith}
+use Rattle.std.proofs.Common.{◌≡◌, ◌≢◌, ◌⊎◌, ℕ, ◌+◌, ◌<◌, true, false, List, Some, sym, ap, subst, ◌∙◌, inl, inr, arith}
 use Rattle.std.specs.List.{slice_get}
 use Rattle.std.proofs.lemmas.Bool.{cases_eq}
 use Rattle.f11_header.specs.Fields.{file_sequence}
@@ -12,7 +12,7 @@ use Rattle.f11_index.proofs.ChainLemmas.{live_of-header}
 use Rattle.f11_index.proofs.HeadersLemmas.{link_number, live-some}
 use Rattle.f11_vfy.specs.Sound.{LinksOn, IsSoundVolume}
 use Rattle.f11_vfy.specs.Volume.{Volume, IsCell, IsLinked}
-use Rattle.f11_writes.specs.Volumes.{MayName, LinksAnew, MayLink, none, same, anew, MayBecome, HasHeader}
+use Rattle.f11_writes.specs.Volumes.{LinksAnew, MayLink, none, same, anew, MayBecome, HasHeader}
 
 -- a link of 0 leads to no header
 nowhere : {t : Table} {n m : ℕ} → link_number t n ≡ 0 → IsNext t n m → ⊥
