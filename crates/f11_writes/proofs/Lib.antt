@@ -6,3 +6,5 @@ pub mod FrameLemmas
 pub mod ContentLemmas
 pub mod OtherLemmas
 pub mod BitmapLemmas
+pub mod SlotLemmas
+pub mod HeaderLemmas

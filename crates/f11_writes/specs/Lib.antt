@@ -1,3 +1,4 @@
 pub mod Kept
 pub mod Volumes
 pub mod Laws
+pub mod HeaderLaws

@@ -1,4 +1,5 @@
 //! Laws of writes, each the contract of a function that does nothing: layers above cite them.
+ghost use Rattle.f11_writes.specs.HeaderLaws as headers;
 ghost use Rattle.f11_writes.specs.Laws as laws;
 ghost use Rattle.f11_writes.specs.Volumes as volumes;
 
@@ -25,4 +26,12 @@ pub fn bitmap_writes()
     ensures any { laws.BitmapWriteKeeps }
     ensures used { laws.UsedMarksKeep }
     ensures free { laws.FreeMarksKeep }
+{}
+
+/// A header that is written where it is.
+pub fn header_writes()
+    ensures unused { headers.UnusedHeaderWriteKeeps }
+    ensures killed { headers.KillKeeps }
+    ensures any { headers.HeaderRewriteKeeps }
+    ensures file { headers.FileHeaderRewriteKeeps }
 {}
