@@ -170,7 +170,7 @@ module _ (image : Image) (home : HomeFields) (good : IsIndexFile image home) whe
     within : bitmap_place n < home.index_blocks
     within = omega (arith, some, few, few-slots image home)
 
-    at : slice_get all (2 + bitmap_place n) ≡ Some lbn
+    pub at : slice_get all (2 + bitmap_place n) ≡ Some lbn
     at = bitmap_at (bitmap_place n) within ∙ ap Some (sym lbn_is)
 
     bit_file : index_file (new lbn block) home ≡ all

@@ -8,3 +8,4 @@ pub mod OtherLemmas
 pub mod BitmapLemmas
 pub mod SlotLemmas
 pub mod HeaderLemmas
+pub mod BitLemmas

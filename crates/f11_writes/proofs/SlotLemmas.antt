@@ -1,8 +1,8 @@
 -- A write of one block of the index file that leaves all slots but one.
-use Rattle.std.proofs.Common.{◌≡◌, ◌≢◌, ℕ, ◌+◌, ◌<◌, ◌≤◌, true, List, length, map, slice_index, Some, sym, ap, subst, ◌∙◌, inl, inr, arith, All, Contains}
+use Rattle.std.proofs.Common.{◌≡◌, ◌≢◌, ℕ, ◌+◌, ◌<◌, ◌≤◌, List, length, map, Some, sym, ap, subst, ◌∙◌, inl, inr, arith, All, Contains}
 use Rattle.std.proofs.Math.ListN.{set}
 use Rattle.std.specs.List.{slice_get}
-use Rattle.std.proofs.lemmas.Bool.{cases_eq, cases_lt}
+use Rattle.std.proofs.lemmas.Bool.{cases_eq}
 use Rattle.std.proofs.lemmas.List.{length-set}
 use Rattle.f11_bits.specs.Bitmap.{KeepsBitmap}
 use Rattle.f11_bits.proofs.LawLemmas.{KeepsBitmap-write}
@@ -22,12 +22,12 @@ use Rattle.f11_index.proofs.HeadersLemmas.{listed-are}
 use Rattle.f11_index.proofs.StayLemmas.{whole-stays}
 use Rattle.f11_chain.specs.FileHeaders.{file_blocks}
 use Rattle.f11_chain.proofs.ChangeLemmas.{file-stays}
-use Rattle.f11_vfy.specs.Contents.{block_or_zeros, file_of}
-use Rattle.f11_vfy.specs.Earlier.{IsNamedIn, AreNamedBefore}
+use Rattle.f11_vfy.specs.Contents.{block_or_zeros}
+use Rattle.f11_vfy.specs.Earlier.{IsNamedIn}
 use Rattle.f11_vfy.specs.Faults.{IsOwnFile, IsFramed}
-use Rattle.f11_vfy.specs.Sound.{IsSoundVolume, HasSoundVolume}
+use Rattle.f11_vfy.specs.Sound.{HasSoundVolume}
 use Rattle.f11_vfy.specs.Space.{bitmap_file, storage_bitmap}
-use Rattle.f11_vfy.specs.Volume.{Volume, volume_of}
+use Rattle.f11_vfy.specs.Volume.{volume_of}
 use Rattle.f11_vfy.proofs.FileLemmas.{image-files, index-apart, place-at}
 use Rattle.f11_writes.specs.Kept.{file_in, said_of, KeepsButSlot}
 use Rattle.f11_writes.specs.Volumes.{KeepsOtherSlots}

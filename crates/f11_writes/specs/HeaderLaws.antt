@@ -1,16 +1,17 @@
 -- Laws of writes of headers: what each leaves of a sound volume (Files-11 On-Disk Structure Level 1, "Index File" and "File Header").
-use Rattle.std.specs.Prelude.{◌≡◌, ℕ, ◌<◌, ◌≤◌, false, List}
+use Rattle.std.specs.Prelude.{◌≡◌, ℕ, ◌<◌, ◌≤◌, true, false, List}
 use Rattle.f11_dev.specs.Image.{Image}
 use Rattle.f11_header.specs.Header.{IsDead}
 use Rattle.f11_home.specs.Home.{HomeFields}
+use Rattle.f11_index.specs.Calls.{SetsBit, with_bitmap_block}
 use Rattle.f11_index.specs.Growth.{with_header}
 use Rattle.f11_index.specs.Headers.{IsInFile}
-use Rattle.f11_index.specs.IndexFile.{index_of, slots, is_in_use}
+use Rattle.f11_index.specs.IndexFile.{Index, index_of, slots, is_in_use}
 use Rattle.f11_index.specs.Laws.{LeadsAlike}
-use Rattle.f11_index.specs.Table.{Table, table_of, IsLive, IsNext, IsHeaderOf}
+use Rattle.f11_index.specs.Table.{Table, table_of, IsLive, IsDeadSlot, IsNext, IsHeaderOf}
 use Rattle.f11_vfy.specs.Sound.{HasSoundVolume}
 use Rattle.f11_vfy.specs.Volume.{volume_of}
-use Rattle.f11_writes.specs.Kept.{WritesHeader}
+use Rattle.f11_writes.specs.Kept.{WritesHeader, WritesSlotBit}
 use Rattle.f11_writes.specs.Volumes.{MayBecome}
 
 -- a write of a slot that isn't in use leaves all else
@@ -47,3 +48,18 @@ FileHeaderRewriteKeeps =
     (image : Image) (home : HomeFields) (f n : ℕ) (block : List ℕ) →
     HasSoundVolume image home → 4 ≤ f → IsHeaderOf (table_of image home) f n → MayBecome (volume_of image home) n block →
     WritesHeader n block home image (with_header image home n block)
+
+-- where the block in a slot that isn't in use may become its header, the bit may be set
+abbrev pub BitSetKeeps : Type 0
+BitSetKeeps =
+    (image : Image) (home : HomeFields) (n : ℕ) (after : Index) →
+    HasSoundVolume image home → 0 < n → n ≤ slots (index_of image home) → is_in_use (index_of image home) n ≡ false →
+    MayBecome (volume_of image home) n ((table_of image home).header n) → SetsBit true n (index_of image home) after →
+    WritesSlotBit n after home image (with_bitmap_block image after n)
+
+-- and where the header is dead, it may be cleared
+abbrev pub BitClearKeeps : Type 0
+BitClearKeeps =
+    (image : Image) (home : HomeFields) (n : ℕ) (after : Index) →
+    HasSoundVolume image home → IsDeadSlot (table_of image home) n → SetsBit false n (index_of image home) after →
+    WritesSlotBit n after home image (with_bitmap_block image after n)

@@ -4,7 +4,8 @@ use Rattle.std.specs.Prelude.{◌≡◌, ◌≢◌, ℕ, List, [], map}
 use Rattle.f11_bits.specs.Bitmap.{is_free}
 use Rattle.f11_dev.specs.Image.{Image}
 use Rattle.f11_home.specs.Home.{HomeFields}
-use Rattle.f11_index.specs.Laws.{KeepsIndexFile, KeepsButHeader}
+use Rattle.f11_index.specs.IndexFile.{Index}
+use Rattle.f11_index.specs.Laws.{KeepsIndexFile, KeepsButBit, KeepsButHeader}
 use Rattle.f11_index.specs.Table.{table_of, IsFile, IsHeaderOf}
 use Rattle.f11_chain.specs.FileHeaders.{file_blocks}
 use Rattle.f11_store.specs.Changes.{with_block}
@@ -66,3 +67,8 @@ pub record WritesHeader (n : ℕ) (block : List ℕ) (home : HomeFields) (old ne
   pub slot : KeepsButSlot n home old new
   pub index_file : KeepsButHeader home n block old new
   pub in_use : (table_of new home).in_use ≡ (table_of old home).in_use
+
+-- The bit of slot n was written, so that the index file says this.
+pub record WritesSlotBit (n : ℕ) (after : Index) (home : HomeFields) (old new : Image) : Type 0 where
+  pub slot : KeepsButSlot n home old new
+  pub index_file : KeepsButBit home after old new

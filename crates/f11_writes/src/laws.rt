@@ -35,3 +35,9 @@ pub fn header_writes()
     ensures any { headers.HeaderRewriteKeeps }
     ensures file { headers.FileHeaderRewriteKeeps }
 {}
+
+/// A slot's bit that is written.
+pub fn bit_writes()
+    ensures set { headers.BitSetKeeps }
+    ensures clear { headers.BitClearKeeps }
+{}
