@@ -9,3 +9,4 @@ pub mod BitmapLemmas
 pub mod SlotLemmas
 pub mod HeaderLemmas
 pub mod BitLemmas
+pub mod GrowLemmas

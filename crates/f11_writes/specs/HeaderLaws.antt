@@ -1,17 +1,17 @@
 -- Laws of writes of headers: what each leaves of a sound volume (Files-11 On-Disk Structure Level 1, "Index File" and "File Header").
-use Rattle.std.specs.Prelude.{◌≡◌, ℕ, ◌<◌, ◌≤◌, true, false, List}
+use Rattle.std.specs.Prelude.{◌≡◌, ℕ, ◌+◌, ◌<◌, ◌≤◌, true, false, List, length}
 use Rattle.f11_dev.specs.Image.{Image}
 use Rattle.f11_header.specs.Header.{IsDead}
 use Rattle.f11_home.specs.Home.{HomeFields}
 use Rattle.f11_index.specs.Calls.{SetsBit, with_bitmap_block}
-use Rattle.f11_index.specs.Growth.{with_header}
+use Rattle.f11_index.specs.Growth.{MayNameMore, MayLinkOn, with_header}
 use Rattle.f11_index.specs.Headers.{IsInFile}
 use Rattle.f11_index.specs.IndexFile.{Index, index_of, slots, is_in_use}
 use Rattle.f11_index.specs.Laws.{LeadsAlike}
 use Rattle.f11_index.specs.Table.{Table, table_of, IsLive, IsDeadSlot, IsNext, IsHeaderOf}
 use Rattle.f11_vfy.specs.Sound.{HasSoundVolume}
 use Rattle.f11_vfy.specs.Volume.{volume_of}
-use Rattle.f11_writes.specs.Kept.{WritesHeader, WritesSlotBit}
+use Rattle.f11_writes.specs.Kept.{WritesHeader, WritesSlotBit, WritesGrowth}
 use Rattle.f11_writes.specs.Volumes.{MayBecome}
 
 -- a write of a slot that isn't in use leaves all else
@@ -63,3 +63,17 @@ BitClearKeeps =
     (image : Image) (home : HomeFields) (n : ℕ) (after : Index) →
     HasSoundVolume image home → IsDeadSlot (table_of image home) n → SetsBit false n (index_of image home) after →
     WritesSlotBit n after home image (with_bitmap_block image after n)
+
+-- the index file may grow where its last header names more blocks
+abbrev pub IndexFileMayGrow : Type 0
+IndexFileMayGrow =
+    (image : Image) (home : HomeFields) (n : ℕ) (block : List ℕ) (lbn count : ℕ) →
+    HasSoundVolume image home → MayNameMore (table_of image home) n block lbn count → lbn + count ≤ length image → MayBecome (volume_of image home) n block →
+    WritesGrowth n block lbn count home image (with_header image home n block)
+
+-- and where it links to a header that does
+abbrev pub IndexFileMayGrowByHeader : Type 0
+IndexFileMayGrowByHeader =
+    (image : Image) (home : HomeFields) (n m : ℕ) (block : List ℕ) (lbn count : ℕ) →
+    HasSoundVolume image home → MayLinkOn (table_of image home) n m block lbn count → lbn + count ≤ length image → MayBecome (volume_of image home) n block →
+    WritesGrowth n block lbn count home image (with_header image home n block)

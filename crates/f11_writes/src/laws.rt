@@ -41,3 +41,9 @@ pub fn bit_writes()
     ensures set { headers.BitSetKeeps }
     ensures clear { headers.BitClearKeeps }
 {}
+
+/// An index file that grows at its end.
+pub fn growth()
+    ensures names { headers.IndexFileMayGrow }
+    ensures links { headers.IndexFileMayGrowByHeader }
+{}
