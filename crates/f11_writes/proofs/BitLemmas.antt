@@ -1,5 +1,5 @@
 -- A slot's bit was written.
-use Rattle.std.proofs.Common.{◌≡◌, ◌≢◌, ◌⊎◌, ℕ, ◌+◌, ◌<◌, ◌≤◌, Bool, true, false, List, Some, refl, sym, ap, subst, ◌∙◌, arith}
+use Rattle.std.proofs.Common.{◌≡◌, ◌≢◌, ◌⊎◌, ℕ, ◌+◌, ◌<◌, ◌≤◌, Bool, true, false, List, refl, sym, ap, subst, ◌∙◌, arith}
 use Rattle.std.specs.List.{slice_get}
 use Rattle.std.proofs.lemmas.List.{length-set}
 use Rattle.f11_dev.specs.Image.{Image}
@@ -9,7 +9,7 @@ use Rattle.f11_header.specs.Fields.{file_sequence}
 use Rattle.f11_index.specs.Calls.{SetsBit, bitmap_place, bitmap_block, with_bitmap_block}
 use Rattle.f11_index.specs.ChangeLaws.{StaysHeader}
 use Rattle.f11_index.specs.HeaderBlock.{segment_number, link_of}
-use Rattle.f11_index.specs.IndexFile.{Index, index_of, index_file, slots, is_in_use, HasNonePast}
+use Rattle.f11_index.specs.IndexFile.{Index, index_of, slots, is_in_use, HasNonePast}
 use Rattle.f11_index.specs.Laws.{KeepsButBit}
 use Rattle.f11_index.specs.Sound.{IsIndexFile}
 use Rattle.f11_index.specs.Table.{Table, table_in, table_of, IsLive, IsDeadSlot, IsHeaderOf}
@@ -27,7 +27,7 @@ use Rattle.f11_writes.specs.Kept.{WritesSlotBit}
 use Rattle.f11_writes.specs.Volumes.{KeepsOtherSlots, Shrinks, MayBecome}
 use Rattle.f11_writes.proofs.SetLemmas.{set-sound}
 use Rattle.f11_writes.proofs.ShrinkLemmas.{shrunk-sound}
-use Rattle.f11_writes.proofs.SlotLemmas.{SparesOwn, framed-slot, volume-slot, slot-kept}
+use Rattle.f11_writes.proofs.SlotLemmas.{own-first, SparesOwn, IsPlacedAt, slot-keeps}
 
 -- the bit of a slot that had no live header
 module _ (image : Image) (home : HomeFields) (is : HasSoundVolume image home) (value : Bool) (n : ℕ) (after : Index) (some : 0 < n) (few : n ≤ slots (index_of image home))
@@ -101,23 +101,14 @@ module _ (image : Image) (home : HomeFields) (is : HasSoundVolume image home) (v
       }))
 
   four : IsOwnFile u 4
-  four =
-      let own = is.framed.own_files 4 (omega arith) (omega arith) in
-      record {
-        file = record { live = live-is 4 own.file.live; first = ap segment_number (header-same 4) ∙ own.file.first };
-        sequence = ap file_sequence (header-same 4) ∙ own.sequence;
-      }
+  four = let own = is.framed.own_files 4 (omega arith) (omega arith) in own-first t u n 4 others (live-other 4 own.file.live) own
 
-  place : ℕ
-  place = 2 + bitmap_place n
-
-  at : slice_get (index_file image home) place ≡ Some lbn
-  unfolding place
-  at = block-at image home good value n after (index-apart image home is) some few bit
-
-  not-home : place ≢ 1
-  unfolding place
-  not-home same = omega (arith, same)
+  placed : IsPlacedAt image home lbn
+  placed = record {
+    place = 2 + bitmap_place n;
+    at = block-at image home good value n after (index-apart image home is) some few bit;
+    not_home = λ same. omega (arith, same);
+  }
 
   spares : SparesOwn n t u
   spares = record {
@@ -132,12 +123,7 @@ module _ (image : Image) (home : HomeFields) (is : HasSoundVolume image home) (v
 
   writes : IsSoundVolume with-table → WritesSlotBit n after home image new
   writes sound = record {
-    slot = slot-kept image home is lbn block place at not-home n spares
-        (record {
-          framed = framed-slot image home is lbn block place at not-home n spares indexed past;
-          sound = subst IsSoundVolume (sym (volume-slot image home is lbn block place at not-home n spares)) sound;
-        })
-        (ap (λ (xs : List ℕ). slice_get xs place) keeps.file ∙ at);
+    slot = slot-keeps image home is lbn block placed n spares indexed past (ap (λ (xs : List ℕ). slice_get xs placed.place) keeps.file ∙ placed.at) sound;
     index_file = keeps;
   }
 

@@ -1,30 +1,26 @@
 -- The index file grew at its end.
-use Rattle.std.proofs.Common.{◌≡◌, ◌≢◌, ℕ, ◌+◌, ◌-◌, ◌<◌, ◌≤◌, false, List, length, Some, refl, sym, ap, subst, ◌∙◌, inl, inr, arith}
+use Rattle.std.proofs.Common.{◌≡◌, ◌≢◌, ℕ, ◌+◌, ◌<◌, ◌≤◌, false, List, length, refl, sym, ap, subst, ◌∙◌, inl, inr, arith}
 use Rattle.std.specs.List.{slice_get, range_with_len}
 use Rattle.std.proofs.lemmas.Bool.{cases_lt}
 use Rattle.f11_dev.specs.Image.{Image}
-use Rattle.f11_header.specs.Header.{IsHeader}
 use Rattle.f11_home.specs.Home.{HomeFields}
-use Rattle.f11_header.specs.Fields.{file_sequence}
 use Rattle.f11_index.specs.Growth.{MayNameMore, MayLinkOn, GrowsIndexFile, with_header}
-use Rattle.f11_index.specs.HeaderBlock.{segment_number}
 use Rattle.f11_index.specs.IndexFile.{index_of, index_file, slots, header_lbn}
 use Rattle.f11_index.specs.Table.{Table, table_in, table_of, IsHeaderOf, first}
 use Rattle.f11_index.proofs.BitLemmas.{is_in_use-past}
 use Rattle.f11_index.proofs.ChainLemmas.{live_of-header}
 use Rattle.f11_index.proofs.GrowLemmas.{grows-at, grows-by}
 use Rattle.f11_index.proofs.HeadersLemmas.{chained-apart}
-use Rattle.f11_index.proofs.LawLemmas.{header_at}
 use Rattle.f11_index.proofs.PlaceLemmas.{slice_get-append_front}
 use Rattle.f11_index.proofs.WalkLemmas.{in_use-within}
 use Rattle.f11_vfy.specs.Faults.{IsOwnFile}
-use Rattle.f11_vfy.specs.Sound.{IsSoundVolume, HasSoundVolume}
+use Rattle.f11_vfy.specs.Sound.{HasSoundVolume}
 use Rattle.f11_vfy.specs.Volume.{Volume, volume_of}
 use Rattle.f11_vfy.proofs.FileLemmas.{index-apart, image-files}
 use Rattle.f11_writes.specs.Kept.{WritesGrowth}
 use Rattle.f11_writes.specs.Volumes.{KeepsOtherSlots, MayBecome}
 use Rattle.f11_writes.proofs.SetLemmas.{set-sound}
-use Rattle.f11_writes.proofs.SlotLemmas.{SparesOwn, framed-slot, volume-slot, slot-kept}
+use Rattle.f11_writes.proofs.SlotLemmas.{own-first, SparesOwn, header-placed-at, slot-keeps}
 
 module _ (image : Image) (home : HomeFields) (is : HasSoundVolume image home) (n : ℕ) (block : List ℕ) (lbn count : ℕ) (of : IsHeaderOf (table_of image home) 1 n)
     (grows : GrowsIndexFile home n block lbn count image (with_header image home n block)) where
@@ -64,26 +60,7 @@ module _ (image : Image) (home : HomeFields) (is : HasSoundVolume image home) (n
   four : IsOwnFile u 4
   four =
       let own = is.framed.own_files 4 (omega arith) (omega arith) in
-      let away : 4 ≢ n = λ here. not-of 4 (λ same. omega (arith, same)) (subst (IsHeaderOf t 4) here (first own.file)) in
-      let same = others.header 4 away own.file.live.in_use in
-      record {
-        file = record {
-          live = record { in_use = in-use-same 4 ∙ own.file.live.in_use; valid = subst (λ (b : List ℕ). IsHeader b 4) (sym same) own.file.live.valid };
-          first = ap segment_number same ∙ own.file.first;
-        };
-        sequence = ap file_sequence same ∙ own.sequence;
-      }
-
-  place : ℕ
-  place = 2 + home.index_blocks + (n - 1)
-
-  at : slice_get (index_file image home) place ≡ Some (header_lbn (index_of image home) n)
-  unfolding place
-  at = header_at image home is.framed.indexed.file n within.0 within.1
-
-  not-home : place ≢ 1
-  unfolding place
-  not-home same = omega (arith, same)
+      own-first t u n 4 others (λ here. not-of 4 (λ same. omega (arith, same)) (subst (IsHeaderOf t 4) here (first own.file))) own
 
   spares : SparesOwn n t u
   spares = record { others = others; two = not-of 2 (λ same. omega (arith, same)); three = not-of 3 (λ same. omega (arith, same)); four = four }
@@ -102,13 +79,11 @@ module _ (image : Image) (home : HomeFields) (is : HasSoundVolume image home) (n
         header = grows.header;
         others = others;
       }) in
+      let placed = header-placed-at image home n is.framed.indexed.file within.0 within.1 in
+      let there = slice_get-append_front (index_file image home) (range_with_len lbn count) placed.place l placed.at in
       record {
-        slot = slot-kept image home is l block place at not-home n spares
-            (record {
-              framed = framed-slot image home is l block place at not-home n spares grows.sound (grows.none_past is.framed.none_past);
-              sound = subst IsSoundVolume (sym (volume-slot image home is l block place at not-home n spares)) sound;
-            })
-            (ap (λ (xs : List ℕ). slice_get xs place) grows.file ∙ slice_get-append_front (index_file image home) (range_with_len lbn count) place l at);
+        slot = slot-keeps image home is l block placed n spares grows.sound (grows.none_past is.framed.none_past)
+            (ap (λ (xs : List ℕ). slice_get xs placed.place) grows.file ∙ there) sound;
         index_file = grows;
       }
 

@@ -1,5 +1,5 @@
 -- A header was written where it is.
-use Rattle.std.proofs.Common.{◌≡◌, ◌≢◌, ◌⊎◌, ℕ, ◌+◌, ◌-◌, ◌<◌, ◌≤◌, true, false, List, Some, refl, sym, ap, subst, ◌∙◌, inl, inr, arith}
+use Rattle.std.proofs.Common.{◌≡◌, ◌≢◌, ◌⊎◌, ℕ, ◌<◌, ◌≤◌, true, false, List, refl, sym, ap, subst, ◌∙◌, inl, inr, arith}
 use Rattle.std.specs.List.{slice_get}
 use Rattle.std.proofs.lemmas.Bool.{cases_eq}
 use Rattle.std.proofs.lemmas.List.{length-set}
@@ -10,14 +10,14 @@ use Rattle.f11_home.specs.Home.{HomeFields}
 use Rattle.f11_index.specs.ChangeLaws.{StaysHeader}
 use Rattle.f11_index.specs.Growth.{IsGoodFor, with_header}
 use Rattle.f11_index.specs.HeaderBlock.{segment_number, link_of}
-use Rattle.f11_index.specs.IndexFile.{index_of, index_file, slots, header_lbn, HasNonePast, is_in_use}
+use Rattle.f11_index.specs.IndexFile.{index_of, slots, header_lbn, HasNonePast, is_in_use}
 use Rattle.f11_index.specs.Laws.{LeadsAlike, KeepsButHeader}
 use Rattle.f11_index.specs.Sound.{IsIndexFile}
 use Rattle.f11_index.specs.Headers.{IsInFile}
 use Rattle.f11_index.specs.Table.{Table, table_in, table_of, IsLive, IsNext, IsHeaderOf, first, next}
 use Rattle.f11_index.proofs.ChainLemmas.{live_of-header}
 use Rattle.f11_index.proofs.HeadersLemmas.{chained-apart}
-use Rattle.f11_index.proofs.LawLemmas.{header_write, header_at}
+use Rattle.f11_index.proofs.LawLemmas.{header_write}
 use Rattle.f11_index.proofs.StayLemmas.{stays}
 use Rattle.f11_index.proofs.WalkLemmas.{in_use-within}
 use Rattle.f11_vfy.specs.Faults.{IsOwnFile}
@@ -29,7 +29,7 @@ use Rattle.f11_writes.specs.Kept.{WritesHeader}
 use Rattle.f11_writes.specs.Volumes.{KeepsOtherSlots, Shrinks, MayBecome}
 use Rattle.f11_writes.proofs.SetLemmas.{set-sound}
 use Rattle.f11_writes.proofs.ShrinkLemmas.{shrunk-sound}
-use Rattle.f11_writes.proofs.SlotLemmas.{SparesOwn, framed-slot, volume-slot, slot-kept}
+use Rattle.f11_writes.proofs.SlotLemmas.{own-first, SparesOwn, IsPlacedAt, header-placed-at, slot-keeps}
 
 -- What a block must be in order to become header n where that is one of the volume's own files: none of file 2's or 3's, as good as a header of
 -- file 1 that leads to the same, or as good as the first of file 4.
@@ -117,43 +117,22 @@ module _ (image : Image) (home : HomeFields) (is : HasSoundVolume image home) (n
               };
               sequence = ap file_sequence keeps.header ∙ fit.sequence ∙ was.sequence;
             })
-        | inr away ↦
-            let same = others.header 4 away own.file.live.in_use in
-            record {
-              file = record {
-                live = record { in_use = in-use-at 4 ∙ own.file.live.in_use; valid = subst (λ (b : List ℕ). IsHeader b 4) (sym same) own.file.live.valid };
-                first = ap segment_number same ∙ own.file.first;
-              };
-              sequence = ap file_sequence same ∙ own.sequence;
-            }
+        | inr away ↦ own-first t u n 4 others away own
       ]
 
-  place : ℕ
-  place = 2 + home.index_blocks + (n - 1)
-
-  at : slice_get (index_file image home) place ≡ Some lbn
-  unfolding place
-  at = header_at image home good n some few
-
-  not-home : place ≢ 1
-  unfolding place
-  not-home same = omega (arith, same)
+  placed : IsPlacedAt image home lbn
+  placed = header-placed-at image home n good some few
 
   spares : SparesOwn n t u
   spares = record { others = others; two = fits.two; three = fits.three; four = four }
 
-  -- the volume with the headers that there are now
   abbrev with-table : Volume
   with-table = record (volume_of image home) { table = u }
 
   writes : IsSoundVolume with-table → WritesHeader n block home image new
   writes sound = record {
-    slot = slot-kept image home is lbn block place at not-home n spares
-        (record {
-          framed = framed-slot image home is lbn block place at not-home n spares indexed (subst HasNonePast (sym keeps.index) is.framed.none_past);
-          sound = subst IsSoundVolume (sym (volume-slot image home is lbn block place at not-home n spares)) sound;
-        })
-        (ap (λ (xs : List ℕ). slice_get xs place) keeps.file ∙ at);
+    slot = slot-keeps image home is lbn block placed n spares indexed (subst HasNonePast (sym keeps.index) is.framed.none_past)
+        (ap (λ (xs : List ℕ). slice_get xs placed.place) keeps.file ∙ placed.at) sound;
     index_file = keeps;
     in_use = in-use-same;
   }

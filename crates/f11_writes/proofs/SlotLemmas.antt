@@ -1,5 +1,5 @@
 -- A write of one block of the index file that leaves all slots but one.
-use Rattle.std.proofs.Common.{◌≡◌, ◌≢◌, ℕ, ◌+◌, ◌<◌, ◌≤◌, List, length, map, Some, sym, ap, subst, ◌∙◌, inl, inr, arith, All, Contains}
+use Rattle.std.proofs.Common.{◌≡◌, ◌≢◌, ℕ, ◌-◌, ◌+◌, ◌<◌, ◌≤◌, List, length, map, Some, sym, ap, subst, ◌∙◌, inl, inr, arith, All, Contains}
 use Rattle.std.proofs.Math.ListN.{set}
 use Rattle.std.specs.List.{slice_get}
 use Rattle.std.proofs.lemmas.Bool.{cases_eq}
@@ -14,7 +14,8 @@ use Rattle.f11_home.specs.Home.{HomeFields, candidate}
 use Rattle.f11_index.specs.ChangeLaws.{StaysHeader}
 use Rattle.f11_index.specs.HeaderBlock.{segment_number, link_of, blocks_named}
 use Rattle.f11_index.specs.Headers.{headers_of}
-use Rattle.f11_index.specs.IndexFile.{index_of, index_file, HasNonePast}
+use Rattle.f11_index.specs.IndexFile.{index_of, index_file, slots, header_lbn, HasNonePast}
+use Rattle.f11_index.proofs.LawLemmas.{header_at}
 use Rattle.f11_index.specs.Sound.{IsIndexFile}
 use Rattle.f11_index.specs.Table.{Table, table_of, IsFile, IsHeaderOf, first, IsWholeFile}
 use Rattle.f11_index.proofs.ChainLemmas.{live_of-header}
@@ -25,9 +26,9 @@ use Rattle.f11_chain.proofs.ChangeLemmas.{file-stays}
 use Rattle.f11_vfy.specs.Contents.{block_or_zeros}
 use Rattle.f11_vfy.specs.Earlier.{IsNamedIn}
 use Rattle.f11_vfy.specs.Faults.{IsOwnFile, IsFramed}
-use Rattle.f11_vfy.specs.Sound.{HasSoundVolume}
+use Rattle.f11_vfy.specs.Sound.{IsSoundVolume, HasSoundVolume}
 use Rattle.f11_vfy.specs.Space.{bitmap_file, storage_bitmap}
-use Rattle.f11_vfy.specs.Volume.{volume_of}
+use Rattle.f11_vfy.specs.Volume.{Volume, volume_of}
 use Rattle.f11_vfy.proofs.FileLemmas.{image-files, index-apart, place-at}
 use Rattle.f11_writes.specs.Kept.{file_in, said_of, KeepsButSlot}
 use Rattle.f11_writes.specs.Volumes.{KeepsOtherSlots}
@@ -35,6 +36,21 @@ use Rattle.f11_writes.proofs.ContentLemmas.{file-as, said-alike, file-alike, blo
 use Rattle.f11_writes.proofs.FrameLemmas.{CandidatesStay, ControlStays, bitmap-stays, framed, free-stays, volume-with-headers}
 use Rattle.f11_writes.proofs.OtherLemmas.{control-at}
 use Rattle.f11_writes.proofs.OwnerLemmas.{in-file, owned-once, in-index-file, in-bitmap-file}
+
+-- the first header of one of the volume's own files
+pub own-first : (t u : Table) (n f : ℕ) → KeepsOtherSlots n t u → f ≢ n → IsOwnFile t f → IsOwnFile u f
+own-first t u n f others away own =
+    let same = others.header f away own.file.live.in_use in
+    record {
+      file = record {
+        live = record {
+          in_use = others.in_use f away ∙ own.file.live.in_use;
+          valid = subst (λ (b : List ℕ). IsHeader b f) (sym same) own.file.live.valid;
+        };
+        first = ap segment_number same ∙ own.file.first;
+      };
+      sequence = ap file_sequence same ∙ own.sequence;
+    }
 
 -- the headers of a file that header n isn't one of
 module _ (t u : Table) (n f : ℕ) (others : KeepsOtherSlots n t u) (whole : IsWholeFile t f) (away : ¬ IsHeaderOf t f n) where
@@ -70,7 +86,7 @@ module _ (t u : Table) (n f : ℕ) (others : KeepsOtherSlots n t u) (whole : IsW
   blocks-kept = (file-stays t u f listed-same).1
 
   pub own-kept : IsOwnFile t f → IsOwnFile u f
-  own-kept own = record { file = whole-kept.file; sequence = ap file_sequence (same-header f (first whole.file)) ∙ own.sequence }
+  own-kept own = own-first t u n f others (λ here. away (subst (IsHeaderOf t f) here (first whole.file))) own
 
   pub named-kept : (lbn : ℕ) → IsNamedIn t f lbn → IsNamedIn u f lbn
   named-kept lbn (m, of, has) = (m, header-kept m of, subst (λ (b : List ℕ). Contains (blocks_named b) lbn) (sym (same-header m of)) has)
@@ -89,8 +105,21 @@ pub record SparesOwn (n : ℕ) (old new : Table) : Type 0 where
   pub three : ¬ IsHeaderOf old 3 n
   pub four : IsOwnFile new 4
 
-module _ (image : Image) (home : HomeFields) (is : HasSoundVolume image home) (lbn : ℕ) (block : List ℕ) (place : ℕ) (at : slice_get (index_file image home) place ≡ Some lbn)
-    (not_home : place ≢ 1) where
+-- Where a block is in the index file: it isn't the home block.
+pub record IsPlacedAt (image : Image) (home : HomeFields) (lbn : ℕ) : Type 0 where
+  pub place : ℕ
+  pub at : slice_get (index_file image home) place ≡ Some lbn
+  pub not_home : place ≢ 1
+
+pub header-placed-at : (image : Image) (home : HomeFields) (n : ℕ) → IsIndexFile image home → 0 < n → n ≤ slots (index_of image home)
+    → IsPlacedAt image home (header_lbn (index_of image home) n)
+header-placed-at image home n good some few = record {
+  place = 2 + home.index_blocks + (n - 1);
+  at = header_at image home good n some few;
+  not_home = λ same. omega (arith, same);
+}
+
+module _ (image : Image) (home : HomeFields) (is : HasSoundVolume image home) (lbn : ℕ) (block : List ℕ) (placed : IsPlacedAt image home lbn) where
   abbrev new : Image
   new = set image lbn block
 
@@ -104,7 +133,7 @@ module _ (image : Image) (home : HomeFields) (is : HasSoundVolume image home) (l
   size = length-set image lbn block
 
   owned : IsNamedIn t 1 lbn
-  owned = in-index-file image home is place lbn at
+  owned = in-index-file image home is placed.place lbn placed.at
 
   -- a block of another file than the index file
   elsewhere : (f l : ℕ) → f ≢ 1 → IsNamedIn t f l → l ≢ lbn
@@ -119,7 +148,7 @@ module _ (image : Image) (home : HomeFields) (is : HasSoundVolume image home) (l
   candidates : CandidatesStay home image new
   candidates k low = elim (cases_eq (candidate k) home.lbn) [
     | inl here ↦ image_block-other image lbn (candidate k) block (λ same.
-        not_home (index-apart image home is place 1 lbn at (is.framed.indexed.file.placed.home_block ∙ ap Some (sym here ∙ same))))
+        placed.not_home (index-apart image home is placed.place 1 lbn placed.at (is.framed.indexed.file.placed.home_block ∙ ap Some (sym here ∙ same))))
     | inr before ↦ stays-of 3 (candidate k) (λ same. omega (arith, same)) (is.framed.indexed.earlier k (omega (arith, low, before)))
   ]
 
@@ -143,7 +172,7 @@ module _ (image : Image) (home : HomeFields) (is : HasSoundVolume image home) (l
       ]
     ]
 
-    pub framed-slot : IsIndexFile new home → HasNonePast (index_of new home) → IsFramed new home
+    framed-slot : IsIndexFile new home → HasNonePast (index_of new home) → IsFramed new home
     framed-slot indexed past =
         framed image new home is size control file candidates indexed
         (λ k below. named-kept t u n 3 spares.others three-whole spares.three (candidate k) (is.framed.indexed.earlier k below))
@@ -151,14 +180,14 @@ module _ (image : Image) (home : HomeFields) (is : HasSoundVolume image home) (l
         (whole-kept t u n 2 spares.others is.framed.bitmap.sound.whole spares.two)
         past
 
-    pub volume-slot : volume_of new home ≡ record (volume_of image home) { table = table_of new home }
+    volume-slot : volume_of new home ≡ record (volume_of image home) { table = table_of new home }
     unfolding volume_of
     volume-slot =
         volume-with-headers image new home is size control file
         ∙ (λ i. record { table = u; size = (volume_of image home).size; free = free-stays image new home is blocks i })
 
     -- once the volume is sound, which files are as they were
-    module _ (sound : HasSoundVolume new home) (there : slice_get (index_file new home) place ≡ Some lbn) where
+    module _ (sound : HasSoundVolume new home) (there : slice_get (index_file new home) placed.place ≡ Some lbn) where
       module _ (f : ℕ) (is_file : IsFile u f) where
         now-whole : IsWholeFile u f
         now-whole = ((image-files new home sound).each f is_file).whole
@@ -169,7 +198,7 @@ module _ (image : Image) (home : HomeFields) (is : HasSoundVolume image home) (l
             (file-as new u f now-whole).1
             ∙ blocks-alike image new (file_blocks u f) size (subst (λ (k : ℕ). All (λ l. l < k) (file_blocks u f)) size within) (λ i l here.
             image_block-other image lbn l block (λ same.
-            other (owned-once new home sound f 1 lbn (subst (IsNamedIn u f) same (in-file new home sound f i l is_file here)) (in-index-file new home sound place lbn there))))
+            other (owned-once new home sound f 1 lbn (subst (IsNamedIn u f) same (in-file new home sound f i l is_file here)) (in-index-file new home sound placed.place lbn there))))
 
         module _ (away : ¬ IsHeaderOf u f n) where
           back : KeepsOtherSlots n u t
@@ -186,7 +215,7 @@ module _ (image : Image) (home : HomeFields) (is : HasSoundVolume image home) (l
               let was = (file-as image t f was-whole).1 ∙ ap (map (block_or_zeros image)) (blocks-kept u t n f back now-whole away) in
               sym (file-alike new image u t f now-whole was-whole (headers-kept u t n f back now-whole away) (listed-same u t n f back now-whole away) (was ∙ sym (contents other)))
 
-      pub slot-kept : KeepsButSlot n home image new
+      slot-kept : KeepsButSlot n home image new
       slot-kept = record {
         sound = sound;
         bitmap = bitmap-stays image new home is size control file;
@@ -196,3 +225,12 @@ module _ (image : Image) (home : HomeFields) (is : HasSoundVolume image home) (l
         said = λ f is_file away. said f is_file away;
         contents = contents;
       }
+
+    -- the volume with the headers that there are now
+    abbrev pub with-table : Volume
+    with-table = record (volume_of image home) { table = u }
+
+    pub slot-keeps : IsIndexFile new home → HasNonePast (index_of new home) → slice_get (index_file new home) placed.place ≡ Some lbn → IsSoundVolume with-table
+        → KeepsButSlot n home image new
+    slot-keeps indexed past there sound =
+        slot-kept (record { framed = framed-slot indexed past; sound = subst IsSoundVolume (sym volume-slot) sound }) there
