@@ -10,3 +10,4 @@ pub mod SlotLemmas
 pub mod HeaderLemmas
 pub mod BitLemmas
 pub mod GrowLemmas
+pub mod NameLemmas

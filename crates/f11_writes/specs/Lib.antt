@@ -2,3 +2,4 @@ pub mod Kept
 pub mod Volumes
 pub mod Laws
 pub mod HeaderLaws
+pub mod NameLaws

@@ -1,6 +1,7 @@
 //! Laws of writes, each the contract of a function that does nothing: layers above cite them.
 ghost use Rattle.f11_writes.specs.HeaderLaws as headers;
 ghost use Rattle.f11_writes.specs.Laws as laws;
+ghost use Rattle.f11_writes.specs.NameLaws as names;
 ghost use Rattle.f11_writes.specs.Volumes as volumes;
 
 /// A volume that has lost headers, or has other blocks free.
@@ -46,4 +47,19 @@ pub fn bit_writes()
 pub fn growth()
     ensures names { headers.IndexFileMayGrow }
     ensures links { headers.IndexFileMayGrowByHeader }
+{}
+
+/// The blocks that no header names.
+pub fn unnamed_blocks()
+    ensures free { names.FreeIsUnnamed }
+    ensures taken { names.TakenAreSpare }
+    ensures lost { names.LostIsUnnamed }
+{}
+
+/// The blocks that a header may name.
+pub fn names()
+    ensures spare { names.SpareMayBeNamed }
+    ensures own { names.OwnMayBeNamed }
+    ensures more { names.MoreMayBeNamed }
+    ensures fewer { names.FewerMayBeNamed }
 {}
