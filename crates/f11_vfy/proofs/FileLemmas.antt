@@ -1,5 +1,5 @@
 -- The files of a sound volume.
-use Rattle.std.proofs.Common.{drop, slice_index, zero, Option, None, ◌≡◌, ◌<◌, ◌≤◌, ◌+◌, ◌-◌, ℕ, suc, List, [], ◌∷◌, length, take, Some, refl, sym, ap, subst, ◌∙◌, inl, inr, arith}
+use Rattle.std.proofs.Common.{map, drop, slice_index, zero, Option, None, ◌≡◌, ◌<◌, ◌≤◌, ◌+◌, ◌-◌, ℕ, suc, List, [], ◌∷◌, length, take, Some, refl, sym, ap, subst, ◌∙◌, inl, inr, arith}
 use Rattle.std.specs.List.{slice_get, flat_map}
 use Rattle.std.proofs.lemmas.Bool.{cases_eq, cases_lt}
 use Rattle.std.proofs.lemmas.List.{length-append, length-take, length-drop}
@@ -10,16 +10,16 @@ use Rattle.f11_index.specs.HeaderBlock.{segment_number, link_of, blocks_named}
 use Rattle.f11_index.specs.Headers.{next_of, headers_from, headers_of, IsChained}
 use Rattle.f11_index.specs.IndexFile.{index_file}
 use Rattle.f11_index.specs.Sound.{AreApart}
-use Rattle.f11_index.specs.Table.{Table, table_of, IsFile, IsHeaderOf, next, IsWholeFile}
+use Rattle.f11_index.specs.Table.{Table, table_of, IsFile, IsHeaderOf, first, next, IsWholeFile}
 use Rattle.f11_index.proofs.ChainLemmas.{live_of-header}
 use Rattle.f11_index.proofs.NextLemmas.{next-found}
 use Rattle.f11_index.proofs.HeadersLemmas.{live-some, headers_from-some, headers_from-none, place-has, chained-whole, chained-apart}
-use Rattle.f11_chain.specs.FileHeaders.{file_blocks, IsSoundFile}
+use Rattle.f11_chain.specs.FileHeaders.{blocks_by, file_blocks, IsSoundFile}
 use Rattle.f11_chain.proofs.FileOneLemmas.{file-one}
 use Rattle.f11_vfy.specs.FileLaws.{HasOneOwner, AreSoundFiles}
 use Rattle.f11_vfy.specs.Sound.{IsSoundVolume, HasSoundVolume}
 use Rattle.f11_vfy.specs.Volume.{Volume, volume_of, IsCell}
-use Rattle.f11_vfy.specs.Contents.{following}
+use Rattle.f11_vfy.specs.Contents.{following, block_or_zeros, file_of}
 use Rattle.f11_vfy.specs.Space.{bitmap_count, bitmap_file, control_block, storage_bitmap}
 use Rattle.f11_vfy.proofs.MemberLemmas.{contained, all-from, all-each, at-place}
 use Rattle.f11_vfy.proofs.PlaceLemmas.{following-none}
@@ -193,3 +193,8 @@ reached-are (suc most) t f {n} whole of =
       | inr goes ↦ ap (following most t) ((next-found t n to).1 goes) ∙ reached-are most t f whole (next of goes)
     ] in
     ap (λ hs. n ∷ hs) rest ∙ sym (headers_from-some most t n some)
+
+pub file-blocks-are : (image : Image) (t : Table) (f : ℕ) → IsWholeFile t f → (file_of image t f).blocks ≡ map (block_or_zeros image) (file_blocks t f)
+unfolding file_of file_blocks
+file-blocks-are image t f whole =
+    ap (λ (hs : List ℕ). map (block_or_zeros image) (blocks_by t hs)) (reached-are 256 t f whole (first whole.file))

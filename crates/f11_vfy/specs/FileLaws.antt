@@ -1,5 +1,5 @@
 -- Laws of the files of a sound volume (Files-11 On-Disk Structure Level 1, "File Header" and "Map Area").
-use Rattle.std.specs.Prelude.{◌≡◌, ℕ, length, Some}
+use Rattle.std.specs.Prelude.{◌≡◌, ℕ, length, map, Some}
 use Rattle.std.specs.List.{slice_get}
 use Rattle.f11_bits.specs.Bitmap.{IsBitmap, LiesWithin}
 use Rattle.f11_dev.specs.Image.{Image}
@@ -9,7 +9,7 @@ use Rattle.f11_index.specs.IndexFile.{index_file}
 use Rattle.f11_index.specs.Sound.{AreApart}
 use Rattle.f11_index.specs.Table.{Table, table_of, IsFile, IsWholeFile}
 use Rattle.f11_chain.specs.FileHeaders.{file_blocks, IsSoundFile}
-use Rattle.f11_vfy.specs.Contents.{headers_reached}
+use Rattle.f11_vfy.specs.Contents.{headers_reached, block_or_zeros, file_of}
 use Rattle.f11_vfy.specs.Sound.{IsSoundVolume, HasSoundVolume}
 use Rattle.f11_vfy.specs.Space.{storage_bitmap}
 use Rattle.f11_vfy.specs.Volume.{Volume}
@@ -48,3 +48,7 @@ StorageBitmapIsOne =
 -- the headers that are reached from the first of a whole file are the file's
 abbrev pub ReachedAreTheFiles : Type 0
 ReachedAreTheFiles = (t : Table) (f : ℕ) → IsWholeFile t f → headers_reached t f ≡ headers_of t f
+
+-- so its blocks are what the blocks that they name hold
+abbrev pub FileHasItsBlocks : Type 0
+FileHasItsBlocks = (image : Image) (t : Table) (f : ℕ) → IsWholeFile t f → (file_of image t f).blocks ≡ map (block_or_zeros image) (file_blocks t f)

@@ -29,4 +29,5 @@ pub fn files()
     ensures index { files.IndexFileIsApart }
     ensures bitmap { files.StorageBitmapIsOne }
     ensures reached { files.ReachedAreTheFiles }
+    ensures blocks { files.FileHasItsBlocks }
 {}

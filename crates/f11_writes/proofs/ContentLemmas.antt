@@ -14,9 +14,9 @@ use Rattle.f11_index.specs.Headers.{headers_of}
 use Rattle.f11_index.proofs.HeadersLemmas.{header-placed}
 use Rattle.f11_index.specs.Laws.{BlocksStay}
 use Rattle.f11_index.specs.Table.{Table, IsWholeFile, first}
-use Rattle.f11_chain.specs.FileHeaders.{blocks_by, file_blocks, IsSoundFile}
+use Rattle.f11_chain.specs.FileHeaders.{file_blocks, IsSoundFile}
 use Rattle.f11_vfy.specs.Contents.{headers_reached, block_or_zeros, pointer_count, room_left, file_of}
-use Rattle.f11_vfy.proofs.FileLemmas.{reached-are}
+use Rattle.f11_vfy.proofs.FileLemmas.{reached-are, file-blocks-are}
 use Rattle.f11_vfy.proofs.MemberLemmas.{all-each, contained}
 use Rattle.f11_writes.proofs.ImageLemmas.{same-read, same-or}
 
@@ -38,13 +38,6 @@ map-but f g lbn block (x ∷ xs) (suc i) at once here others =
     let front = others x (λ same. let place = once 0 (ap Some same) in omega (arith, place)) in
     ap (λ (b : List ℕ). b ∷ map f xs) front
     ∙ ap (λ (bs : List (List ℕ)). g x ∷ bs) (map-but f g lbn block xs i at (λ j there. let place = once (suc j) there in omega (arith, place)) here others)
-
--- the headers of a whole file and its blocks are those that are reached
-pub file-as : (image : Image) (t : Table) (f : ℕ) → IsWholeFile t f
-    → (headers_reached t f ≡ headers_of t f) × ((file_of image t f).blocks ≡ map (block_or_zeros image) (file_blocks t f))
-unfolding file_of file_blocks
-file-as image t f whole =
-    let reached = reached-are 256 t f whole (first whole.file) in (reached, ap (λ (hs : List ℕ). map (block_or_zeros image) (blocks_by t hs)) reached)
 
 -- what a sum is made of
 sum-alike : (f g : ℕ → ℕ) (xs : List ℕ) → ((i x : ℕ) → slice_get xs i ≡ Some x → f x ≡ g x) → sum_by f xs ≡ sum_by g xs
@@ -115,7 +108,7 @@ pub file-stays-in : (old new : Image) (t : Table) (f : ℕ) → IsWholeFile t f 
     → file_of new t f ≡ file_of old t f
 file-stays-in old new t f whole size sound stay =
     file-alike old new t t f whole whole refl (λ n listed. refl)
-    ((file-as new t f whole).1 ∙ blocks-alike old new (file_blocks t f) size sound.within stay ∙ sym (file-as old t f whole).1)
+    (file-blocks-are new t f whole ∙ blocks-alike old new (file_blocks t f) size sound.within stay ∙ sym (file-blocks-are old t f whole))
 
 -- one of its blocks was written
 pub file-written : (image : Image) (t : Table) (f i lbn : ℕ) (block : List ℕ) → IsWholeFile t f → lbn < length image → slice_get (file_blocks t f) i ≡ Some lbn
@@ -127,5 +120,5 @@ file-written image t f i lbn block whole within at once =
     let is : map (block_or_zeros new) (file_blocks t f) ≡ set (map (block_or_zeros image) (file_blocks t f)) i block =
     map-but (block_or_zeros new) (block_or_zeros image) lbn block (file_blocks t f) i at once
     (get_or-set_same image lbn block zero_block within) (λ x other. get_or-set_other image lbn x block zero_block other) in
-    let blocks = (file-as new t f whole).1 ∙ is ∙ ap (λ (bs : List (List ℕ)). set bs i block) (sym (file-as image t f whole).1) in
+    let blocks = file-blocks-are new t f whole ∙ is ∙ ap (λ (bs : List (List ℕ)). set bs i block) (sym (file-blocks-are image t f whole)) in
     λ i. record (file_of image t f) { blocks = blocks i }

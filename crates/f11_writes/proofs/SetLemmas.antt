@@ -12,7 +12,31 @@ use Rattle.f11_index.proofs.ChainLemmas.{live_of-header}
 use Rattle.f11_index.proofs.HeadersLemmas.{link_number, live-some}
 use Rattle.f11_vfy.specs.Sound.{LinksOn, IsSoundVolume}
 use Rattle.f11_vfy.specs.Volume.{Volume, IsCell, IsLinked}
-use Rattle.f11_writes.specs.Volumes.{LinksAnew, MayLink, none, same, anew, MayBecome, HasHeader}
+use Rattle.f11_chain.specs.Laws.{StayBefore}
+use Rattle.f11_index.specs.ChangeLaws.{IsAsGood, StayUpTo}
+use Rattle.f11_writes.specs.Volumes.{KeepsOtherSlots, LinksAnew, MayLink, none, same, anew, MayBecome, HasHeader}
+
+-- the headers of a file before one, where all other slots are as they were
+pub stay-before : (old new : Table) (f n : ℕ) → KeepsOtherSlots n old new → StayBefore f n old new
+stay-before old new f n others m of below =
+    others.header m (λ same. omega (arith, below, ap (λ (k : ℕ). segment_number (old.header k)) same)) (live_of-header of).in_use
+
+pub stay-up-to : (old new : Table) (f n : ℕ) → IsHeaderOf old f n → KeepsOtherSlots n old new → IsAsGood old new n → StayUpTo f n old new
+stay-up-to old new f n last others good = record {
+  good = λ m of up. elim (cases_eq m n) [
+    | inl here ↦ subst (IsAsGood old new) (sym here) good
+    | inr away ↦
+        let live = live_of-header of in
+        let same = others.header m away live.in_use in
+        record {
+          in_use = others.in_use m away ∙ live.in_use;
+          valid = subst (λ (b : List ℕ). IsHeader b m) (sym same) live.valid;
+          sequence = ap file_sequence same;
+          segment = ap segment_number same;
+        }
+  ];
+  links = λ m of below. ap link_of (stay-before old new f n others m of below);
+}
 
 -- a link of 0 leads to no header
 nowhere : {t : Table} {n m : ℕ} → link_number t n ≡ 0 → IsNext t n m → ⊥

@@ -29,10 +29,10 @@ use Rattle.f11_vfy.specs.Faults.{IsOwnFile, IsFramed}
 use Rattle.f11_vfy.specs.Sound.{IsSoundVolume, HasSoundVolume}
 use Rattle.f11_vfy.specs.Space.{bitmap_file, storage_bitmap}
 use Rattle.f11_vfy.specs.Volume.{Volume, volume_of}
-use Rattle.f11_vfy.proofs.FileLemmas.{image-files, index-apart, place-at}
+use Rattle.f11_vfy.proofs.FileLemmas.{image-files, index-apart, place-at, file-blocks-are}
 use Rattle.f11_writes.specs.Kept.{file_in, said_of, KeepsButSlot}
 use Rattle.f11_writes.specs.Volumes.{KeepsOtherSlots}
-use Rattle.f11_writes.proofs.ContentLemmas.{file-as, said-alike, file-alike, blocks-alike}
+use Rattle.f11_writes.proofs.ContentLemmas.{said-alike, file-alike, blocks-alike}
 use Rattle.f11_writes.proofs.FrameLemmas.{CandidatesStay, ControlStays, bitmap-stays, framed, free-stays, volume-with-headers}
 use Rattle.f11_writes.proofs.OtherLemmas.{control-at}
 use Rattle.f11_writes.proofs.OwnerLemmas.{in-file, owned-once, in-index-file, in-bitmap-file}
@@ -195,7 +195,7 @@ module _ (image : Image) (home : HomeFields) (is : HasSoundVolume image home) (l
         contents : f ≢ 1 → (file_in home f new).blocks ≡ map (block_or_zeros image) (file_blocks u f)
         contents other =
             let within = ((image-files new home sound).each f is_file).within in
-            (file-as new u f now-whole).1
+            file-blocks-are new u f now-whole
             ∙ blocks-alike image new (file_blocks u f) size (subst (λ (k : ℕ). All (λ l. l < k) (file_blocks u f)) size within) (λ i l here.
             image_block-other image lbn l block (λ same.
             other (owned-once new home sound f 1 lbn (subst (IsNamedIn u f) same (in-file new home sound f i l is_file here)) (in-index-file new home sound placed.place lbn there))))
@@ -212,7 +212,7 @@ module _ (image : Image) (home : HomeFields) (is : HasSoundVolume image home) (l
 
           same-file : f ≢ 1 → file_in home f new ≡ file_in home f image
           same-file other =
-              let was = (file-as image t f was-whole).1 ∙ ap (map (block_or_zeros image)) (blocks-kept u t n f back now-whole away) in
+              let was = file-blocks-are image t f was-whole ∙ ap (map (block_or_zeros image)) (blocks-kept u t n f back now-whole away) in
               sym (file-alike new image u t f now-whole was-whole (headers-kept u t n f back now-whole away) (listed-same u t n f back now-whole away) (was ∙ sym (contents other)))
 
       slot-kept : KeepsButSlot n home image new

@@ -3,12 +3,14 @@ use Rattle.std.specs.Prelude.{◌≡◌, ◌≢◌, ◌⊎◌, ℕ, ◌+◌, ◌
 use Rattle.std.specs.List.{slice_get}
 use Rattle.f11_header.specs.Fields.{file_sequence}
 use Rattle.f11_header.specs.Header.{IsHeader, IsDead}
+use Rattle.f11_index.specs.ChangeLaws.{IsAsGood, StayUpTo}
 use Rattle.f11_index.specs.Growth.{IsGoodFor}
 use Rattle.f11_index.specs.HeaderBlock.{segment_number, link_of, blocks_named}
 use Rattle.f11_index.specs.Headers.{headers_of, IsInFile}
 use Rattle.f11_index.specs.Sound.{AreApart}
-use Rattle.f11_index.specs.Table.{Table, IsLive, IsFile, IsNext}
+use Rattle.f11_index.specs.Table.{Table, IsLive, IsFile, IsNext, IsHeaderOf}
 use Rattle.f11_chain.specs.FileHeaders.{file_blocks}
+use Rattle.f11_chain.specs.Laws.{StayBefore}
 use Rattle.f11_vfy.specs.Sound.{IsSoundVolume}
 use Rattle.f11_vfy.specs.Volume.{Volume, IsCell}
 
@@ -67,6 +69,14 @@ pub record MayBecome (v : Volume) (n : ℕ) (block : List ℕ) : Type 0 where
 pub record KeepsOtherSlots (n : ℕ) (old new : Table) : Type 0 where
   pub in_use : (m : ℕ) → m ≢ n → new.in_use m ≡ old.in_use m
   pub header : (m : ℕ) → m ≢ n → old.in_use m ≡ true → new.header m ≡ old.header m
+
+-- then the headers of a file before that one stay
+abbrev pub OtherSlotsStayBefore : Type 0
+OtherSlotsStayBefore = (old new : Table) (f n : ℕ) → KeepsOtherSlots n old new → StayBefore f n old new
+
+-- and are as good and link as they did up to it, where it is as good
+abbrev pub OtherSlotsStayUpTo : Type 0
+OtherSlotsStayUpTo = (old new : Table) (f n : ℕ) → IsHeaderOf old f n → KeepsOtherSlots n old new → IsAsGood old new n → StayUpTo f n old new
 
 -- A volume has this block as header n, which is in use. All else is as it was.
 pub record HasHeader (n : ℕ) (block : List ℕ) (old new : Volume) : Type 0 where

@@ -15,6 +15,12 @@ pub fn set_volumes()
     ensures { volumes.SetIsSound }
 {}
 
+/// The headers of a file where all slots but one are as they were.
+pub fn other_slots()
+    ensures before { volumes.OtherSlotsStayBefore }
+    ensures up_to { volumes.OtherSlotsStayUpTo }
+{}
+
 /// A write of a block that the volume isn't read from.
 pub fn unread_writes()
     ensures any { laws.UnreadWriteKeeps }

@@ -1,5 +1,5 @@
 use Rattle.f11_index.specs.Table.{first}
-use Rattle.f11_vfy.proofs.FileLemmas.{volume-files, image-files, index-apart, bitmap-is, reached-are}
+use Rattle.f11_vfy.proofs.FileLemmas.{volume-files, image-files, index-apart, bitmap-is, reached-are, file-blocks-are}
 use Rattle.f11_vfy.proofs.laws.files.Goals as goal
 
 pub returns : goal.returns
@@ -8,5 +8,6 @@ returns c = record {
   image = image-files;
   index = index-apart;
   bitmap = bitmap-is;
+  blocks = file-blocks-are;
   reached = λ t f whole. reached-are 256 t f whole (first whole.file);
 }
