@@ -1,5 +1,5 @@
 -- A write of one block of the index file that leaves all slots but one.
-use Rattle.std.proofs.Common.{◌≡◌, ◌≢◌, ℕ, ◌-◌, ◌+◌, ◌<◌, ◌≤◌, List, length, map, Some, sym, ap, subst, ◌∙◌, inl, inr, arith, All, Contains}
+use Rattle.std.proofs.Common.{◌≡◌, ◌≢◌, ◌↔◌, ℕ, ◌-◌, ◌+◌, ◌<◌, ◌≤◌, List, length, map, Some, sym, ap, subst, ◌∙◌, inl, inr, arith, All, Contains}
 use Rattle.std.proofs.Math.ListN.{set}
 use Rattle.std.specs.List.{slice_get}
 use Rattle.std.proofs.lemmas.Bool.{cases_eq}
@@ -70,11 +70,8 @@ module _ (t u : Table) (n f : ℕ) (others : KeepsOtherSlots n t u) (whole : IsW
         link = ap link_of same;
       }
 
-  pub whole-kept : IsWholeFile u f
-  whole-kept = (whole-stays t u f whole each-stays).0
-
-  pub header-kept : (m : ℕ) → IsHeaderOf t f m → IsHeaderOf u f m
-  header-kept m of = ((whole-stays t u f whole each-stays).1 m).1 of
+  pub file-kept : IsWholeFile u f × ((m : ℕ) → IsHeaderOf u f m ↔ IsHeaderOf t f m)
+  file-kept = whole-stays t u f whole each-stays
 
   pub listed-same : (m : ℕ) → Contains (headers_of t f) m → u.header m ≡ t.header m
   listed-same m listed = same-header m (listed-are t f m whole listed)
@@ -89,7 +86,7 @@ module _ (t u : Table) (n f : ℕ) (others : KeepsOtherSlots n t u) (whole : IsW
   own-kept own = own-first t u n f others (λ here. away (subst (IsHeaderOf t f) here (first whole.file))) own
 
   pub named-kept : (lbn : ℕ) → IsNamedIn t f lbn → IsNamedIn u f lbn
-  named-kept lbn (m, of, has) = (m, header-kept m of, subst (λ (b : List ℕ). Contains (blocks_named b) lbn) (sym (same-header m of)) has)
+  named-kept lbn (m, of, has) = (m, (file-kept.1 m).1 of, subst (λ (b : List ℕ). Contains (blocks_named b) lbn) (sym (same-header m of)) has)
 
 -- the other way round
 turned : (t u : Table) (n : ℕ) → KeepsOtherSlots n t u → KeepsOtherSlots n u t
@@ -177,7 +174,7 @@ module _ (image : Image) (home : HomeFields) (is : HasSoundVolume image home) (l
         framed image new home is size control file candidates indexed
         (λ k below. named-kept t u n 3 spares.others three-whole spares.three (candidate k) (is.framed.indexed.earlier k below))
         own-files
-        (whole-kept t u n 2 spares.others is.framed.bitmap.sound.whole spares.two)
+        (file-kept t u n 2 spares.others is.framed.bitmap.sound.whole spares.two).0
         past
 
     volume-slot : volume_of new home ≡ record (volume_of image home) { table = table_of new home }
@@ -205,7 +202,7 @@ module _ (image : Image) (home : HomeFields) (is : HasSoundVolume image home) (l
           back = turned t u n spares.others
 
           was-whole : IsWholeFile t f
-          was-whole = whole-kept u t n f back now-whole away
+          was-whole = (file-kept u t n f back now-whole away).0
 
           said : said_of home f new ≡ said_of home f image
           said = sym (said-alike new image u t f now-whole was-whole (headers-kept u t n f back now-whole away) (listed-same u t n f back now-whole away))

@@ -1,5 +1,5 @@
 -- How a sound volume may change and be sound still, said of its headers and its free blocks alone.
-use Rattle.std.specs.Prelude.{◌≡◌, ◌≢◌, ◌⊎◌, ℕ, ◌+◌, ◌<◌, true, false, List, Some}
+use Rattle.std.specs.Prelude.{◌≡◌, ◌≢◌, ◌⊎◌, ◌↔◌, ℕ, ◌+◌, ◌<◌, true, false, List, Some}
 use Rattle.std.specs.List.{slice_get}
 use Rattle.f11_header.specs.Fields.{file_sequence}
 use Rattle.f11_header.specs.Header.{IsHeader, IsDead}
@@ -8,7 +8,7 @@ use Rattle.f11_index.specs.Growth.{IsGoodFor}
 use Rattle.f11_index.specs.HeaderBlock.{segment_number, link_of, blocks_named}
 use Rattle.f11_index.specs.Headers.{headers_of, IsInFile}
 use Rattle.f11_index.specs.Sound.{AreApart}
-use Rattle.f11_index.specs.Table.{Table, IsLive, IsFile, IsNext, IsHeaderOf}
+use Rattle.f11_index.specs.Table.{Table, IsLive, IsFile, IsNext, IsHeaderOf, IsWholeFile}
 use Rattle.f11_chain.specs.FileHeaders.{file_blocks}
 use Rattle.f11_chain.specs.Laws.{StayBefore}
 use Rattle.f11_vfy.specs.Sound.{IsSoundVolume}
@@ -70,7 +70,13 @@ pub record KeepsOtherSlots (n : ℕ) (old new : Table) : Type 0 where
   pub in_use : (m : ℕ) → m ≢ n → new.in_use m ≡ old.in_use m
   pub header : (m : ℕ) → m ≢ n → old.in_use m ≡ true → new.header m ≡ old.header m
 
--- then the headers of a file before that one stay
+-- then a whole file that header n isn't one of is whole still, and has the headers that it had
+abbrev pub OtherFilesStay : Type 0
+OtherFilesStay =
+    (old new : Table) (n f : ℕ) → KeepsOtherSlots n old new → IsWholeFile old f → ¬ IsHeaderOf old f n →
+    IsWholeFile new f × ((m : ℕ) → IsHeaderOf new f m ↔ IsHeaderOf old f m)
+
+-- of one that it is one of, those before it stay
 abbrev pub OtherSlotsStayBefore : Type 0
 OtherSlotsStayBefore = (old new : Table) (f n : ℕ) → KeepsOtherSlots n old new → StayBefore f n old new
 

@@ -17,6 +17,7 @@ pub fn set_volumes()
 
 /// The headers of a file where all slots but one are as they were.
 pub fn other_slots()
+    ensures files { volumes.OtherFilesStay }
     ensures before { volumes.OtherSlotsStayBefore }
     ensures up_to { volumes.OtherSlotsStayUpTo }
 {}
