@@ -11,3 +11,4 @@ pub mod HeaderLemmas
 pub mod BitLemmas
 pub mod GrowLemmas
 pub mod NameLemmas
+pub mod WorkedLemmas

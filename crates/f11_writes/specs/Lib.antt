@@ -3,3 +3,4 @@ pub mod Volumes
 pub mod Laws
 pub mod HeaderLaws
 pub mod NameLaws
+pub mod Worked

@@ -3,6 +3,7 @@ ghost use Rattle.f11_writes.specs.HeaderLaws as headers;
 ghost use Rattle.f11_writes.specs.Laws as laws;
 ghost use Rattle.f11_writes.specs.NameLaws as names;
 ghost use Rattle.f11_writes.specs.Volumes as volumes;
+ghost use Rattle.f11_writes.specs.Worked as worked;
 
 /// A volume that has lost headers, or has other blocks free.
 pub fn shrunk_volumes()
@@ -69,4 +70,9 @@ pub fn names()
     ensures own { names.OwnMayBeNamed }
     ensures more { names.MoreMayBeNamed }
     ensures fewer { names.FewerMayBeNamed }
+{}
+
+/// A block of zeros that is added to a file, in three writes.
+pub fn worked_example()
+    ensures { worked.BlockIsAdded }
 {}
