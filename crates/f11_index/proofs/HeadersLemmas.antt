@@ -160,6 +160,25 @@ last-from (suc left) {t} {f} {n} bytes whole of end = elim (whole.links n of) [
 pub whole-last : (t : Table) (f : ℕ) → HasByteSegments t → IsWholeFile t f → (n : ℕ) × IsLastOf t f n
 whole-last t f bytes whole = last-from 256 bytes whole (first whole.file) (omega (arith, whole.file.first))
 
+-- its list ends there
+links-end-from : (left more : ℕ) {t : Table} {f n : ℕ} → HasByteSegments t → IsWholeFile t f → IsHeaderOf t f n → segment_number (t.header n) + left ≡ 256
+    → headers_from (left + more) t n ≡ headers_from left t n
+links-end-from zero more {t} {f} {n} bytes whole of end = absurd (omega (arith, end, bytes n))
+links-end-from (suc left) more {t} {f} {n} bytes whole of end =
+    let some : 0 < n = live-some (live_of-header of) in
+    let fuel : suc left + more ≡ suc (left + more) = omega arith in
+    let rest : headers_from (left + more) t (link_number t n) ≡ headers_from left t (link_number t n) = elim (whole.links n of) [
+      | inl none ↦
+          ap (headers_from (left + more) t) none ∙ headers_from-none (left + more) t
+          ∙ sym (ap (headers_from left t) none ∙ headers_from-none left t)
+      | inr goes ↦ links-end-from left more bytes whole (next of goes) (omega (arith, goes.segment, end))
+    ] in
+    ap (λ (most : ℕ). headers_from most t n) fuel ∙ headers_from-some (left + more) t n some
+    ∙ ap (λ (hs : List ℕ). n ∷ hs) rest ∙ sym (headers_from-some left t n some)
+
+pub links-end : (t : Table) (f more : ℕ) → HasByteSegments t → IsWholeFile t f → headers_from (256 + more) t f ≡ headers_of t f
+links-end t f more bytes whole = links-end-from 256 more bytes whole (first whole.file) (omega (arith, whole.file.first))
+
 -- no header's segment is behind that of the last
 pub last-highest : {t : Table} {f n m : ℕ} → IsLastOf t f n → IsHeaderOf t f m → segment_number (t.header m) ≤ segment_number (t.header n)
 last-highest {t} {f} {n} {m} last of = elim (cases_lt (segment_number (t.header n)) (segment_number (t.header m))) [

@@ -11,7 +11,7 @@ use Rattle.f11_home.specs.Home.{HomeFields}
 use Rattle.f11_index.specs.Calls.{SetsBit, with_bitmap_block, bitmap_block, bitmap_place}
 use Rattle.f11_index.specs.HeaderBlock.{link_of, blocks_named}
 use Rattle.f11_index.specs.IndexFile.{Index, index_of, index_file, headers_among, header_lbn, header_place, most_slots, slots, is_in_use}
-use Rattle.f11_index.specs.Laws.{LeadsAlike, KeepsIndexFile, KeepsButBit, KeepsButHeader}
+use Rattle.f11_index.specs.Laws.{BlocksStay, LeadsAlike, KeepsIndexFile, KeepsButBit, KeepsButHeader}
 use Rattle.f11_index.specs.Sound.{IsPlaced, IsIndexFile, IsNoneOf, AreApart}
 use Rattle.f11_index.specs.Table.{table_in, table_of, IsHeaderOf, IsWholeFile, last_sequence}
 use Rattle.f11_index.proofs.ChainLemmas.{live_of-header}
@@ -85,6 +85,51 @@ module _ (image : Image) (home : HomeFields) (good : IsIndexFile image home) whe
   pub bitmap_at : (i : ℕ) → i < home.index_blocks → slice_get all (2 + i) ≡ Some (home.index_lbn + i)
   bitmap_at i few = good.placed.bitmap_and_headers i (omega arith)
 
+  module _ (new : Image) where
+    headers_same : index_file new home ≡ all → (index_of new home).headers ≡ index.headers
+    unfolding index_of
+    headers_same file = ap (headers_among home) file
+
+    bitmap_stays : ((i : ℕ) → i < home.index_blocks → image_block new (home.index_lbn + i) ≡ image_block image (home.index_lbn + i)) → (index_of new home).bitmap ≡ index.bitmap
+    unfolding index_of
+    bitmap_stays stay = map-same (image_block new) (image_block image) home.index_blocks home.index_lbn stay
+
+    index_from : (bitmap : List (List ℕ)) → (index_of new home).bitmap ≡ bitmap → (index_of new home).headers ≡ index.headers → index_of new home ≡ record index { bitmap = bitmap }
+    unfolding index_of
+    index_from bitmap b h =
+        ap (λ (xs : List (List ℕ)). record { bitmap_lbn = home.index_lbn; bitmap = xs; headers = (index_of new home).headers }) b
+        ∙ ap (λ (hs : List ℕ). record { bitmap_lbn = home.index_lbn; bitmap = bitmap; headers = hs }) h
+
+    -- an image that has the index file's blocks as they were
+    module _ (size : length new ≡ length image) (stay : BlocksStay all image new) where
+      file : index_file new home ≡ all
+      file = file_same image new home good (λ m l of at.
+          let is = stay (header_place home m) l at in record { blocks = ap blocks_named is; link = ap link_of is })
+
+      index_is : index_of new home ≡ index
+      index_is = index_from index.bitmap (bitmap_stays (λ i few. stay (2 + i) (home.index_lbn + i) (bitmap_at i few))) (headers_same file)
+
+      table_is : table_of new home ≡ table_of image home
+      unfolding table_in
+      table_is = ap (table_in new) index_is ∙ (λ i. record {
+        slots = slots index;
+        in_use = is_in_use index;
+        header = λ m. stay (is_at m).place (header_lbn index m) (is_at m).at i;
+      })
+
+      pub other_images : KeepsIndexFile home image new
+      other_images = record {
+        file = file;
+        index = index_is;
+        table = table_is;
+        sound = record {
+          whole = subst (λ t. IsWholeFile t 1) (sym table_is) good.whole;
+          sequence = ap (λ t. last_sequence t 1) table_is ∙ good.sequence;
+          within = subst (λ (xs : List ℕ). All (λ l. l < length new) xs) (sym file) (subst (λ (n : ℕ). All (λ l. l < n) all) (sym size) good.within);
+          placed = subst (IsPlaced home) (sym file) good.placed;
+        };
+      }
+
   module _ (lbn : ℕ) (block : List ℕ) where
     abbrev new : Image
     new = set image lbn block
@@ -95,51 +140,12 @@ module _ (image : Image) (home : HomeFields) (good : IsIndexFile image home) whe
     alike : (l : ℕ) → l ≢ lbn → LeadsAlike (image_block image l) (image_block new l)
     alike l apart = record { blocks = ap blocks_named (same l apart); link = ap link_of (same l apart) }
 
-    headers_same : index_file new home ≡ all → (index_of new home).headers ≡ index.headers
-    unfolding index_of
-    headers_same file = ap (headers_among home) file
-
     pub bitmap_same : ((i : ℕ) → i < home.index_blocks → home.index_lbn + i ≢ lbn) → (index_of new home).bitmap ≡ index.bitmap
-    unfolding index_of
-    bitmap_same apart = map-same (image_block new) (image_block image) home.index_blocks home.index_lbn (λ i few. same (home.index_lbn + i) (apart i few))
-
-    index_from : (bitmap : List (List ℕ)) → (index_of new home).bitmap ≡ bitmap → (index_of new home).headers ≡ index.headers → index_of new home ≡ record index { bitmap = bitmap }
-    unfolding index_of
-    index_from bitmap b h =
-        ap (λ (xs : List (List ℕ)). record { bitmap_lbn = home.index_lbn; bitmap = xs; headers = (index_of new home).headers }) b
-        ∙ ap (λ (hs : List ℕ). record { bitmap_lbn = home.index_lbn; bitmap = bitmap; headers = hs }) h
+    bitmap_same apart = bitmap_stays new (λ i few. same (home.index_lbn + i) (apart i few))
 
     -- none of the index file's blocks
-    module _ (none : IsNoneOf lbn all) where
-      apart_at : (i l : ℕ) → slice_get all i ≡ Some l → l ≢ lbn
-      apart_at i l at e = none i (at ∙ ap Some e)
-
-      file : index_file new home ≡ all
-      file = file_same image new home good (λ m l of at. alike l (apart_at (header_place home m) l at))
-
-      index_is : index_of new home ≡ index
-      index_is = index_from index.bitmap (bitmap_same (λ i few. apart_at (2 + i) (home.index_lbn + i) (bitmap_at i few))) (headers_same file)
-
-      table_is : table_of new home ≡ table_of image home
-      unfolding table_in
-      table_is = ap (table_in new) index_is ∙ (λ i. record {
-        slots = slots index;
-        in_use = is_in_use index;
-        header = λ m. same (header_lbn index m) (apart_at (is_at m).place (header_lbn index m) (is_at m).at) i;
-      })
-
-      pub other_write : KeepsIndexFile home image new
-      other_write = record {
-        file = file;
-        index = index_is;
-        table = table_is;
-        sound = record {
-          whole = subst (λ t. IsWholeFile t 1) (sym table_is) good.whole;
-          sequence = ap (λ t. last_sequence t 1) table_is ∙ good.sequence;
-          within = subst (λ (xs : List ℕ). All (λ l. l < length new) xs) (sym file) (subst (λ (n : ℕ). All (λ l. l < n) all) (sym (length-set image lbn block)) good.within);
-          placed = subst (IsPlaced home) (sym file) good.placed;
-        };
-      }
+    pub other_write : IsNoneOf lbn all → KeepsIndexFile home image new
+    other_write none = other_images new (length-set image lbn block) (λ i l at. same l (λ e. none i (at ∙ ap Some e)))
 
     -- one of them, which stands at one place only
     module _ (apart : AreApart all) (at_place : ℕ) (at : slice_get all at_place ≡ Some lbn) where
@@ -164,7 +170,7 @@ module _ (image : Image) (home : HomeFields) (good : IsIndexFile image home) whe
     within : bitmap_place n < home.index_blocks
     within = omega (arith, some, few, few-slots image home)
 
-    at : slice_get all (2 + bitmap_place n) ≡ Some lbn
+    pub at : slice_get all (2 + bitmap_place n) ≡ Some lbn
     at = bitmap_at (bitmap_place n) within ∙ ap Some (sym lbn_is)
 
     bit_file : index_file (new lbn block) home ≡ all
@@ -179,7 +185,7 @@ module _ (image : Image) (home : HomeFields) (good : IsIndexFile image home) whe
         (λ i inside_is other. same lbn block (home.index_lbn + i) (elsewhere lbn block apart (2 + bitmap_place n) at (2 + i) (home.index_lbn + i) (bitmap_at i inside_is) (λ e. other (omega arith))))
 
     bit_index : index_of (new lbn block) home ≡ after
-    bit_index = index_from lbn block (set index.bitmap (bitmap_place n) block) bitmap_is (headers_same lbn block bit_file) ∙ sym bit.one_block
+    bit_index = index_from (new lbn block) (set index.bitmap (bitmap_place n) block) bitmap_is (headers_same (new lbn block) bit_file) ∙ sym bit.one_block
 
     bit_table : table_of (new lbn block) home ≡ record (table_of image home) { in_use = is_in_use after }
     unfolding table_in header_lbn
@@ -234,9 +240,9 @@ module _ (image : Image) (home : HomeFields) (good : IsIndexFile image home) whe
     header_file = file_same image header_new home good each_alike
 
     header_index : index_of header_new home ≡ index
-    header_index = index_from (header_lbn index n) written index.bitmap
+    header_index = index_from header_new index.bitmap
         (bitmap_same (header_lbn index n) written (λ i below. away (2 + i) (home.index_lbn + i) (bitmap_at i below) (λ e. omega arith)))
-        (headers_same (header_lbn index n) written header_file)
+        (headers_same header_new header_file)
 
     pub header_write : KeepsButHeader home n written image header_new
     unfolding table_in

@@ -3,7 +3,7 @@ use Rattle.std.specs.Prelude.{◌≡◌, ◌↔◌, ℕ, ◌+◌, ◌<◌, ◌�
 use Rattle.std.specs.List.{slice_get}
 use Rattle.f11_dev.specs.Image.{Image, IsImage}
 use Rattle.f11_index.specs.HeaderBlock.{segment_number}
-use Rattle.f11_index.specs.Headers.{is_live, next_of, headers_of, IsLastOf, IsInFile, IsChained, HasByteSegments}
+use Rattle.f11_index.specs.Headers.{is_live, next_of, headers_from, headers_of, IsLastOf, IsInFile, IsChained, HasByteSegments}
 use Rattle.f11_index.specs.IndexFile.{Index}
 use Rattle.f11_index.specs.Sound.{AreApart}
 use Rattle.f11_index.specs.Table.{Table, table_in, IsLive, IsFile, IsNext, IsHeaderOf, IsWholeFile}
@@ -54,6 +54,10 @@ HeadersAreApart = (t : Table) (f : ℕ) → IsWholeFile t f → AreApart (header
 -- 256 headers at most
 abbrev pub HeadersAreFew : Type 0
 HeadersAreFew = (t : Table) (f : ℕ) → length (headers_of t f) ≤ 256
+
+-- which are all of a whole file: however many more its links are followed for, no other comes
+abbrev pub LinksEnd : Type 0
+LinksEnd = (t : Table) (f more : ℕ) → HasByteSegments t → IsWholeFile t f → headers_from (256 + more) t f ≡ headers_of t f
 
 -- a whole file has a last header
 abbrev pub WholeHasLast : Type 0

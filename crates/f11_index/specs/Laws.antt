@@ -1,7 +1,8 @@
 -- Laws of the index file: what a write of one block leaves of it (Files-11 On-Disk Structure Level 1, "Index File").
-use Rattle.std.specs.Prelude.{◌≡◌, ◌≢◌, ℕ, ◌<◌, ◌≤◌, Bool, IsTrue, List, length, slice_set}
+use Rattle.std.specs.Prelude.{◌≡◌, ◌≢◌, ℕ, ◌<◌, ◌≤◌, Bool, IsTrue, List, length, Some, slice_set}
+use Rattle.std.specs.List.{slice_get}
 use Rattle.f11_dev.specs.Disk.{Disk, with_transfer, with_block_at}
-use Rattle.f11_dev.specs.Image.{Image}
+use Rattle.f11_dev.specs.Image.{Image, image_block}
 use Rattle.f11_home.specs.Home.{HomeFields}
 use Rattle.f11_index.specs.ChangeLaws.{StaysHeader}
 use Rattle.f11_index.specs.Calls.{SetsBit, WritesBit, with_bitmap_block}
@@ -18,13 +19,23 @@ pub record KeepsIndexFile (home : HomeFields) (old new : Image) : Type 0 where
   pub table : table_of new home ≡ table_of old home
   pub sound : IsIndexFile new home
 
--- a write of a block that is none of the index file's leaves it
+-- these blocks are as they were
+abbrev pub BlocksStay : List ℕ → Image → Image → Type 0
+BlocksStay lbns old new = (i lbn : ℕ) → slice_get lbns i ≡ Some lbn → image_block new lbn ≡ image_block old lbn
+
+-- an image of the same size that has the index file's blocks as they were keeps it
+abbrev pub OtherImagesKeep : Type 0
+OtherImagesKeep =
+    (old new : Image) (home : HomeFields) → IsIndexFile old home → length new ≡ length old → BlocksStay (index_file old home) old new →
+    KeepsIndexFile home old new
+
+-- so a write of a block that is none of the index file's leaves it
 abbrev pub OtherWriteKeeps : Type 0
 OtherWriteKeeps =
     (image : Image) (home : HomeFields) (lbn : ℕ) (block : List ℕ) →
     IsIndexFile image home → IsNoneOf lbn (index_file image home) → KeepsIndexFile home image (slice_set image lbn block)
 
--- so what is kept of a disk's index file is for that disk still
+-- and what is kept of a disk's index file is for that disk still
 abbrev pub OtherWriteStaysFor : Type 0
 OtherWriteStaysFor =
     (index : Index) (home : HomeFields) (disk : Disk) (passed : Bool) (lbn : ℕ) (block : List ℕ) →

@@ -23,12 +23,13 @@ pub fn lists()
     ensures listed { headers.HeadersAreListed }
 {}
 
-/// The list of a whole file's headers has them alone, each once.
+/// The list of a whole file's headers has them alone, each once, and its links lead to no others.
 pub fn whole_lists()
     ensures place { headers.PlaceHasHeader }
     ensures alone { headers.ListedAreHeaders }
     ensures apart { headers.HeadersAreApart }
     ensures few { headers.HeadersAreFew }
+    ensures end { headers.LinksEnd }
 {}
 
 /// A file's last header.
@@ -54,8 +55,9 @@ pub fn changed_headers()
     ensures next { changes.NextBecomesLast }
 {}
 
-/// A write of a block that is none of the index file's.
+/// A write of blocks that are none of the index file's.
 pub fn other_writes()
+    ensures images { laws.OtherImagesKeep }
     ensures keeps { laws.OtherWriteKeeps }
     ensures stays { laws.OtherWriteStaysFor }
 {}

@@ -224,7 +224,10 @@ sound-from : (image : Image) → IsImage image → IsAccepted image → IsSoundI
 sound-from image is accepted =
     let found = home-found image (λ none. accepted 1 0 0 (of_frame 1 0 (no_home none))) in
     let framed : IsFramed image found.0 = framed-from image found.0 is (λ code a fault. accepted code a 0 (of_frame code a (behind_home found.0 code a found.1 fault))) found.1 in
-    record { home = found.0; framed = framed; sound = (no-fault-sound (volume_of image found.0)).0 (λ code a b fault. accepted code a b (of_volume found.0 code a b framed fault)) }
+    record {
+      home = found.0;
+      volume = record { framed = framed; sound = (no-fault-sound (volume_of image found.0)).0 (λ code a b fault. accepted code a b (of_volume found.0 code a b framed fault)) };
+    }
 
 accepted-from : (image : Image) → IsSoundImage image → IsAccepted image
 accepted-from image sound code a b (of_frame c d fault) = frame-none image sound.home c d sound.framed fault

@@ -364,4 +364,4 @@ module _ (image : Image) (l : Layout) (is : IsImage image) (room : l.blocks ≤ 
   }
 
   pub fresh-sound : IsSoundImage image
-  fresh-sound = record { home = home; framed = framed; sound = sound-table }
+  fresh-sound = record { home = home; volume = record { framed = framed; sound = sound-table } }

@@ -37,3 +37,4 @@ pub mod FramePartLemmas
 pub mod FrameReadLemmas
 pub mod VerifyLemmas
 pub mod OverLemmas
+pub mod FileLemmas

@@ -8,10 +8,10 @@ use Rattle.std.proofs.lemmas.Option.{slice_get_within, slice_get-get_or, get_or_
 use Rattle.f11_index.proofs.PlaceLemmas.{slice_get-append_front, slice_get-range, range-slice_get}
 use Rattle.f11_map.proofs.MapLemmas.{slice_get-append_back}
 
-at-place : (xs : List ℕ) (x : ℕ) (has : Contains xs x) → slice_get xs has.0 ≡ Some x
+pub at-place : (xs : List ℕ) (x : ℕ) (has : Contains xs x) → slice_get xs has.0 ≡ Some x
 at-place xs x has = slice_get-get_or xs has.0 x has.1 ∙ ap Some has.2
 
-contained : (xs : List ℕ) (i x : ℕ) → slice_get xs i ≡ Some x → Contains xs x
+pub contained : (xs : List ℕ) (i x : ℕ) → slice_get xs i ≡ Some x → Contains xs x
 contained xs i x at = (i, slice_get_within xs i x at, get_or_from_slice_get xs i x x at)
 
 pub in-front : (xs ys : List ℕ) (x : ℕ) → Contains xs x → Contains (xs ++ ys) x
@@ -41,7 +41,7 @@ pub range-has : (lbn n x : ℕ) → lbn ≤ x → x < lbn + n → Contains (rang
 range-has lbn n x low high = contained (range_with_len lbn n) (x - lbn) x (range-slice_get lbn n (x - lbn) (omega (arith, low, high)) ∙ ap Some (omega (arith, low)))
 
 -- what holds of each element
-all-from : (P : ℕ → Type 0) (xs : List ℕ) → ((x : ℕ) → Contains xs x → P x) → All P xs
+pub all-from : (P : ℕ → Type 0) (xs : List ℕ) → ((x : ℕ) → Contains xs x → P x) → All P xs
 all-from P xs each = λ k d below. each (get_or xs k d) (contained xs k (get_or xs k d) (slice_get-get_or xs k d below))
 
 pub all-each : (P : ℕ → Type 0) (xs : List ℕ) → All P xs → (x : ℕ) → Contains xs x → P x

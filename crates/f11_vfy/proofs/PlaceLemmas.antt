@@ -115,7 +115,7 @@ unfolding following
 following-more t most zero some = absurd (omega arith)
 following-more t most (suc n) some = refl
 
-following-none : (t : Table) (most : ℕ) → following most t None ≡ []
+pub following-none : (t : Table) (most : ℕ) → following most t None ≡ []
 unfolding following
 following-none t zero = refl
 following-none t (suc most) = refl

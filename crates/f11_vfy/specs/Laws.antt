@@ -1,12 +1,14 @@
 -- Laws of the verifier's findings, which show that its definitions say what is meant (profile).
-use Rattle.std.specs.Prelude.{◌≡◌, ◌↔◌, ℕ}
+use Rattle.std.specs.Prelude.{◌≡◌, ◌↔◌, ℕ, ◌≤◌, length}
 use Rattle.f11_dev.specs.Image.{Image, IsImage}
 use Rattle.f11_home.specs.Home.{HomeFields}
 use Rattle.f11_index.specs.IndexFile.{index_of}
 use Rattle.f11_index.specs.Table.{Table}
+use Rattle.f11_layout.specs.declared.layout.Layout.{Layout}
 use Rattle.f11_store.specs.Directory.{is_directory}
 use Rattle.f11_vfy.specs.Contents.{file_of}
 use Rattle.f11_vfy.specs.Faults.{IsFramed, IsFrameFault, IsVolumeFault}
+use Rattle.f11_vfy.specs.Fresh.{IsFreshVolume}
 use Rattle.f11_vfy.specs.Reading.{volume_in}
 use Rattle.f11_vfy.specs.Slot.{says_directory}
 use Rattle.f11_vfy.specs.Space.{storage_bitmap}
@@ -30,6 +32,10 @@ FaultlessIsSound = (v : Volume) → ((code a b : ℕ) → ¬ IsVolumeFault v cod
 -- an image is accepted exactly where it is sound
 abbrev pub AcceptedIsSound : Type 0
 AcceptedIsSound = (image : Image) → IsImage image → IsAccepted image ↔ IsSoundImage image
+
+-- an image on which a fresh volume was made is sound
+abbrev pub FreshIsSound : Type 0
+FreshIsSound = (l : Layout) (old new : Image) → IsImage new → l.blocks ≤ length new → IsFreshVolume l old new → IsSoundImage new
 
 -- a file is a directory where its first header says so
 abbrev pub DirectoryIsSaid : Type 0

@@ -16,6 +16,7 @@ pub mod Later
 pub mod DirectoryNotes
 pub mod Verify
 pub mod Laws
+pub mod FileLaws
 pub mod Bits
 pub mod Count
 pub mod Slot

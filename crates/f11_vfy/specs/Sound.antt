@@ -31,8 +31,13 @@ pub record IsSoundVolume (v : Volume) : Type 0 where
   -- which is the next of that one alone
   pub once : (n one other : ℕ) → IsInFile v.table one → IsInFile v.table other → IsNext v.table one n → IsNext v.table other n → one ≡ other
 
--- An image is sound: its frame is as it should be, and so is the volume in it.
-pub record IsSoundImage (image : Image) : Type 0 where
-  pub home : HomeFields
+-- The frame of an image with this home block is as it should be, and so is the volume in it.
+pub record HasSoundVolume (image : Image) (home : HomeFields) : Type 0 where
   pub framed : IsFramed image home
   pub sound : IsSoundVolume (volume_of image home)
+
+-- An image is sound: it has a home block, and a sound volume with it.
+pub record IsSoundImage (image : Image) : Type 0 where
+  pub home : HomeFields
+  pub volume : HasSoundVolume image home
+  pub open volume use *

@@ -1,0 +1,14 @@
+pub mod ShrinkLemmas
+pub mod SetLemmas
+pub mod ImageLemmas
+pub mod OwnerLemmas
+pub mod FrameLemmas
+pub mod ContentLemmas
+pub mod OtherLemmas
+pub mod BitmapLemmas
+pub mod SlotLemmas
+pub mod HeaderLemmas
+pub mod BitLemmas
+pub mod GrowLemmas
+pub mod NameLemmas
+pub mod WorkedLemmas

@@ -1,0 +1,116 @@
+-- The blocks that a header may name, and those that none names.
+use Rattle.std.proofs.Common.{◌≡◌, ◌⊎◌, ℕ, ◌+◌, ◌-◌, ◌<◌, ◌≤◌, true, false, List, ◌++◌, length, take, Some, refl, sym, ap, subst, ◌∙◌, inl, inr, arith}
+use Rattle.std.specs.List.{slice_get, range_with_len}
+use Rattle.std.proofs.lemmas.Bool.{cases_eq, cases_lt}
+use Rattle.std.proofs.lemmas.List.{length-take, get_or-take}
+use Rattle.std.proofs.lemmas.Option.{slice_get_within, slice_get-get_or, get_or_from_slice_get}
+use Rattle.f11_bits.specs.Bitmap.{is_free, Marks}
+use Rattle.f11_dev.specs.Image.{Image}
+use Rattle.f11_header.specs.Header.{IsHeader}
+use Rattle.f11_home.specs.Home.{HomeFields}
+use Rattle.f11_index.specs.HeaderBlock.{blocks_named}
+use Rattle.f11_index.specs.Table.{IsLive}
+use Rattle.f11_index.proofs.PlaceLemmas.{slice_get-append_front, slice_get-range}
+use Rattle.f11_map.proofs.MapLemmas.{slice_get-append_back}
+use Rattle.f11_vfy.specs.Sound.{IsSoundVolume, HasSoundVolume}
+use Rattle.f11_vfy.specs.Space.{storage_bitmap}
+use Rattle.f11_vfy.specs.Volume.{Volume, volume_of, IsCell, IsNamed}
+use Rattle.f11_writes.specs.Kept.{KeepsButFree}
+use Rattle.f11_writes.specs.NameLaws.{AreSpare}
+use Rattle.f11_writes.specs.Volumes.{KeepsOtherSlots, MayName}
+use Rattle.f11_writes.proofs.BitmapLemmas.{used-keeps}
+
+pub free-unnamed : (v : Volume) (lbn : ℕ) → IsSoundVolume v → v.free lbn ≡ true → ¬ IsNamed v.table lbn
+free-unnamed v lbn sound free named = let used = sym free ∙ sound.taken named.header named.place lbn named.cell in cc
+
+pub taken-spare : (old new : Image) (home : HomeFields) (lbn count : ℕ) → HasSoundVolume old home → Marks false (storage_bitmap old home) lbn count old new
+    → lbn + count ≤ (storage_bitmap old home).size → ((k : ℕ) → lbn ≤ k → k < lbn + count → is_free old (storage_bitmap old home) k ≡ true) → AreSpare (volume_of new home) lbn count
+unfolding volume_of
+taken-spare old new home lbn count is marks inside free =
+    let kept : KeepsButFree home old new = used-keeps old new home lbn count is marks in
+    subst (λ (v : Volume). AreSpare v lbn count) (sym kept.volume) (record {
+      inside = inside;
+      used = marks.inside;
+      unnamed = λ k low high. free-unnamed (volume_of old home) k is.sound (free k low high);
+    })
+
+-- a block of numbers in a row
+in-row : (lbn count i k : ℕ) → slice_get (range_with_len lbn count) i ≡ Some k → (lbn ≤ k) × (k < lbn + count)
+in-row lbn count i k at = let is = slice_get-range lbn count i k at in (omega (arith, is.1), omega (arith, is.0, is.1))
+
+pub spare-names : (v : Volume) (n lbn count : ℕ) → AreSpare v lbn count → MayName v n (range_with_len lbn count)
+spare-names v n lbn count spare = record {
+  inside = λ i k at. let row = in-row lbn count i k at in omega (arith, row.1, spare.inside);
+  used = λ i k at. let row = in-row lbn count i k at in spare.used k row.0 row.1;
+  alone = λ i k m place at away cell. let row = in-row lbn count i k at in spare.unnamed k row.0 row.1 (record { header = m; place = place; cell = cell });
+  apart = λ i j k one other. let here = slice_get-range lbn count i k one in let there = slice_get-range lbn count j k other in omega (arith, here.1, there.1);
+}
+
+pub own-names : (v : Volume) (n : ℕ) → IsSoundVolume v → IsLive v.table n → MayName v n (blocks_named (v.table.header n))
+own-names v n sound live =
+    let cell : (i k : ℕ) → slice_get (blocks_named (v.table.header n)) i ≡ Some k → IsCell v.table n i k = λ i k at. record { live = live; names = at } in
+    record {
+      inside = λ i k at. sound.inside n i k (cell i k at);
+      used = λ i k at. sound.taken n i k (cell i k at);
+      alone = λ i k m place at away other. away (sym (sound.apart n i m place k (cell i k at) other).0);
+      apart = λ i j k one other. (sound.apart n i n j k (cell i k one) (cell j k other)).1;
+    }
+
+-- what stands in two lists, one behind the other
+either-at : (xs ys : List ℕ) (i x : ℕ) → slice_get (xs ++ ys) i ≡ Some x → (slice_get xs i ≡ Some x) ⊎ (length xs ≤ i) × (slice_get ys (i - length xs) ≡ Some x)
+either-at xs ys i x at = elim (cases_lt i (length xs)) [
+  | inl front ↦
+      let here = slice_get-get_or xs i x front in
+      inl (here ∙ sym (slice_get-append_front xs ys i _ here) ∙ at)
+  | inr behind ↦ inr (behind, sym (slice_get-append_back xs ys i (length xs) refl behind) ∙ at)
+]
+
+both-names : (v : Volume) (n : ℕ) (xs ys : List ℕ) → MayName v n xs → MayName v n ys → ((i j k : ℕ) → slice_get xs i ≡ Some k → ¬ (slice_get ys j ≡ Some k)) → MayName v n (xs ++ ys)
+both-names v n xs ys one other away = record {
+  inside = λ i k at. elim (either-at xs ys i k at) [ inl here ↦ one.inside i k here | inr there ↦ other.inside _ k there.1 ];
+  used = λ i k at. elim (either-at xs ys i k at) [ inl here ↦ one.used i k here | inr there ↦ other.used _ k there.1 ];
+  alone = λ i k m place at. elim (either-at xs ys i k at) [ inl here ↦ one.alone i k m place here | inr there ↦ other.alone _ k m place there.1 ];
+  apart = λ i j k at too. go i j k (either-at xs ys i k at) (either-at xs ys j k too);
+}
+  where
+    go : (i j k : ℕ) → (slice_get xs i ≡ Some k) ⊎ (length xs ≤ i) × (slice_get ys (i - length xs) ≡ Some k)
+        → (slice_get xs j ≡ Some k) ⊎ (length xs ≤ j) × (slice_get ys (j - length xs) ≡ Some k) → i ≡ j
+    go i j k (inl here) (inl there) = one.apart i j k here there
+    go i j k (inl here) (inr there) = absurd (away i _ k here there.1)
+    go i j k (inr there) (inl here) = absurd (away j _ k here there.1)
+    go i j k (inr here) (inr there) = let same = other.apart _ _ k here.1 there.1 in omega (arith, same, here.0, there.0)
+
+pub more-names : (v : Volume) (n lbn count : ℕ) → IsSoundVolume v → IsLive v.table n → AreSpare v lbn count → MayName v n (blocks_named (v.table.header n) ++ range_with_len lbn count)
+more-names v n lbn count sound live spare =
+    both-names v n (blocks_named (v.table.header n)) (range_with_len lbn count) (own-names v n sound live) (spare-names v n lbn count spare) (λ i j k at there.
+    let row = in-row lbn count j k there in
+    spare.unnamed k row.0 row.1 (record { header = n; place = i; cell = record { live = live; names = at } }))
+
+pub fewer-names : (v : Volume) (n count : ℕ) (lbns : List ℕ) → MayName v n lbns → MayName v n (take count lbns)
+fewer-names v n count lbns may = record {
+  inside = λ i k at. may.inside i k (before i k at);
+  used = λ i k at. may.used i k (before i k at);
+  alone = λ i k m place at. may.alone i k m place (before i k at);
+  apart = λ i j k one other. may.apart i j k (before i k one) (before j k other);
+}
+  where
+    before : (i k : ℕ) → slice_get (take count lbns) i ≡ Some k → slice_get lbns i ≡ Some k
+    before i k at =
+        let within = slice_get_within (take count lbns) i k at in
+        let size = length-take count lbns in
+        slice_get-get_or lbns i k (omega (arith, within, size))
+        ∙ ap Some (sym (get_or-take count lbns i k (omega (arith, within, size))) ∙ get_or_from_slice_get (take count lbns) i k k at)
+
+pub lost-unnamed : (old new : Volume) (n place lbn : ℕ) → IsSoundVolume old → KeepsOtherSlots n old.table new.table → IsCell old.table n place lbn
+    → ((i : ℕ) → ¬ IsCell new.table n i lbn) → ¬ IsNamed new.table lbn
+lost-unnamed old new n place lbn sound others was gone named = elim (cases_eq named.header n) [
+  | inl here ↦ gone named.place (subst (λ (m : ℕ). IsCell new.table m named.place lbn) here named.cell)
+  | inr away ↦
+      let used = sym (others.in_use named.header away) ∙ named.cell.live.in_use in
+      let same = others.header named.header away used in
+      let cell : IsCell old.table named.header named.place lbn = record {
+        live = record { in_use = used; valid = subst (λ (b : List ℕ). IsHeader b named.header) same named.cell.live.valid };
+        names = ap (λ (b : List ℕ). slice_get (blocks_named b) named.place) (sym same) ∙ named.cell.names;
+      } in
+      away (sound.apart named.header named.place n place lbn cell was).0
+]

@@ -1,0 +1,54 @@
+-- Laws of the blocks that a header may name, and of those that none names (Files-11 On-Disk Structure Level 1, "Map Area" and "Storage Bitmap
+-- File").
+use Rattle.std.specs.Prelude.{◌≡◌, ℕ, ◌+◌, ◌<◌, ◌≤◌, true, false, List, ◌++◌, take}
+use Rattle.std.specs.List.{range_with_len}
+use Rattle.f11_bits.specs.Bitmap.{is_free, Marks}
+use Rattle.f11_dev.specs.Image.{Image}
+use Rattle.f11_home.specs.Home.{HomeFields}
+use Rattle.f11_index.specs.HeaderBlock.{blocks_named}
+use Rattle.f11_index.specs.Table.{IsLive}
+use Rattle.f11_vfy.specs.Sound.{IsSoundVolume, HasSoundVolume}
+use Rattle.f11_vfy.specs.Space.{storage_bitmap}
+use Rattle.f11_vfy.specs.Volume.{Volume, volume_of, IsCell, IsNamed}
+use Rattle.f11_writes.specs.Volumes.{KeepsOtherSlots, MayName}
+
+-- So many blocks in a row are spare: in the volume, used, and named by no header.
+pub record AreSpare (v : Volume) (lbn count : ℕ) : Type 0 where
+  pub inside : lbn + count ≤ v.size
+  pub used : (k : ℕ) → lbn ≤ k → k < lbn + count → v.free k ≡ false
+  pub unnamed : (k : ℕ) → lbn ≤ k → k < lbn + count → ¬ IsNamed v.table k
+
+-- no header names a free block
+abbrev pub FreeIsUnnamed : Type 0
+FreeIsUnnamed = (v : Volume) (lbn : ℕ) → IsSoundVolume v → v.free lbn ≡ true → ¬ IsNamed v.table lbn
+
+-- so free blocks are spare once they are marked used
+abbrev pub TakenAreSpare : Type 0
+TakenAreSpare =
+    (old new : Image) (home : HomeFields) (lbn count : ℕ) → HasSoundVolume old home → Marks false (storage_bitmap old home) lbn count old new →
+    lbn + count ≤ (storage_bitmap old home).size → ((k : ℕ) → lbn ≤ k → k < lbn + count → is_free old (storage_bitmap old home) k ≡ true) →
+    AreSpare (volume_of new home) lbn count
+
+-- any header may name these
+abbrev pub SpareMayBeNamed : Type 0
+SpareMayBeNamed = (v : Volume) (n lbn count : ℕ) → AreSpare v lbn count → MayName v n (range_with_len lbn count)
+
+-- a live one those that it names
+abbrev pub OwnMayBeNamed : Type 0
+OwnMayBeNamed = (v : Volume) (n : ℕ) → IsSoundVolume v → IsLive v.table n → MayName v n (blocks_named (v.table.header n))
+
+-- and spare ones behind them
+abbrev pub MoreMayBeNamed : Type 0
+MoreMayBeNamed =
+    (v : Volume) (n lbn count : ℕ) → IsSoundVolume v → IsLive v.table n → AreSpare v lbn count →
+    MayName v n (blocks_named (v.table.header n) ++ range_with_len lbn count)
+
+-- and the first of those that a header may name it may name alone
+abbrev pub FewerMayBeNamed : Type 0
+FewerMayBeNamed = (v : Volume) (n count : ℕ) (lbns : List ℕ) → MayName v n lbns → MayName v n (take count lbns)
+
+-- a block that header n named, and doesn't now, is named by none where the other slots are as they were
+abbrev pub LostIsUnnamed : Type 0
+LostIsUnnamed =
+    (old new : Volume) (n place lbn : ℕ) → IsSoundVolume old → KeepsOtherSlots n old.table new.table → IsCell old.table n place lbn →
+    ((i : ℕ) → ¬ IsCell new.table n i lbn) → ¬ IsNamed new.table lbn

@@ -1,0 +1,78 @@
+//! Laws of writes, each the contract of a function that does nothing: layers above cite them.
+ghost use Rattle.f11_writes.specs.HeaderLaws as headers;
+ghost use Rattle.f11_writes.specs.Laws as laws;
+ghost use Rattle.f11_writes.specs.NameLaws as names;
+ghost use Rattle.f11_writes.specs.Volumes as volumes;
+ghost use Rattle.f11_writes.specs.Worked as worked;
+
+/// A volume that has lost headers, or has other blocks free.
+pub fn shrunk_volumes()
+    ensures sound { volumes.ShrunkIsSound }
+    ensures files { volumes.ShrunkKeepsFiles }
+{}
+
+/// A volume one of whose headers is set.
+pub fn set_volumes()
+    ensures { volumes.SetIsSound }
+{}
+
+/// The headers of a file where all slots but one are as they were.
+pub fn other_slots()
+    ensures files { volumes.OtherFilesStay }
+    ensures before { volumes.OtherSlotsStayBefore }
+    ensures up_to { volumes.OtherSlotsStayUpTo }
+{}
+
+/// A write of a block that the volume isn't read from.
+pub fn unread_writes()
+    ensures any { laws.UnreadWriteKeeps }
+    ensures file { laws.FileWriteKeeps }
+    ensures unnamed { laws.UnnamedWriteKeeps }
+{}
+
+/// A write of blocks of the storage bitmap.
+pub fn bitmap_writes()
+    ensures any { laws.BitmapWriteKeeps }
+    ensures used { laws.UsedMarksKeep }
+    ensures free { laws.FreeMarksKeep }
+{}
+
+/// A header that is written where it is.
+pub fn header_writes()
+    ensures unused { headers.UnusedHeaderWriteKeeps }
+    ensures killed { headers.KillKeeps }
+    ensures any { headers.HeaderRewriteKeeps }
+    ensures file { headers.FileHeaderRewriteKeeps }
+{}
+
+/// A slot's bit that is written.
+pub fn bit_writes()
+    ensures set { headers.BitSetKeeps }
+    ensures clear { headers.BitClearKeeps }
+{}
+
+/// An index file that grows at its end.
+pub fn growth()
+    ensures names { headers.IndexFileMayGrow }
+    ensures links { headers.IndexFileMayGrowByHeader }
+{}
+
+/// The blocks that no header names.
+pub fn unnamed_blocks()
+    ensures free { names.FreeIsUnnamed }
+    ensures taken { names.TakenAreSpare }
+    ensures lost { names.LostIsUnnamed }
+{}
+
+/// The blocks that a header may name.
+pub fn names()
+    ensures spare { names.SpareMayBeNamed }
+    ensures own { names.OwnMayBeNamed }
+    ensures more { names.MoreMayBeNamed }
+    ensures fewer { names.FewerMayBeNamed }
+{}
+
+/// A block of zeros that is added to a file, in three writes.
+pub fn worked_example()
+    ensures { worked.BlockIsAdded }
+{}
