@@ -1,3 +1,4 @@
+pub mod OtherSlotLemmas
 pub mod ShrinkLemmas
 pub mod SetLemmas
 pub mod ImageLemmas

@@ -33,8 +33,7 @@ use Rattle.f11_writes.proofs.BitmapLemmas.{used-keeps}
 use Rattle.f11_writes.proofs.HeaderLemmas.{file-rewrite-keeps}
 use Rattle.f11_writes.proofs.NameLemmas.{taken-spare, more-names}
 use Rattle.f11_writes.proofs.OtherLemmas.{unnamed-keeps}
-use Rattle.f11_writes.proofs.SetLemmas.{stay-before, stay-up-to}
-use Rattle.f11_writes.proofs.SlotLemmas.{file-kept}
+use Rattle.f11_writes.proofs.OtherSlotLemmas.{file-kept, stay-before, stay-up-to}
 
 module _ (old marked : Image) (home : HomeFields) (f n lbn : ℕ) (header : List ℕ) (is : HasSoundVolume old home) (may : NamesOneMore (table_of old home) f n lbn header)
     (free : is_free old (storage_bitmap old home) lbn ≡ true) (marks : Marks false (storage_bitmap old home) lbn 1 old marked) where
