@@ -1,0 +1,2 @@
+pub mod StoreOf
+pub mod StoreLaws
