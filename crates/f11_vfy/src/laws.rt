@@ -13,6 +13,7 @@ pub fn frames()
 pub fn sound()
     ensures volume { laws.FaultlessIsSound }
     ensures image { laws.AcceptedIsSound }
+    ensures home { laws.AcceptedHasSoundVolume }
     ensures fresh { laws.FreshIsSound }
 {}
 

@@ -13,8 +13,8 @@ use Rattle.f11_vfy.specs.Sound.{IsSoundVolume}
 use Rattle.f11_vfy.specs.Volume.{Volume, IsCell}
 use Rattle.f11_writes.specs.OtherSlots.{KeepsOtherSlots}
 
--- A volume has lost headers, or has other blocks free: each header that is live was so before, and is as it was; none that a header of a
--- file links to was lost, but with that one; and no block that is named became free.
+-- A volume has lost headers, or has other blocks free: each header that is live was so before, and is as it was; where a header of a file
+-- is live still, so is its next; and no block that is named became free.
 pub record Shrinks (old new : Volume) : Type 0 where
   pub size : new.size ≡ old.size
   pub headers : (n : ℕ) → new.table.in_use n ≡ true → IsDead (new.table.header n) ⊎ IsHeader (new.table.header n) n
