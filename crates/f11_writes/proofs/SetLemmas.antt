@@ -13,7 +13,7 @@ use Rattle.f11_index.proofs.HeadersLemmas.{link_number}
 use Rattle.f11_vfy.specs.Sound.{LinksOn, IsSoundVolume}
 use Rattle.f11_vfy.specs.Volume.{Volume, IsCell, IsLinked}
 use Rattle.f11_writes.proofs.OtherSlotLemmas.{nowhere, same-now, live-was}
-use Rattle.f11_writes.specs.Volumes.{LinksAnew, MayLink, none, same, anew, MayBecome, HasHeader}
+use Rattle.f11_writes.specs.Volumes.{LinksAnew, MayLink, links_to_none, links_as_before, links_anew, MayBecome, HasHeader}
 
 module _ (old new : Volume) (n : ℕ) (block : List ℕ) (o : IsSoundVolume old) (may : MayBecome old n block) (s : HasHeader n block old new) where
   abbrev t : Table
@@ -100,9 +100,9 @@ module _ (old new : Volume) (n : ℕ) (block : List ℕ) (o : IsSoundVolume old)
     where
       -- behind header n
       behind : MayLink old n block → IsNext u n a → IsInFile t a ⊎ (link_number u a ≡ 0)
-      behind (none zero_is) on = absurd (nowhere (number-here ∙ zero_is) on)
-      behind (same in_file link) on = inl (record { file = in_file.file; of = next in_file.of (next-was n a in_file (link-here ∙ link) on) })
-      behind (anew links) on =
+      behind (links_to_none zero_is) on = absurd (nowhere (number-here ∙ zero_is) on)
+      behind (links_as_before in_file link) on = inl (record { file = in_file.file; of = next in_file.of (next-was n a in_file (link-here ∙ link) on) })
+      behind (links_anew links) on =
           let to : (link_of block).number ≡ a = sym number-here ∙ on.number in
           inr (ap (λ (h : List ℕ). (link_of h).number) (same-now t u n s.others a other on.to.in_use) ∙ subst (λ (k : ℕ). link_number t k ≡ 0) to links.no_link)
 
@@ -170,9 +170,9 @@ module _ (old new : Volume) (n : ℕ) (block : List ℕ) (o : IsSoundVolume old)
       }
 
   links-here : MayLink old n block → link_number u n ≢ 0 → LinksOn u n
-  links-here (none zero_is) some = absurd (some (number-here ∙ zero_is))
-  links-here (same was link) some = keeps-link n was (link-here ∙ link) some
-  links-here (anew l) some = links-anew l
+  links-here (links_to_none zero_is) some = absurd (some (number-here ∙ zero_is))
+  links-here (links_as_before was link) some = keeps-link n was (link-here ∙ link) some
+  links-here (links_anew l) some = links-anew l
 
   links : (a : ℕ) → IsLinked u a → LinksOn u a
   links a linked = elim (cases_eq a n) [
@@ -188,9 +188,9 @@ module _ (old new : Volume) (n : ℕ) (block : List ℕ) (o : IsSoundVolume old)
   one b m away in_file goes comes = go (in-file-was in_file.file in_file.of away)
     where
       by : IsInFile t b → MayLink old n block → ⊥
-      by was (none zero_is) = nowhere (number-here ∙ zero_is) goes
-      by was (same also link) = away (o.once m b n was also (other-next-was b m away was comes) (next-was n m also (link-here ∙ link) goes))
-      by was (anew l) = l.no_other b was (subst (IsNext t b) (sym goes.number ∙ number-here) (other-next-was b m away was comes))
+      by was (links_to_none zero_is) = nowhere (number-here ∙ zero_is) goes
+      by was (links_as_before also link) = away (o.once m b n was also (other-next-was b m away was comes) (next-was n m also (link-here ∙ link) goes))
+      by was (links_anew l) = l.no_other b was (subst (IsNext t b) (sym goes.number ∙ number-here) (other-next-was b m away was comes))
 
       go : IsInFile t b ⊎ (link_number u b ≡ 0) → ⊥
       go (inl was) = by was may.link

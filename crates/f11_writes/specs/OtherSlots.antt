@@ -19,15 +19,15 @@ OtherFilesStay =
     (old new : Table) (n f : ℕ) → KeepsOtherSlots n old new → IsWholeFile old f → ¬ IsHeaderOf old f n →
     IsWholeFile new f × ((m : ℕ) → IsHeaderOf new f m ↔ IsHeaderOf old f m)
 
--- of one that it is one of, those before it stay
+-- each header of a file before header n stays
 abbrev pub OtherSlotsStayBefore : Type 0
 OtherSlotsStayBefore = (old new : Table) (f n : ℕ) → KeepsOtherSlots n old new → StayBefore f n old new
 
--- and are as good and link as they did up to it, where it is as good
+-- and where header n is as good, so are the headers of its file up to it, and those before it link as they did
 abbrev pub OtherSlotsStayUpTo : Type 0
 OtherSlotsStayUpTo = (old new : Table) (f n : ℕ) → IsHeaderOf old f n → KeepsOtherSlots n old new → IsAsGood old new n → StayUpTo f n old new
 
--- where header n isn't live then, each header of a file was one of that file
+-- where header n isn't live now, each header of a file was one of that file
 abbrev pub OtherHeadersWere : Type 0
 OtherHeadersWere = (old new : Table) (n f m : ℕ) → KeepsOtherSlots n old new → ¬ IsLive new n → IsHeaderOf new f m → IsHeaderOf old f m
 

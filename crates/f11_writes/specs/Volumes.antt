@@ -13,8 +13,8 @@ use Rattle.f11_vfy.specs.Sound.{IsSoundVolume}
 use Rattle.f11_vfy.specs.Volume.{Volume, IsCell}
 use Rattle.f11_writes.specs.OtherSlots.{KeepsOtherSlots}
 
--- A volume has lost headers, or has other blocks free: each header that is live was so before, and is as it was; none that a header of a
--- file links to was lost, but with that one; and no block that is named became free.
+-- A volume has lost headers, or has other blocks free: each header that is live was so before, and is as it was; where a header of a file
+-- is live still, so is its next; and no block that is named became free.
 pub record Shrinks (old new : Volume) : Type 0 where
   pub size : new.size ≡ old.size
   pub headers : (n : ℕ) → new.table.in_use n ≡ true → IsDead (new.table.header n) ⊎ IsHeader (new.table.header n) n
@@ -53,9 +53,9 @@ pub record LinksAnew (v : Volume) (block : List ℕ) : Type 0 where
 
 -- header n may have the link of this block: it is none, the one that it has, or one to a header that is then its next
 pub data MayLink (v : Volume) (n : ℕ) (block : List ℕ) : Type 0 where
-  none : (link_of block).number ≡ 0 → MayLink v n block
-  same : IsInFile v.table n → link_of block ≡ link_of (v.table.header n) → MayLink v n block
-  anew : LinksAnew v block → MayLink v n block
+  links_to_none : (link_of block).number ≡ 0 → MayLink v n block
+  links_as_before : IsInFile v.table n → link_of block ≡ link_of (v.table.header n) → MayLink v n block
+  links_anew : LinksAnew v block → MayLink v n block
 
 -- A block may become header n: it is valid, as good as the one there where that is live, and may name its blocks and have its link.
 pub record MayBecome (v : Volume) (n : ℕ) (block : List ℕ) : Type 0 where

@@ -75,7 +75,9 @@ pub fn names()
     ensures fewer { names.FewerMayBeNamed }
 {}
 
-/// A block of zeros that is added to a file, in three writes.
-pub fn worked_example()
-    ensures { worked.BlockIsAdded }
+/// A block of zeros that is added to a file, an empty file that is made, and one that is deleted, each in two or three writes.
+pub fn worked_examples()
+    ensures added { worked.BlockIsAdded }
+    ensures made { worked.FileIsMade }
+    ensures deleted { worked.FileIsDeleted }
 {}

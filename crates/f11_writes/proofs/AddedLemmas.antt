@@ -27,7 +27,7 @@ use Rattle.f11_vfy.specs.Volume.{Volume, volume_of, IsNamed}
 use Rattle.f11_vfy.proofs.FileLemmas.{image-files, volume-within, file-blocks-are}
 use Rattle.f11_writes.specs.Kept.{file_in, KeepsFiles, KeepsButFree, WritesHeader}
 use Rattle.f11_writes.specs.NameLaws.{AreSpare}
-use Rattle.f11_writes.specs.Volumes.{MayName, MayBecome, none}
+use Rattle.f11_writes.specs.Volumes.{MayName, MayBecome, links_to_none}
 use Rattle.f11_writes.specs.Worked.{NamesOneMore, zeroed, with_block_added, AddsBlock}
 use Rattle.f11_writes.proofs.BitmapLemmas.{used-keeps}
 use Rattle.f11_writes.proofs.HeaderLemmas.{file-rewrite-keeps}
@@ -80,7 +80,7 @@ module _ (old marked : Image) (home : HomeFields) (f n lbn : ℕ) (header : List
         valid = may.good.valid;
         good = λ live. fits.good;
         names = subst (MayName v n) (sym fits.names) (more-names v n lbn 1 two.keeps.sound.sound (live_of-header fits.last.of) also);
-        link = none may.no_link;
+        link = links_to_none may.no_link;
       }
 
   -- the header was written
