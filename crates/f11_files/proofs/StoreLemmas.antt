@@ -58,7 +58,7 @@ pub file-stays : (old new : Image) (t : Table) (n : ℕ) → (IsFile t n → as_
 file-stays old new t n same = file-at new t n (file_at old t n) (λ file. ap Some (same file) ∙ sym (file-at old t n _ (λ _. refl) (λ none. absurd (none file)))) (λ none. sym (file-at old t n None (λ file. absurd (none file)) (λ _. refl)))
 
 -- the number of free blocks, as the volume says it
-free-count : (image : Image) (home : HomeFields) → free_blocks image (storage_bitmap image home) ≡ count_below (volume_of image home).free (volume_of image home).size
+pub free-count : (image : Image) (home : HomeFields) → free_blocks image (storage_bitmap image home) ≡ count_below (volume_of image home).free (volume_of image home).size
 unfolding volume_of
 free-count image home = refl
 

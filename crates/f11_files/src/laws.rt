@@ -1,4 +1,5 @@
 //! Laws of the store of an image, each the contract of a function that does nothing.
+ghost use Rattle.f11_files.specs.SlotLaws as slots;
 ghost use Rattle.f11_files.specs.StoreLaws as laws;
 
 /// Whether a header is a file's first is found by a test.
@@ -16,4 +17,9 @@ pub fn block_writes()
 pub fn bitmap_writes()
     ensures used { laws.FewerAreFree }
     ensures free { laws.MoreAreFree }
+{}
+
+/// A write of one slot, of its header or of its bit.
+pub fn slot_writes()
+    ensures { slots.SlotIsStored }
 {}
