@@ -13,7 +13,7 @@ use Rattle.f11_vfy.specs.Volume.{Volume}
 use Rattle.f11_writes.specs.Kept.{KeepsButSlot}
 use Rattle.f11_writes.proofs.OtherSlotLemmas.{turned, file-was}
 use Rattle.f11_files.specs.StoreOf.{as_seen, file_at, last_given, store_of}
-use Rattle.f11_files.specs.SlotLaws.{with_slot, KeepsOtherBlocks, ConcernsFile}
+use Rattle.f11_files.specs.SlotLaws.{with_use, with_last, KeepsOtherBlocks, ConcernsFile}
 use Rattle.f11_files.proofs.StoreLemmas.{same-store, file-at, free-count}
 
 module _ (old new : Image) (home : HomeFields) (n : ℕ) (slot : KeepsButSlot n home old new) where
@@ -61,9 +61,9 @@ module _ (old new : Image) (home : HomeFields) (n : ℕ) (slot : KeepsButSlot n 
           let no : (ltb 0 m && leb m t.slots) ≡ false = and_left (ltb 0 m) (leb m t.slots) (le-ltb 0 m none) in
           ap (λ (b : Bool). cond b (last_sequence u m) 0) no ∙ sym (ap (λ (b : Bool). cond b (last_sequence t m) 0) no)
 
-  pub slot-stored : (f : ℕ) → KeepsOtherBlocks n t u → ConcernsFile n f t u → store_of new home ≡ with_slot (with_file (store_of old home) f (file_at new u f)) n (u.in_use n) (last_given u n)
+  pub slot-stored : (f : ℕ) → KeepsOtherBlocks n t u → ConcernsFile n f t u → store_of new home ≡ with_last (with_use (with_file (store_of old home) f (file_at new u f)) n (u.in_use n)) n (last_given u n)
   unfolding store_of
-  slot-stored f blocks concerns = same-store (store_of new home) (with_slot (with_file (store_of old home) f (file_at new u f)) n (u.in_use n) (last_given u n))
+  slot-stored f blocks concerns = same-store (store_of new home) (with_last (with_use (with_file (store_of old home) f (file_at new u f)) n (u.in_use n)) n (last_given u n))
       (λ g. file g (cases_eq g f)) free-stays blocks.slots (λ m. used m (cases_eq m n)) (λ m. last m (cases_eq m n))
       refl (ap (λ (b : Bitmap). length b.places) slot.bitmap) refl refl
     where

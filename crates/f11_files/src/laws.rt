@@ -21,5 +21,15 @@ pub fn bitmap_writes()
 
 /// A write of one slot, of its header or of its bit.
 pub fn slot_writes()
-    ensures { slots.SlotIsStored }
+    ensures any { slots.SlotIsStored }
+    ensures unused { slots.UnusedSlotIsGiven }
+    ensures entered { slots.FileIsEntered }
+    ensures set { slots.LooseSlotIsSet }
+{}
+
+/// A write of a header where it is.
+pub fn header_writes()
+    ensures loose { slots.LooseHeaderIsWritten }
+    ensures killed { slots.FileIsKilled }
+    ensures rewritten { slots.FileIsRewritten }
 {}
