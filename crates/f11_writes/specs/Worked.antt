@@ -100,23 +100,24 @@ HeaderIsLinked =
     LinksToNew (table_of old home) f n m last header → SetsBit true m (index_of old home) after →
     LinksHeader f m header after home old (with_header (with_new_header old home m header after) home n last)
 
--- File n, from 5 on, has one header, which names these blocks, and this block is a dead header.
-pub record IsShortFile (t : Table) (n lbn count : ℕ) (dead : List ℕ) : Type 0 where
+-- File n is one from 5 on whose first header names these blocks, and this block is a dead header.
+pub record MayDelete (t : Table) (n lbn count : ℕ) (dead : List ℕ) : Type 0 where
   pub late : 5 ≤ n
   pub file : IsFile t n
   pub blocks : blocks_named (t.header n) ≡ range_with_len lbn count
   pub is_dead : IsDead dead
 
--- The header was killed, its blocks were marked free, and its bit was cleared: the volume is sound after each write, and at the end each other
--- file from 3 on that isn't n is as it was.
+-- That header was killed, its blocks were marked free, and its bit was cleared: the volume is sound after each write, and at the end there is no
+-- file n, and each other from 3 on is as it was.
 pub record DeletesFile (n : ℕ) (dead : List ℕ) (after : Index) (home : HomeFields) (old freed : Image) : Type 0 where
   pub killed : HasSoundVolume (with_header old home n dead) home
   pub given : HasSoundVolume freed home
   pub cleared : HasSoundVolume (with_bitmap_block freed after n) home
+  pub gone : ¬ IsFile (table_of (with_bitmap_block freed after n) home) n
   pub others : (g : ℕ) → IsFile (table_of old home) g → g ≢ n → 3 ≤ g → file_in home g (with_bitmap_block freed after n) ≡ file_in home g old
 
 abbrev pub FileIsDeleted : Type 0
 FileIsDeleted =
     (old freed : Image) (home : HomeFields) (n lbn count : ℕ) (dead : List ℕ) (after : Index) → HasSoundVolume old home →
-    IsShortFile (table_of old home) n lbn count dead → Marks true (storage_bitmap old home) lbn count (with_header old home n dead) freed →
+    MayDelete (table_of old home) n lbn count dead → Marks true (storage_bitmap old home) lbn count (with_header old home n dead) freed →
     SetsBit false n (index_of old home) after → DeletesFile n dead after home old freed
