@@ -84,10 +84,10 @@ pub fn linked(id: FileId, segment: u8, link: FileId, pointers: &[(u16, u8)]) -> 
 }
 
 /// Room for some lines.
-pub type Lines = Cursor<[u8; 160]>;
+pub type Lines = Cursor<[u8; 200]>;
 
 pub fn lines() -> Lines {
-    Cursor::new([0; 160])
+    Cursor::new([0; 200])
 }
 
 /// What was written.

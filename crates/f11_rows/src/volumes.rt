@@ -1,7 +1,7 @@
 //! Files-11 volumes, made and verified.
 use crate::fixtures::{SYSTEM, has_front, sevens};
-use f11_dev::{Device, DeviceFault, FailOnce, Memory};
-use f11_vfy::{Accepted, InitError, InitParams, Report, VfyError, init, verify};
+use f11_dev::{DeviceFault, FailOnce, Memory};
+use f11_vfy::{InitError, InitParams, Report, VfyError, init, verify};
 use std::alloc::Global;
 use std::test::Fail;
 
@@ -11,22 +11,21 @@ pub const BLOCKS: u32 = 24;
 /// The blocks that a fresh volume of 16 slots has of them.
 const USED: u32 = 22;
 
-/// Makes a volume of 16 slots.
-fn make<D: Device>(device: D) -> Result<Accepted<D>, InitError<D>> {
-    let params = InitParams {
+/// The parameters of a volume of 16 slots.
+pub fn params() -> InitParams<'static> {
+    InitParams {
         label: b"SMALL",
         slots: 16,
         max_files: 4000,
         owner: SYSTEM,
         date: [0; 14],
-    };
-    init(device, &params)
+    }
 }
 
-/// Makes one, once more where a write failed: it may have found no memory for its record.
+/// Makes a volume, once more where a write failed: it may have found no memory for its record.
 pub fn made(device: Memory) -> Result<Memory, DeviceFault> {
-    let done = match make(device) {
-        Err(InitError::DeviceFault(device)) => make(device),
+    let done = match init(device, &params()) {
+        Err(InitError::DeviceFault(device)) => init(device, &params()),
         done => done,
     };
     match done {
@@ -46,7 +45,8 @@ fn a_write_of_a_fresh_volume_fails(rt: HostRuntime) -> Result<(), Fail> {
     for failing in 0..USED {
         for (lands, written) in [(false, failing), (true, failing + 1)] {
             let device = sevens(rt.alloc(), BLOCKS)?;
-            let done = make(FailOnce::new(device, u64::from(failing) + 1, lands));
+            let device = FailOnce::new(device, u64::from(failing) + 1, lands);
+            let done = init(device, &params());
             let Err(InitError::DeviceFault(device)) = done else {
                 return Err(DeviceFault)?;
             };
