@@ -20,7 +20,7 @@ use Rattle.f11_index.proofs.SegmentLemmas.{segment_number-byte}
 use Rattle.f11_index.specs.Headers.{next_of}
 use Rattle.f11_vfy.specs.Earlier.{IsNamedIn}
 use Rattle.f11_vfy.specs.Faults.{EarlierAreNamed, IsOwnFile, IsBitmapFile, HasIndexFile, HasOwnFiles, HasBitmapFile, HasControlBlock, IsFramed, IsFaultBehindHome, index_misplaced, own_file_bad, bitmap_file_bad, control_block_wrong, bit_past_slots, no_home, behind_home}
-use Rattle.f11_vfy.specs.Sound.{IsSoundVolume, IsSoundImage}
+use Rattle.f11_vfy.specs.Sound.{IsSoundVolume, HasSoundVolume, IsSoundImage}
 use Rattle.f11_vfy.specs.Space.{IsControlBlock}
 use Rattle.f11_vfy.specs.Verdict.{of_frame, of_volume, IsAccepted}
 use Rattle.f11_vfy.specs.Volume.{volume_of}
@@ -236,3 +236,11 @@ accepted-from image sound code a b (of_volume home c d e framed fault) =
 
 pub accepted-sound : (image : Image) → IsImage image → IsAccepted image ↔ IsSoundImage image
 accepted-sound image is = (sound-from image is, accepted-from image)
+
+pub accepted-volume : (image : Image) (home : HomeFields) → IsImage image → IsHomeOf image home → IsAccepted image ↔ HasSoundVolume image home
+accepted-volume image home is is_home = (
+  λ accepted.
+      let sound = sound-from image is accepted in
+      subst (HasSoundVolume image) (home-unique image sound.home home sound.framed.home_is is_home) sound.volume,
+  λ volume. accepted-from image (record { home = home; volume = volume }),
+)

@@ -1,7 +1,7 @@
 -- Laws of the verifier's findings, which show that its definitions say what is meant (profile).
 use Rattle.std.specs.Prelude.{◌≡◌, ◌↔◌, ℕ, ◌≤◌, length}
 use Rattle.f11_dev.specs.Image.{Image, IsImage}
-use Rattle.f11_home.specs.Home.{HomeFields}
+use Rattle.f11_home.specs.Home.{HomeFields, IsHomeOf}
 use Rattle.f11_index.specs.IndexFile.{index_of}
 use Rattle.f11_index.specs.Table.{Table}
 use Rattle.f11_layout.specs.declared.layout.Layout.{Layout}
@@ -12,7 +12,7 @@ use Rattle.f11_vfy.specs.Fresh.{IsFreshVolume}
 use Rattle.f11_vfy.specs.Reading.{volume_in}
 use Rattle.f11_vfy.specs.Slot.{says_directory}
 use Rattle.f11_vfy.specs.Space.{storage_bitmap}
-use Rattle.f11_vfy.specs.Sound.{IsSoundVolume, IsSoundImage}
+use Rattle.f11_vfy.specs.Sound.{IsSoundVolume, HasSoundVolume, IsSoundImage}
 use Rattle.f11_vfy.specs.Verdict.{IsFault, IsAccepted}
 use Rattle.f11_vfy.specs.Volume.{Volume, volume_of}
 
@@ -32,6 +32,10 @@ FaultlessIsSound = (v : Volume) → ((code a b : ℕ) → ¬ IsVolumeFault v cod
 -- an image is accepted exactly where it is sound
 abbrev pub AcceptedIsSound : Type 0
 AcceptedIsSound = (image : Image) → IsImage image → IsAccepted image ↔ IsSoundImage image
+
+-- so an image with this home block is accepted exactly where its volume is sound
+abbrev pub AcceptedHasSoundVolume : Type 0
+AcceptedHasSoundVolume = (image : Image) (home : HomeFields) → IsImage image → IsHomeOf image home → IsAccepted image ↔ HasSoundVolume image home
 
 -- an image on which a fresh volume was made is sound
 abbrev pub FreshIsSound : Type 0

@@ -9,10 +9,11 @@ pub fn frames()
 {}
 
 /// A volume has no fault exactly where it is sound, an image is accepted exactly where its frame is as it should be and its
-/// volume is sound, and there is such an image: a fresh volume's.
+/// volume is sound, and a fresh one is.
 pub fn sound()
     ensures volume { laws.FaultlessIsSound }
     ensures image { laws.AcceptedIsSound }
+    ensures home { laws.AcceptedHasSoundVolume }
     ensures fresh { laws.FreshIsSound }
 {}
 

@@ -24,10 +24,12 @@ use Rattle.f11_vfy.specs.Sound.{IsSoundVolume, HasSoundVolume}
 use Rattle.f11_vfy.specs.Volume.{Volume, volume_of}
 use Rattle.f11_vfy.proofs.FileLemmas.{index-apart}
 use Rattle.f11_writes.specs.Kept.{WritesSlotBit}
-use Rattle.f11_writes.specs.Volumes.{KeepsOtherSlots, Shrinks, MayBecome}
+use Rattle.f11_writes.specs.OtherSlots.{KeepsOtherSlots}
+use Rattle.f11_writes.specs.Volumes.{Shrinks, MayBecome}
 use Rattle.f11_writes.proofs.SetLemmas.{set-sound}
 use Rattle.f11_writes.proofs.ShrinkLemmas.{shrunk-sound}
-use Rattle.f11_writes.proofs.SlotLemmas.{own-first, SparesOwn, IsPlacedAt, slot-keeps}
+use Rattle.f11_writes.proofs.OtherSlotLemmas.{own-first}
+use Rattle.f11_writes.proofs.SlotLemmas.{SparesOwn, IsPlacedAt, slot-keeps}
 
 -- the bit of a slot that had no live header
 module _ (image : Image) (home : HomeFields) (is : HasSoundVolume image home) (value : Bool) (n : ℕ) (after : Index) (some : 0 < n) (few : n ≤ slots (index_of image home))

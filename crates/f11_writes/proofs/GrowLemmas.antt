@@ -18,9 +18,11 @@ use Rattle.f11_vfy.specs.Sound.{HasSoundVolume}
 use Rattle.f11_vfy.specs.Volume.{Volume, volume_of}
 use Rattle.f11_vfy.proofs.FileLemmas.{index-apart, image-files}
 use Rattle.f11_writes.specs.Kept.{WritesGrowth}
-use Rattle.f11_writes.specs.Volumes.{KeepsOtherSlots, MayBecome}
+use Rattle.f11_writes.specs.OtherSlots.{KeepsOtherSlots}
+use Rattle.f11_writes.specs.Volumes.{MayBecome}
 use Rattle.f11_writes.proofs.SetLemmas.{set-sound}
-use Rattle.f11_writes.proofs.SlotLemmas.{own-first, SparesOwn, header-placed-at, slot-keeps}
+use Rattle.f11_writes.proofs.OtherSlotLemmas.{own-first}
+use Rattle.f11_writes.proofs.SlotLemmas.{SparesOwn, header-placed-at, slot-keeps}
 
 module _ (image : Image) (home : HomeFields) (is : HasSoundVolume image home) (n : ℕ) (block : List ℕ) (lbn count : ℕ) (of : IsHeaderOf (table_of image home) 1 n)
     (grows : GrowsIndexFile home n block lbn count image (with_header image home n block)) where

@@ -26,10 +26,12 @@ use Rattle.f11_vfy.specs.Volume.{Volume, volume_of}
 use Rattle.f11_vfy.proofs.FileLemmas.{index-apart, image-files}
 use Rattle.f11_writes.specs.HeaderLaws.{SparesOwnFiles}
 use Rattle.f11_writes.specs.Kept.{WritesHeader}
-use Rattle.f11_writes.specs.Volumes.{KeepsOtherSlots, Shrinks, MayBecome}
+use Rattle.f11_writes.specs.OtherSlots.{KeepsOtherSlots}
+use Rattle.f11_writes.specs.Volumes.{Shrinks, MayBecome}
 use Rattle.f11_writes.proofs.SetLemmas.{set-sound}
 use Rattle.f11_writes.proofs.ShrinkLemmas.{shrunk-sound}
-use Rattle.f11_writes.proofs.SlotLemmas.{own-first, SparesOwn, IsPlacedAt, header-placed-at, slot-keeps}
+use Rattle.f11_writes.proofs.OtherSlotLemmas.{own-first}
+use Rattle.f11_writes.proofs.SlotLemmas.{SparesOwn, IsPlacedAt, header-placed-at, slot-keeps}
 
 -- What a block must be in order to become header n where that is one of the volume's own files: none of file 2's or 3's, as good as a header of
 -- file 1 that leads to the same, or as good as the first of file 4.

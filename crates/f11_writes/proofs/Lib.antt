@@ -1,3 +1,4 @@
+pub mod OtherSlotLemmas
 pub mod ShrinkLemmas
 pub mod SetLemmas
 pub mod ImageLemmas
@@ -11,4 +12,6 @@ pub mod HeaderLemmas
 pub mod BitLemmas
 pub mod GrowLemmas
 pub mod NameLemmas
-pub mod WorkedLemmas
+pub mod AddedLemmas
+pub mod MadeLemmas
+pub mod DeletedLemmas

@@ -17,7 +17,8 @@ use Rattle.f11_vfy.specs.Space.{storage_bitmap}
 use Rattle.f11_vfy.specs.Volume.{Volume, volume_of, IsCell, IsNamed}
 use Rattle.f11_writes.specs.Kept.{KeepsButFree}
 use Rattle.f11_writes.specs.NameLaws.{AreSpare}
-use Rattle.f11_writes.specs.Volumes.{KeepsOtherSlots, MayName}
+use Rattle.f11_writes.specs.OtherSlots.{KeepsOtherSlots}
+use Rattle.f11_writes.specs.Volumes.{MayName}
 use Rattle.f11_writes.proofs.BitmapLemmas.{used-keeps}
 
 pub free-unnamed : (v : Volume) (lbn : ℕ) → IsSoundVolume v → v.free lbn ≡ true → ¬ IsNamed v.table lbn

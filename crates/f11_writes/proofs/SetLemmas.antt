@@ -1,5 +1,5 @@
 -- A volume one of whose headers is set.
-use Rattle.std.proofs.Common.{◌≡◌, ◌≢◌, ◌⊎◌, ℕ, ◌+◌, ◌<◌, true, false, List, Some, sym, ap, subst, ◌∙◌, inl, inr, arith}
+use Rattle.std.proofs.Common.{◌≡◌, ◌≢◌, ◌⊎◌, ℕ, ◌+◌, ◌<◌, true, false, List, Some, sym, ap, subst, ◌∙◌, inl, inr}
 use Rattle.std.specs.List.{slice_get}
 use Rattle.std.proofs.lemmas.Bool.{cases_eq}
 use Rattle.f11_header.specs.Fields.{file_sequence}
@@ -9,38 +9,11 @@ use Rattle.f11_index.specs.HeaderBlock.{segment_number, link_of, blocks_named}
 use Rattle.f11_index.specs.Headers.{IsInFile}
 use Rattle.f11_index.specs.Table.{Table, IsLive, IsNext, IsHeaderOf, first, next}
 use Rattle.f11_index.proofs.ChainLemmas.{live_of-header}
-use Rattle.f11_index.proofs.HeadersLemmas.{link_number, live-some}
+use Rattle.f11_index.proofs.HeadersLemmas.{link_number}
 use Rattle.f11_vfy.specs.Sound.{LinksOn, IsSoundVolume}
 use Rattle.f11_vfy.specs.Volume.{Volume, IsCell, IsLinked}
-use Rattle.f11_chain.specs.Laws.{StayBefore}
-use Rattle.f11_index.specs.ChangeLaws.{IsAsGood, StayUpTo}
-use Rattle.f11_writes.specs.Volumes.{KeepsOtherSlots, LinksAnew, MayLink, none, same, anew, MayBecome, HasHeader}
-
--- the headers of a file before one, where all other slots are as they were
-pub stay-before : (old new : Table) (f n : ℕ) → KeepsOtherSlots n old new → StayBefore f n old new
-stay-before old new f n others m of below =
-    others.header m (λ same. omega (arith, below, ap (λ (k : ℕ). segment_number (old.header k)) same)) (live_of-header of).in_use
-
-pub stay-up-to : (old new : Table) (f n : ℕ) → IsHeaderOf old f n → KeepsOtherSlots n old new → IsAsGood old new n → StayUpTo f n old new
-stay-up-to old new f n last others good = record {
-  good = λ m of up. elim (cases_eq m n) [
-    | inl here ↦ subst (IsAsGood old new) (sym here) good
-    | inr away ↦
-        let live = live_of-header of in
-        let same = others.header m away live.in_use in
-        record {
-          in_use = others.in_use m away ∙ live.in_use;
-          valid = subst (λ (b : List ℕ). IsHeader b m) (sym same) live.valid;
-          sequence = ap file_sequence same;
-          segment = ap segment_number same;
-        }
-  ];
-  links = λ m of below. ap link_of (stay-before old new f n others m of below);
-}
-
--- a link of 0 leads to no header
-nowhere : {t : Table} {n m : ℕ} → link_number t n ≡ 0 → IsNext t n m → ⊥
-nowhere zero_is goes = omega (arith, zero_is, goes.number, live-some goes.to)
+use Rattle.f11_writes.proofs.OtherSlotLemmas.{nowhere, same-now, live-was}
+use Rattle.f11_writes.specs.Volumes.{LinksAnew, MayLink, links_to_none, links_as_before, links_anew, MayBecome, HasHeader}
 
 module _ (old new : Volume) (n : ℕ) (block : List ℕ) (o : IsSoundVolume old) (may : MayBecome old n block) (s : HasHeader n block old new) where
   abbrev t : Table
@@ -56,15 +29,6 @@ module _ (old new : Volume) (n : ℕ) (block : List ℕ) (o : IsSoundVolume old)
   as-was : (m : ℕ) → m ≢ n → t.in_use m ≡ true → u.header m ≡ t.header m
   as-was m other used = s.others.header m other used
 
-  as-is : (m : ℕ) → m ≢ n → u.in_use m ≡ true → u.header m ≡ t.header m
-  as-is m other used = as-was m other (sym (s.others.in_use m other) ∙ used)
-
-  live-was : (m : ℕ) → m ≢ n → IsLive u m → IsLive t m
-  live-was m other live = record {
-    in_use = sym (s.others.in_use m other) ∙ live.in_use;
-    valid = subst (λ (b : List ℕ). IsHeader b m) (as-is m other live.in_use) live.valid;
-  }
-
   live-is : (m : ℕ) → IsLive t m → IsLive u m
   live-is m live = elim (cases_eq m n) [
     | inl is ↦ subst (IsLive u) (sym is) here
@@ -76,8 +40,8 @@ module _ (old new : Volume) (n : ℕ) (block : List ℕ) (o : IsSoundVolume old)
 
   cell-was : (m place lbn : ℕ) → m ≢ n → IsCell u m place lbn → IsCell t m place lbn
   cell-was m place lbn other cell = record {
-    live = live-was m other cell.live;
-    names = ap (λ (b : List ℕ). slice_get (blocks_named b) place) (sym (as-is m other cell.live.in_use)) ∙ cell.names;
+    live = live-was t u n s.others m other cell.live;
+    names = ap (λ (b : List ℕ). slice_get (blocks_named b) place) (sym (same-now t u n s.others m other cell.live.in_use)) ∙ cell.names;
   }
 
   cell-here : (m place lbn : ℕ) → m ≡ n → IsCell u m place lbn → slice_get (blocks_named block) place ≡ Some lbn
@@ -118,7 +82,7 @@ module _ (old new : Volume) (n : ℕ) (block : List ℕ) (o : IsSoundVolume old)
       subst (IsNext t a) (sym number ∙ goes.number) on.next
 
   other-next-was : (a b : ℕ) → a ≢ n → IsInFile t a → IsNext u a b → IsNext t a b
-  other-next-was a b other in_file goes = next-was a b in_file (ap link_of (as-is a other goes.from.in_use)) goes
+  other-next-was a b other in_file goes = next-was a b in_file (ap link_of (same-now t u n s.others a other goes.from.in_use)) goes
 
   link-here : link_of (u.header n) ≡ link_of block
   link-here = ap link_of s.header
@@ -130,17 +94,17 @@ module _ (old new : Volume) (n : ℕ) (block : List ℕ) (o : IsSoundVolume old)
   in-file-was : (f : ℕ) {a : ℕ} → IsHeaderOf u f a → a ≢ n → IsInFile t a ⊎ (link_number u a ≡ 0)
   in-file-was f (first file) other = inl (record {
     file = f;
-    of = first (record { live = live-was f other file.live; first = ap segment_number (sym (as-is f other file.live.in_use)) ∙ file.first });
+    of = first (record { live = live-was t u n s.others f other file.live; first = ap segment_number (sym (same-now t u n s.others f other file.live.in_use)) ∙ file.first });
   })
   in-file-was f (next {n = b} {m = a} of goes) other = go (cases_eq b n) (in-file-was f of)
     where
       -- behind header n
       behind : MayLink old n block → IsNext u n a → IsInFile t a ⊎ (link_number u a ≡ 0)
-      behind (none zero_is) on = absurd (nowhere (number-here ∙ zero_is) on)
-      behind (same in_file link) on = inl (record { file = in_file.file; of = next in_file.of (next-was n a in_file (link-here ∙ link) on) })
-      behind (anew links) on =
+      behind (links_to_none zero_is) on = absurd (nowhere (number-here ∙ zero_is) on)
+      behind (links_as_before in_file link) on = inl (record { file = in_file.file; of = next in_file.of (next-was n a in_file (link-here ∙ link) on) })
+      behind (links_anew links) on =
           let to : (link_of block).number ≡ a = sym number-here ∙ on.number in
-          inr (ap (λ (h : List ℕ). (link_of h).number) (as-is a other on.to.in_use) ∙ subst (λ (k : ℕ). link_number t k ≡ 0) to links.no_link)
+          inr (ap (λ (h : List ℕ). (link_of h).number) (same-now t u n s.others a other on.to.in_use) ∙ subst (λ (k : ℕ). link_number t k ≡ 0) to links.no_link)
 
       -- behind another
       on-from : b ≢ n → IsInFile t b ⊎ (link_number u b ≡ 0) → IsInFile t a ⊎ (link_number u a ≡ 0)
@@ -154,7 +118,7 @@ module _ (old new : Volume) (n : ℕ) (block : List ℕ) (o : IsSoundVolume old)
   headers : (m : ℕ) → u.in_use m ≡ true → IsDead (u.header m) ⊎ IsHeader (u.header m) m
   headers m used = elim (cases_eq m n) [
     | inl is ↦ inr (subst (λ (k : ℕ). IsHeader (u.header k) k) (sym is) here.valid)
-    | inr other ↦ subst (λ (b : List ℕ). IsDead b ⊎ IsHeader b m) (sym (as-is m other used)) (o.headers m (sym (s.others.in_use m other) ∙ used))
+    | inr other ↦ subst (λ (b : List ℕ). IsDead b ⊎ IsHeader b m) (sym (same-now t u n s.others m other used)) (o.headers m (sym (s.others.in_use m other) ∙ used))
   ]
 
   inside : (m place lbn : ℕ) → IsCell u m place lbn → lbn < new.size
@@ -206,9 +170,9 @@ module _ (old new : Volume) (n : ℕ) (block : List ℕ) (o : IsSoundVolume old)
       }
 
   links-here : MayLink old n block → link_number u n ≢ 0 → LinksOn u n
-  links-here (none zero_is) some = absurd (some (number-here ∙ zero_is))
-  links-here (same was link) some = keeps-link n was (link-here ∙ link) some
-  links-here (anew l) some = links-anew l
+  links-here (links_to_none zero_is) some = absurd (some (number-here ∙ zero_is))
+  links-here (links_as_before was link) some = keeps-link n was (link-here ∙ link) some
+  links-here (links_anew l) some = links-anew l
 
   links : (a : ℕ) → IsLinked u a → LinksOn u a
   links a linked = elim (cases_eq a n) [
@@ -224,9 +188,9 @@ module _ (old new : Volume) (n : ℕ) (block : List ℕ) (o : IsSoundVolume old)
   one b m away in_file goes comes = go (in-file-was in_file.file in_file.of away)
     where
       by : IsInFile t b → MayLink old n block → ⊥
-      by was (none zero_is) = nowhere (number-here ∙ zero_is) goes
-      by was (same also link) = away (o.once m b n was also (other-next-was b m away was comes) (next-was n m also (link-here ∙ link) goes))
-      by was (anew l) = l.no_other b was (subst (IsNext t b) (sym goes.number ∙ number-here) (other-next-was b m away was comes))
+      by was (links_to_none zero_is) = nowhere (number-here ∙ zero_is) goes
+      by was (links_as_before also link) = away (o.once m b n was also (other-next-was b m away was comes) (next-was n m also (link-here ∙ link) goes))
+      by was (links_anew l) = l.no_other b was (subst (IsNext t b) (sym goes.number ∙ number-here) (other-next-was b m away was comes))
 
       go : IsInFile t b ⊎ (link_number u b ≡ 0) → ⊥
       go (inl was) = by was may.link

@@ -1,5 +1,5 @@
 -- A write of one block of the index file that leaves all slots but one.
-use Rattle.std.proofs.Common.{◌≡◌, ◌≢◌, ◌↔◌, ℕ, ◌-◌, ◌+◌, ◌<◌, ◌≤◌, List, length, map, Some, sym, ap, subst, ◌∙◌, inl, inr, arith, All, Contains}
+use Rattle.std.proofs.Common.{◌≡◌, ◌≢◌, ℕ, ◌-◌, ◌+◌, ◌<◌, ◌≤◌, List, length, map, Some, sym, ap, subst, ◌∙◌, inl, inr, arith, All}
 use Rattle.std.proofs.Math.ListN.{set}
 use Rattle.std.specs.List.{slice_get}
 use Rattle.std.proofs.lemmas.Bool.{cases_eq}
@@ -8,21 +8,12 @@ use Rattle.f11_bits.specs.Bitmap.{KeepsBitmap}
 use Rattle.f11_bits.proofs.LawLemmas.{KeepsBitmap-write}
 use Rattle.f11_dev.specs.Image.{Image, image_block}
 use Rattle.f11_dev.proofs.ImageLemmas.{image_block-other}
-use Rattle.f11_header.specs.Fields.{file_sequence}
-use Rattle.f11_header.specs.Header.{IsHeader}
 use Rattle.f11_home.specs.Home.{HomeFields, candidate}
-use Rattle.f11_index.specs.ChangeLaws.{StaysHeader}
-use Rattle.f11_index.specs.HeaderBlock.{segment_number, link_of, blocks_named}
-use Rattle.f11_index.specs.Headers.{headers_of}
 use Rattle.f11_index.specs.IndexFile.{index_of, index_file, slots, header_lbn, HasNonePast}
 use Rattle.f11_index.proofs.LawLemmas.{header_at}
 use Rattle.f11_index.specs.Sound.{IsIndexFile}
-use Rattle.f11_index.specs.Table.{Table, table_of, IsFile, IsHeaderOf, first, IsWholeFile}
-use Rattle.f11_index.proofs.ChainLemmas.{live_of-header}
-use Rattle.f11_index.proofs.HeadersLemmas.{listed-are}
-use Rattle.f11_index.proofs.StayLemmas.{whole-stays}
+use Rattle.f11_index.specs.Table.{Table, table_of, IsFile, IsHeaderOf, IsWholeFile}
 use Rattle.f11_chain.specs.FileHeaders.{file_blocks}
-use Rattle.f11_chain.proofs.ChangeLemmas.{file-stays}
 use Rattle.f11_vfy.specs.Contents.{block_or_zeros}
 use Rattle.f11_vfy.specs.Earlier.{IsNamedIn}
 use Rattle.f11_vfy.specs.Faults.{IsOwnFile, IsFramed}
@@ -31,69 +22,12 @@ use Rattle.f11_vfy.specs.Space.{bitmap_file, storage_bitmap}
 use Rattle.f11_vfy.specs.Volume.{Volume, volume_of}
 use Rattle.f11_vfy.proofs.FileLemmas.{image-files, index-apart, place-at, file-blocks-are}
 use Rattle.f11_writes.specs.Kept.{file_in, said_of, KeepsButSlot}
-use Rattle.f11_writes.specs.Volumes.{KeepsOtherSlots}
+use Rattle.f11_writes.specs.OtherSlots.{KeepsOtherSlots}
 use Rattle.f11_writes.proofs.ContentLemmas.{said-alike, file-alike, blocks-alike}
 use Rattle.f11_writes.proofs.FrameLemmas.{CandidatesStay, ControlStays, bitmap-stays, framed, free-stays, volume-with-headers}
 use Rattle.f11_writes.proofs.OtherLemmas.{control-at}
+use Rattle.f11_writes.proofs.OtherSlotLemmas.{own-kept, file-kept, listed-same, headers-kept, blocks-kept, named-kept, turned}
 use Rattle.f11_writes.proofs.OwnerLemmas.{in-file, owned-once, in-index-file, in-bitmap-file}
-
--- the first header of one of the volume's own files
-pub own-first : (t u : Table) (n f : ℕ) → KeepsOtherSlots n t u → f ≢ n → IsOwnFile t f → IsOwnFile u f
-own-first t u n f others away own =
-    let same = others.header f away own.file.live.in_use in
-    record {
-      file = record {
-        live = record {
-          in_use = others.in_use f away ∙ own.file.live.in_use;
-          valid = subst (λ (b : List ℕ). IsHeader b f) (sym same) own.file.live.valid;
-        };
-        first = ap segment_number same ∙ own.file.first;
-      };
-      sequence = ap file_sequence same ∙ own.sequence;
-    }
-
--- the headers of a file that header n isn't one of
-module _ (t u : Table) (n f : ℕ) (others : KeepsOtherSlots n t u) (whole : IsWholeFile t f) (away : ¬ IsHeaderOf t f n) where
-  pub same-header : (m : ℕ) → IsHeaderOf t f m → u.header m ≡ t.header m
-  same-header m of = others.header m (λ is. away (subst (IsHeaderOf t f) is of)) (live_of-header of).in_use
-
-  each-stays : (m : ℕ) → IsHeaderOf t f m → StaysHeader t u m
-  each-stays m of =
-      let same = same-header m of in
-      record {
-        good = record {
-          in_use = others.in_use m (λ is. away (subst (IsHeaderOf t f) is of)) ∙ (live_of-header of).in_use;
-          valid = subst (λ (b : List ℕ). IsHeader b m) (sym same) (live_of-header of).valid;
-          sequence = ap file_sequence same;
-          segment = ap segment_number same;
-        };
-        link = ap link_of same;
-      }
-
-  pub file-kept : IsWholeFile u f × ((m : ℕ) → IsHeaderOf u f m ↔ IsHeaderOf t f m)
-  file-kept = whole-stays t u f whole each-stays
-
-  pub listed-same : (m : ℕ) → Contains (headers_of t f) m → u.header m ≡ t.header m
-  listed-same m listed = same-header m (listed-are t f m whole listed)
-
-  pub headers-kept : headers_of u f ≡ headers_of t f
-  headers-kept = (file-stays t u f listed-same).0
-
-  pub blocks-kept : file_blocks u f ≡ file_blocks t f
-  blocks-kept = (file-stays t u f listed-same).1
-
-  pub own-kept : IsOwnFile t f → IsOwnFile u f
-  own-kept own = own-first t u n f others (λ here. away (subst (IsHeaderOf t f) here (first whole.file))) own
-
-  pub named-kept : (lbn : ℕ) → IsNamedIn t f lbn → IsNamedIn u f lbn
-  named-kept lbn (m, of, has) = (m, (file-kept.1 m).1 of, subst (λ (b : List ℕ). Contains (blocks_named b) lbn) (sym (same-header m of)) has)
-
--- the other way round
-turned : (t u : Table) (n : ℕ) → KeepsOtherSlots n t u → KeepsOtherSlots n u t
-turned t u n others = record {
-  in_use = λ m away. sym (others.in_use m away);
-  header = λ m away used. sym (others.header m away (sym (others.in_use m away) ∙ used));
-}
 
 -- Header n's slot is none of the storage bitmap's and the bad block file's headers, and file 4 is its own still.
 pub record SparesOwn (n : ℕ) (old new : Table) : Type 0 where

@@ -15,7 +15,7 @@ use Rattle.f11_vfy.specs.Contents.{block_or_zeros, file_of}
 use Rattle.f11_vfy.specs.Sound.{HasSoundVolume}
 use Rattle.f11_vfy.specs.Space.{storage_bitmap}
 use Rattle.f11_vfy.specs.Volume.{volume_of}
-use Rattle.f11_writes.specs.Volumes.{KeepsOtherSlots}
+use Rattle.f11_writes.specs.OtherSlots.{KeepsOtherSlots}
 
 -- file f of an image whose home block this is
 abbrev pub file_in : HomeFields → ℕ → Image → File

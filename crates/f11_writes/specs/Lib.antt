@@ -1,3 +1,4 @@
+pub mod OtherSlots
 pub mod Kept
 pub mod Volumes
 pub mod Laws

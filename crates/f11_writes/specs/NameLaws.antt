@@ -10,7 +10,8 @@ use Rattle.f11_index.specs.Table.{IsLive}
 use Rattle.f11_vfy.specs.Sound.{IsSoundVolume, HasSoundVolume}
 use Rattle.f11_vfy.specs.Space.{storage_bitmap}
 use Rattle.f11_vfy.specs.Volume.{Volume, volume_of, IsCell, IsNamed}
-use Rattle.f11_writes.specs.Volumes.{KeepsOtherSlots, MayName}
+use Rattle.f11_writes.specs.OtherSlots.{KeepsOtherSlots}
+use Rattle.f11_writes.specs.Volumes.{MayName}
 
 -- So many blocks in a row are spare: in the volume, used, and named by no header.
 pub record AreSpare (v : Volume) (lbn count : ℕ) : Type 0 where

@@ -1,21 +1,20 @@
 -- How a sound volume may change and be sound still, said of its headers and its free blocks alone.
-use Rattle.std.specs.Prelude.{◌≡◌, ◌≢◌, ◌⊎◌, ◌↔◌, ℕ, ◌+◌, ◌<◌, true, false, List, Some}
+use Rattle.std.specs.Prelude.{◌≡◌, ◌≢◌, ◌⊎◌, ℕ, ◌+◌, ◌<◌, true, false, List, Some}
 use Rattle.std.specs.List.{slice_get}
 use Rattle.f11_header.specs.Fields.{file_sequence}
 use Rattle.f11_header.specs.Header.{IsHeader, IsDead}
-use Rattle.f11_index.specs.ChangeLaws.{IsAsGood, StayUpTo}
 use Rattle.f11_index.specs.Growth.{IsGoodFor}
 use Rattle.f11_index.specs.HeaderBlock.{segment_number, link_of, blocks_named}
 use Rattle.f11_index.specs.Headers.{headers_of, IsInFile}
 use Rattle.f11_index.specs.Sound.{AreApart}
-use Rattle.f11_index.specs.Table.{Table, IsLive, IsFile, IsNext, IsHeaderOf, IsWholeFile}
+use Rattle.f11_index.specs.Table.{IsLive, IsFile, IsNext}
 use Rattle.f11_chain.specs.FileHeaders.{file_blocks}
-use Rattle.f11_chain.specs.Laws.{StayBefore}
 use Rattle.f11_vfy.specs.Sound.{IsSoundVolume}
 use Rattle.f11_vfy.specs.Volume.{Volume, IsCell}
+use Rattle.f11_writes.specs.OtherSlots.{KeepsOtherSlots}
 
--- A volume has lost headers, or has other blocks free: each header that is live was so before, and is as it was; none that a header of a
--- file links to was lost, but with that one; and no block that is named became free.
+-- A volume has lost headers, or has other blocks free: each header that is live was so before, and is as it was; where a header of a file
+-- is live still, so is its next; and no block that is named became free.
 pub record Shrinks (old new : Volume) : Type 0 where
   pub size : new.size ≡ old.size
   pub headers : (n : ℕ) → new.table.in_use n ≡ true → IsDead (new.table.header n) ⊎ IsHeader (new.table.header n) n
@@ -54,9 +53,9 @@ pub record LinksAnew (v : Volume) (block : List ℕ) : Type 0 where
 
 -- header n may have the link of this block: it is none, the one that it has, or one to a header that is then its next
 pub data MayLink (v : Volume) (n : ℕ) (block : List ℕ) : Type 0 where
-  none : (link_of block).number ≡ 0 → MayLink v n block
-  same : IsInFile v.table n → link_of block ≡ link_of (v.table.header n) → MayLink v n block
-  anew : LinksAnew v block → MayLink v n block
+  links_to_none : (link_of block).number ≡ 0 → MayLink v n block
+  links_as_before : IsInFile v.table n → link_of block ≡ link_of (v.table.header n) → MayLink v n block
+  links_anew : LinksAnew v block → MayLink v n block
 
 -- A block may become header n: it is valid, as good as the one there where that is live, and may name its blocks and have its link.
 pub record MayBecome (v : Volume) (n : ℕ) (block : List ℕ) : Type 0 where
@@ -64,25 +63,6 @@ pub record MayBecome (v : Volume) (n : ℕ) (block : List ℕ) : Type 0 where
   pub good : IsLive v.table n → IsGoodFor v.table n block
   pub names : MayName v n (blocks_named block)
   pub link : MayLink v n block
-
--- The slots but n are as they were: in use or not, and the headers of those that are.
-pub record KeepsOtherSlots (n : ℕ) (old new : Table) : Type 0 where
-  pub in_use : (m : ℕ) → m ≢ n → new.in_use m ≡ old.in_use m
-  pub header : (m : ℕ) → m ≢ n → old.in_use m ≡ true → new.header m ≡ old.header m
-
--- then a whole file that header n isn't one of is whole still, and has the headers that it had
-abbrev pub OtherFilesStay : Type 0
-OtherFilesStay =
-    (old new : Table) (n f : ℕ) → KeepsOtherSlots n old new → IsWholeFile old f → ¬ IsHeaderOf old f n →
-    IsWholeFile new f × ((m : ℕ) → IsHeaderOf new f m ↔ IsHeaderOf old f m)
-
--- of one that it is one of, those before it stay
-abbrev pub OtherSlotsStayBefore : Type 0
-OtherSlotsStayBefore = (old new : Table) (f n : ℕ) → KeepsOtherSlots n old new → StayBefore f n old new
-
--- and are as good and link as they did up to it, where it is as good
-abbrev pub OtherSlotsStayUpTo : Type 0
-OtherSlotsStayUpTo = (old new : Table) (f n : ℕ) → IsHeaderOf old f n → KeepsOtherSlots n old new → IsAsGood old new n → StayUpTo f n old new
 
 -- A volume has this block as header n, which is in use. All else is as it was.
 pub record HasHeader (n : ℕ) (block : List ℕ) (old new : Volume) : Type 0 where

@@ -1,13 +1,16 @@
--- A worked example: three writes that add a block of zeros to a file, and what stands after each.
+-- Worked examples: the writes that add a block of zeros to a file, make an empty file, and delete one, and what stands after each.
 use Rattle.std.specs.Prelude.{◌≡◌, ◌≢◌, ℕ, ◌<◌, ◌≤◌, true, false, List, [], ◌∷◌, ◌++◌, slice_set}
 use Rattle.std.specs.List.{range_with_len}
 use Rattle.f11_bytes.specs.Block.{zero_block}
 use Rattle.f11_bits.specs.Bitmap.{is_free, Marks}
 use Rattle.f11_dev.specs.Image.{Image}
+use Rattle.f11_header.specs.Header.{IsHeader, IsDead}
 use Rattle.f11_home.specs.Home.{HomeFields}
+use Rattle.f11_index.specs.Calls.{SetsBit, with_bitmap_block}
 use Rattle.f11_index.specs.Growth.{IsGoodFor, with_header}
 use Rattle.f11_index.specs.HeaderBlock.{segment_number, link_of, blocks_named}
 use Rattle.f11_index.specs.Headers.{IsLastOf}
+use Rattle.f11_index.specs.IndexFile.{Index, index_of, slots, is_in_use}
 use Rattle.f11_index.specs.Table.{Table, table_of, IsFile}
 use Rattle.f11_vfy.specs.Sound.{HasSoundVolume}
 use Rattle.f11_vfy.specs.Space.{storage_bitmap}
@@ -43,3 +46,51 @@ BlockIsAdded =
     (old marked : Image) (home : HomeFields) (f n lbn : ℕ) (header : List ℕ) → HasSoundVolume old home → NamesOneMore (table_of old home) f n lbn header →
     is_free old (storage_bitmap old home) lbn ≡ true → Marks false (storage_bitmap old home) lbn 1 old marked →
     AddsBlock f n lbn header home old marked
+
+-- This block is the header of an empty file n, whose slot isn't in use.
+pub record IsNewFile (index : Index) (n : ℕ) (header : List ℕ) : Type 0 where
+  pub some : 0 < n
+  pub slot : n ≤ slots index
+  pub unused : is_in_use index n ≡ false
+  pub valid : IsHeader header n
+  pub first : segment_number header ≡ 0
+  pub no_link : (link_of header).number ≡ 0
+  pub no_blocks : blocks_named header ≡ []
+
+-- its header was written, and then its bit set
+abbrev pub with_file : Image → HomeFields → ℕ → List ℕ → Index → Image
+with_file image home n header after = with_bitmap_block (with_header image home n header) after n
+
+-- The volume is sound after each write, and at the end it has the empty file, and each other from 2 on is as it was.
+pub record MakesFile (n : ℕ) (header : List ℕ) (after : Index) (home : HomeFields) (old : Image) : Type 0 where
+  pub written : HasSoundVolume (with_header old home n header) home
+  pub entered : HasSoundVolume (with_file old home n header after) home
+  pub file : IsFile (table_of (with_file old home n header after) home) n
+  pub empty : (file_in home n (with_file old home n header after)).blocks ≡ []
+  pub others : (g : ℕ) → IsFile (table_of old home) g → 2 ≤ g → file_in home g (with_file old home n header after) ≡ file_in home g old
+
+abbrev pub FileIsMade : Type 0
+FileIsMade =
+    (old : Image) (home : HomeFields) (n : ℕ) (header : List ℕ) (after : Index) → HasSoundVolume old home → IsNewFile (index_of old home) n header →
+    SetsBit true n (index_of old home) after → MakesFile n header after home old
+
+-- File n, from 5 on, has one header, which names these blocks, and this block is a dead header.
+pub record IsShortFile (t : Table) (n lbn count : ℕ) (dead : List ℕ) : Type 0 where
+  pub late : 5 ≤ n
+  pub file : IsFile t n
+  pub blocks : blocks_named (t.header n) ≡ range_with_len lbn count
+  pub is_dead : IsDead dead
+
+-- The header was killed, its blocks were marked free, and its bit was cleared: the volume is sound after each write, and at the end each other
+-- file from 3 on that isn't n is as it was.
+pub record DeletesFile (n : ℕ) (dead : List ℕ) (after : Index) (home : HomeFields) (old freed : Image) : Type 0 where
+  pub killed : HasSoundVolume (with_header old home n dead) home
+  pub given : HasSoundVolume freed home
+  pub cleared : HasSoundVolume (with_bitmap_block freed after n) home
+  pub others : (g : ℕ) → IsFile (table_of old home) g → g ≢ n → 3 ≤ g → file_in home g (with_bitmap_block freed after n) ≡ file_in home g old
+
+abbrev pub FileIsDeleted : Type 0
+FileIsDeleted =
+    (old freed : Image) (home : HomeFields) (n lbn count : ℕ) (dead : List ℕ) (after : Index) → HasSoundVolume old home →
+    IsShortFile (table_of old home) n lbn count dead → Marks true (storage_bitmap old home) lbn count (with_header old home n dead) freed →
+    SetsBit false n (index_of old home) after → DeletesFile n dead after home old freed

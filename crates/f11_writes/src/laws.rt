@@ -2,6 +2,7 @@
 ghost use Rattle.f11_writes.specs.HeaderLaws as headers;
 ghost use Rattle.f11_writes.specs.Laws as laws;
 ghost use Rattle.f11_writes.specs.NameLaws as names;
+ghost use Rattle.f11_writes.specs.OtherSlots as slots;
 ghost use Rattle.f11_writes.specs.Volumes as volumes;
 ghost use Rattle.f11_writes.specs.Worked as worked;
 
@@ -18,9 +19,11 @@ pub fn set_volumes()
 
 /// The headers of a file where all slots but one are as they were.
 pub fn other_slots()
-    ensures files { volumes.OtherFilesStay }
-    ensures before { volumes.OtherSlotsStayBefore }
-    ensures up_to { volumes.OtherSlotsStayUpTo }
+    ensures files { slots.OtherFilesStay }
+    ensures before { slots.OtherSlotsStayBefore }
+    ensures up_to { slots.OtherSlotsStayUpTo }
+    ensures were { slots.OtherHeadersWere }
+    ensures entered { slots.EnteredIsUnlinked }
 {}
 
 /// A write of a block that the volume isn't read from.
@@ -72,7 +75,9 @@ pub fn names()
     ensures fewer { names.FewerMayBeNamed }
 {}
 
-/// A block of zeros that is added to a file, in three writes.
-pub fn worked_example()
-    ensures { worked.BlockIsAdded }
+/// A block of zeros that is added to a file, an empty file that is made, and one that is deleted, each in two or three writes.
+pub fn worked_examples()
+    ensures added { worked.BlockIsAdded }
+    ensures made { worked.FileIsMade }
+    ensures deleted { worked.FileIsDeleted }
 {}

@@ -27,14 +27,13 @@ use Rattle.f11_vfy.specs.Volume.{Volume, volume_of, IsNamed}
 use Rattle.f11_vfy.proofs.FileLemmas.{image-files, volume-within, file-blocks-are}
 use Rattle.f11_writes.specs.Kept.{file_in, KeepsFiles, KeepsButFree, WritesHeader}
 use Rattle.f11_writes.specs.NameLaws.{AreSpare}
-use Rattle.f11_writes.specs.Volumes.{MayName, MayBecome, none}
+use Rattle.f11_writes.specs.Volumes.{MayName, MayBecome, links_to_none}
 use Rattle.f11_writes.specs.Worked.{NamesOneMore, zeroed, with_block_added, AddsBlock}
 use Rattle.f11_writes.proofs.BitmapLemmas.{used-keeps}
 use Rattle.f11_writes.proofs.HeaderLemmas.{file-rewrite-keeps}
 use Rattle.f11_writes.proofs.NameLemmas.{taken-spare, more-names}
 use Rattle.f11_writes.proofs.OtherLemmas.{unnamed-keeps}
-use Rattle.f11_writes.proofs.SetLemmas.{stay-before, stay-up-to}
-use Rattle.f11_writes.proofs.SlotLemmas.{file-kept}
+use Rattle.f11_writes.proofs.OtherSlotLemmas.{file-kept, stay-before, stay-up-to}
 
 module _ (old marked : Image) (home : HomeFields) (f n lbn : ℕ) (header : List ℕ) (is : HasSoundVolume old home) (may : NamesOneMore (table_of old home) f n lbn header)
     (free : is_free old (storage_bitmap old home) lbn ≡ true) (marks : Marks false (storage_bitmap old home) lbn 1 old marked) where
@@ -81,7 +80,7 @@ module _ (old marked : Image) (home : HomeFields) (f n lbn : ℕ) (header : List
         valid = may.good.valid;
         good = λ live. fits.good;
         names = subst (MayName v n) (sym fits.names) (more-names v n lbn 1 two.keeps.sound.sound (live_of-header fits.last.of) also);
-        link = none may.no_link;
+        link = links_to_none may.no_link;
       }
 
   -- the header was written

@@ -1,0 +1,7 @@
+use Rattle.f11_writes.proofs.AddedLemmas.{adds-block}
+use Rattle.f11_writes.proofs.DeletedLemmas.{deletes-file}
+use Rattle.f11_writes.proofs.MadeLemmas.{makes-file}
+use Rattle.f11_writes.proofs.laws.worked_examples.Goals as goal
+
+pub returns : goal.returns
+returns c = record { added = adds-block; made = makes-file; deleted = deletes-file }
