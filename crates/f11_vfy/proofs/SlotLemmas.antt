@@ -10,7 +10,7 @@ use Rattle.f11_vfy.specs.declared.slot.State.TheVariants.{Dead, Bad, Live}
 apart : (t : Table) (n : ℕ) {A : Type 0} → t.in_use n ≡ false → t.in_use n ≡ true → A
 apart t n one other = let no : false ≡ true = sym one ∙ other in absurd cc
 
-dead-not-valid : (b : List ℕ) (n : ℕ) → IsDead b → ¬ IsHeader b n
+pub dead-not-valid : (b : List ℕ) (n : ℕ) → IsDead b → ¬ IsHeader b n
 dead-not-valid b n none valid = let some = (header_facts b valid.holds).some_number in omega (arith, some, none)
 
 pub live-from : (t : Table) (n : ℕ) (s : State) → HasState t n s → s ≡ Live → IsLive t n

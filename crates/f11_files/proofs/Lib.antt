@@ -1,0 +1,3 @@
+pub mod StoreLemmas
+pub mod SlotLemmas
+pub mod InstanceLemmas

@@ -1,0 +1,3 @@
+pub mod StoreOf
+pub mod StoreLaws
+pub mod SlotLaws

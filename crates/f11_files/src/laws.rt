@@ -1,0 +1,35 @@
+//! Laws of the store of an image, each the contract of a function that does nothing.
+ghost use Rattle.f11_files.specs.SlotLaws as slots;
+ghost use Rattle.f11_files.specs.StoreLaws as laws;
+
+/// Whether a header is a file's first is found by a test.
+pub fn tests()
+    ensures { laws.FirstIsTested }
+{}
+
+/// A write that leaves all files, or changes a block of one.
+pub fn block_writes()
+    ensures stays { laws.StoreStays }
+    ensures block { laws.BlockIsStored }
+{}
+
+/// A write that marks blocks used or free.
+pub fn bitmap_writes()
+    ensures used { laws.FewerAreFree }
+    ensures free { laws.MoreAreFree }
+{}
+
+/// A write of one slot, of its header or of its bit.
+pub fn slot_writes()
+    ensures any { slots.SlotIsStored }
+    ensures unused { slots.UnusedSlotIsGiven }
+    ensures entered { slots.FileIsEntered }
+    ensures set { slots.LooseSlotIsSet }
+{}
+
+/// A write of a header where it is.
+pub fn header_writes()
+    ensures loose { slots.LooseHeaderIsWritten }
+    ensures killed { slots.FileIsKilled }
+    ensures rewritten { slots.FileIsRewritten }
+{}
