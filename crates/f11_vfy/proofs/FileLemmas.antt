@@ -194,6 +194,10 @@ reached-are (suc most) t f {n} whole of =
     ] in
     ap (λ hs. n ∷ hs) rest ∙ sym (headers_from-some most t n some)
 
+pub file-headers-are : (image : Image) (t : Table) (f : ℕ) → IsWholeFile t f → (file_of image t f).held ≡ headers_of t f
+unfolding file_of
+file-headers-are image t f whole = reached-are 256 t f whole (first whole.file)
+
 pub file-blocks-are : (image : Image) (t : Table) (f : ℕ) → IsWholeFile t f → (file_of image t f).blocks ≡ map (block_or_zeros image) (file_blocks t f)
 unfolding file_of file_blocks
 file-blocks-are image t f whole =

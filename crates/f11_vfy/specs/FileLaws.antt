@@ -49,6 +49,10 @@ StorageBitmapIsOne =
 abbrev pub ReachedAreTheFiles : Type 0
 ReachedAreTheFiles = (t : Table) (f : ℕ) → IsWholeFile t f → headers_reached t f ≡ headers_of t f
 
--- so its blocks are what the blocks that they name hold
+-- so it holds those
+abbrev pub FileHasItsHeaders : Type 0
+FileHasItsHeaders = (image : Image) (t : Table) (f : ℕ) → IsWholeFile t f → (file_of image t f).held ≡ headers_of t f
+
+-- and its blocks are what the blocks that they name hold
 abbrev pub FileHasItsBlocks : Type 0
 FileHasItsBlocks = (image : Image) (t : Table) (f : ℕ) → IsWholeFile t f → (file_of image t f).blocks ≡ map (block_or_zeros image) (file_blocks t f)

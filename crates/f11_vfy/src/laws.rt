@@ -29,6 +29,11 @@ pub fn files()
     ensures image { files.ImageHasSoundFiles }
     ensures index { files.IndexFileIsApart }
     ensures bitmap { files.StorageBitmapIsOne }
+{}
+
+/// What a whole file has, as its headers and blocks say.
+pub fn whole_files()
     ensures reached { files.ReachedAreTheFiles }
+    ensures headers { files.FileHasItsHeaders }
     ensures blocks { files.FileHasItsBlocks }
 {}

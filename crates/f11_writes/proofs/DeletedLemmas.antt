@@ -9,6 +9,7 @@ use Rattle.f11_index.specs.Calls.{SetsBit, with_bitmap_block}
 use Rattle.f11_index.specs.Growth.{with_header}
 use Rattle.f11_index.specs.IndexFile.{Index, index_of}
 use Rattle.f11_index.specs.Table.{Table, table_of, IsLive, IsDeadSlot, IsFile, IsHeaderOf, first}
+use Rattle.f11_index.proofs.BitLemmas.{SetsBit-in_use}
 use Rattle.f11_index.proofs.HeadersLemmas.{chained-apart}
 use Rattle.f11_index.proofs.PlaceLemmas.{range-slice_get}
 use Rattle.f11_index.proofs.WalkLemmas.{in_use-within}
@@ -17,7 +18,7 @@ use Rattle.f11_vfy.specs.Space.{storage_bitmap}
 use Rattle.f11_vfy.specs.Volume.{volume_of, IsNamed}
 use Rattle.f11_vfy.proofs.FileLemmas.{image-files}
 use Rattle.f11_writes.specs.Kept.{file_in, KeepsButFree, WritesHeader, WritesSlotBit}
-use Rattle.f11_writes.specs.Worked.{IsShortFile, DeletesFile}
+use Rattle.f11_writes.specs.Worked.{MayDelete, DeletesFile}
 use Rattle.f11_writes.proofs.BitLemmas.{clear-keeps}
 use Rattle.f11_writes.proofs.BitmapLemmas.{free-keeps}
 use Rattle.f11_writes.proofs.HeaderLemmas.{kill-keeps}
@@ -25,7 +26,7 @@ use Rattle.f11_writes.proofs.NameLemmas.{lost-unnamed}
 use Rattle.f11_writes.proofs.OtherSlotLemmas.{file-kept}
 
 module _ (old freed : Image) (home : HomeFields) (n lbn count : ℕ) (dead : List ℕ) (after : Index) (is : HasSoundVolume old home)
-    (short : IsShortFile (table_of old home) n lbn count dead) (marks : Marks true (storage_bitmap old home) lbn count (with_header old home n dead) freed)
+    (short : MayDelete (table_of old home) n lbn count dead) (marks : Marks true (storage_bitmap old home) lbn count (with_header old home n dead) freed)
     (bit : SetsBit false n (index_of old home) after) where
   abbrev t : Table
   t = table_of old home
@@ -84,5 +85,10 @@ module _ (old freed : Image) (home : HomeFields) (n lbn count : ℕ) (dead : Lis
       ∙ two.files g kept.0.file (λ same. omega (arith, same, late))
       ∙ one.slot.files g kept.0.file not_one away-now
 
+  not-in-use : (table_of cleared home).in_use n ≡ false
+  not-in-use =
+      let slot = in_use-within old home n short.file.live.in_use in
+      (λ i. (three.index_file.table i).in_use n) ∙ SetsBit-in_use false n (index_of old home) after slot.0 slot.1 bit
+
   pub deletes-file : DeletesFile n dead after home old freed
-  deletes-file = record { killed = one.slot.sound; given = two.sound; cleared = three.slot.sound; others = others-same }
+  deletes-file = record { killed = one.slot.sound; given = two.sound; cleared = three.slot.sound; gone = λ file. let used = sym not-in-use ∙ file.live.in_use in cc; others = others-same }

@@ -14,4 +14,5 @@ pub mod GrowLemmas
 pub mod NameLemmas
 pub mod AddedLemmas
 pub mod MadeLemmas
+pub mod LinkedLemmas
 pub mod DeletedLemmas

@@ -14,14 +14,14 @@ use Rattle.f11_vfy.specs.Volume.{volume_of}
 use Rattle.f11_writes.specs.Kept.{WritesHeader, WritesSlotBit, WritesGrowth}
 use Rattle.f11_writes.specs.Volumes.{MayBecome}
 
--- a write of a slot that isn't in use leaves all else
+-- a header that is written into a slot that isn't in use leaves all else
 abbrev pub UnusedHeaderWriteKeeps : Type 0
 UnusedHeaderWriteKeeps =
     (image : Image) (home : HomeFields) (n : ℕ) (block : List ℕ) →
     HasSoundVolume image home → 0 < n → n ≤ slots (index_of image home) → is_in_use (index_of image home) n ≡ false →
     WritesHeader n block home image (with_header image home n block)
 
--- so does one of a dead header over one from 5 on that no header of a file links to
+-- so does a dead one over a header from 5 on to which no header of a file links
 abbrev pub KillKeeps : Type 0
 KillKeeps =
     (image : Image) (home : HomeFields) (n : ℕ) (block : List ℕ) →
@@ -35,14 +35,14 @@ pub record SparesOwnFiles (t : Table) (n : ℕ) (block : List ℕ) : Type 0 wher
   pub three : ¬ IsHeaderOf t 3 n
   pub one : IsHeaderOf t 1 n → LeadsAlike (t.header n) block
 
--- so does one over a live header of a block that it may become
+-- so does, over a live header, a block that may become it
 abbrev pub HeaderRewriteKeeps : Type 0
 HeaderRewriteKeeps =
     (image : Image) (home : HomeFields) (n : ℕ) (block : List ℕ) →
     HasSoundVolume image home → IsLive (table_of image home) n → MayBecome (volume_of image home) n block → SparesOwnFiles (table_of image home) n block →
     WritesHeader n block home image (with_header image home n block)
 
--- as a header of a file from 4 on may
+-- as over a header of a file from 4 on
 abbrev pub FileHeaderRewriteKeeps : Type 0
 FileHeaderRewriteKeeps =
     (image : Image) (home : HomeFields) (f n : ℕ) (block : List ℕ) →

@@ -75,9 +75,11 @@ pub fn names()
     ensures fewer { names.FewerMayBeNamed }
 {}
 
-/// A block of zeros that is added to a file, an empty file that is made, and one that is deleted, each in two or three writes.
+/// A block of zeros that is added to a file, an empty file that is made, a file that gets one more header, and one that is
+/// deleted, each in two or three writes.
 pub fn worked_examples()
     ensures added { worked.BlockIsAdded }
     ensures made { worked.FileIsMade }
+    ensures linked { worked.HeaderIsLinked }
     ensures deleted { worked.FileIsDeleted }
 {}
