@@ -1,10 +1,12 @@
 //! What the tests have in common.
 use f11_bytes::{BLOCK_SIZE, Block, NoMemory, write_word, zeros};
 use f11_dev::{Device, DeviceFault, Memory};
+use f11_findings::{Finding, Findings};
 use f11_header::{HeaderMut, blank};
 use f11_store::{FileId, Uic};
 use std::alloc::Global;
 use std::io::Cursor;
+use std::test::Fail;
 
 pub const ZEROS: Block = [0; BLOCK_SIZE];
 
@@ -82,10 +84,10 @@ pub fn linked(id: FileId, segment: u8, link: FileId, pointers: &[(u16, u8)]) -> 
 }
 
 /// Room for some lines.
-pub type Lines = Cursor<[u8; 160]>;
+pub type Lines = Cursor<[u8; 200]>;
 
 pub fn lines() -> Lines {
-    Cursor::new([0; 160])
+    Cursor::new([0; 200])
 }
 
 /// What was written.
@@ -94,4 +96,62 @@ pub fn text_of(lines: &Lines) -> &[u8] {
         .get_ref()
         .get(..lines.position() as usize)
         .unwrap_or(&[])
+}
+
+/// A device whose bytes are all sevens.
+pub fn sevens(alloc: Global, blocks: u32) -> Result<Memory, Fail> {
+    let mut device = memory(alloc, blocks)?;
+    for lbn in 0..blocks {
+        keep(&mut device, lbn, &SEVENS)?;
+    }
+    Ok(device)
+}
+
+/// Whether the first so many blocks of a device are those of another, and sevens stand behind them.
+pub fn has_front(
+    device: &mut impl Device,
+    whole: &mut impl Device,
+    count: u32,
+) -> Result<bool, DeviceFault> {
+    for lbn in 0..device.blocks() {
+        let want = if lbn < count {
+            get(whole, lbn)?
+        } else {
+            SEVENS
+        };
+        if get(device, lbn)? != want {
+            return Ok(false);
+        }
+    }
+    Ok(true)
+}
+
+/// Writes words into a block of a device, each at its byte, where there is one.
+pub fn put_words(
+    device: &mut impl Device,
+    lbn: u32,
+    words: &[(usize, u16)],
+) -> Result<(), DeviceFault> {
+    let mut block = get(device, lbn)?;
+    for (at, word) in words {
+        if *at < 511 {
+            write_word(&mut block, *at, *word);
+        }
+    }
+    keep(device, lbn, &block)
+}
+
+/// Whether these are the findings, each a code and two numbers.
+pub fn are_found(findings: &Findings, wanted: &[(u8, u32, u32)]) -> bool {
+    for (i, (code, a, b)) in wanted.iter().enumerate() {
+        let finding = Finding {
+            code: *code,
+            a: *a,
+            b: *b,
+        };
+        if findings.get(i) != Some(finding) {
+            return false;
+        }
+    }
+    findings.len() == wanted.len()
 }

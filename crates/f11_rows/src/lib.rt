@@ -25,6 +25,10 @@ mod refused;
 #[cfg(test)]
 mod requests;
 #[cfg(test)]
+mod rt_volumes;
+#[cfg(test)]
 mod script;
 #[cfg(test)]
 mod texts;
+#[cfg(test)]
+mod volumes;

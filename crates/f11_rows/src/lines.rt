@@ -1,8 +1,12 @@
 //! The lines of commands, where no command of the program shows them.
 use crate::fixtures::{A_TXT, SYSTEM, ZEROS, blank_of, file, lines, memory, text_of};
 use crate::headers::{directory_header, extension_header, put_name};
+use crate::volumes::params;
 use f11_bytes::{Block, write_word};
-use f11_commands::{Answer, Failure, dump_header, print_home, print_name, print_rights};
+use f11_commands::{
+    Answer, Failure, dump_header, print_home, print_init, print_name, print_rights, print_rt_init,
+    print_rt_vfy, print_vfy,
+};
 use f11_dev::FailOnce;
 use f11_header::{HeaderMut, kill};
 use std::io::Cursor;
@@ -107,5 +111,49 @@ fn a_device_fault_writes_no_line(rt: HostRuntime) -> Result<(), Fail> {
         Err(Failure::CannotWrite)
     );
     assert_eq!(rt; print_home(&mut device, &mut lines), Ok(Answer::Fault));
+    Ok(())
+}
+
+#[test]
+fn volumes_on_devices_that_fail(rt: HostRuntime) -> Result<(), Fail> {
+    let fault = Err(Failure::DeviceFault);
+    let device = FailOnce::new(memory(rt.alloc(), 22)?, 1, false);
+    let mut lines = lines();
+    let (device, answer) = print_vfy(rt.alloc(), device, &mut lines);
+    assert_eq!(rt; answer, fault);
+    let device = FailOnce::new(device, 1, false);
+    let (device, answer) = print_init(device, &mut lines, &params());
+    assert_eq!(rt; answer, fault);
+    let device = FailOnce::new(device, 1, false);
+    let answer = print_rt_vfy(rt.alloc(), device, &mut lines);
+    assert_eq!(rt; answer, fault);
+    let device = FailOnce::new(memory(rt.alloc(), 22)?, 1, false);
+    assert_eq!(rt; print_rt_init(device, 1, &mut lines), fault);
+    assert_eq!(rt; text_of(&lines), b"".as_slice());
+    Ok(())
+}
+
+/// A writer that takes so many bytes.
+fn room(space: &mut [u8; 40], size: usize) -> Cursor<&mut [u8]> {
+    Cursor::new(&mut space[..size.min(40)])
+}
+
+#[test]
+fn volumes_without_room(rt: HostRuntime) -> Result<(), Fail> {
+    let mut space = [0; 40];
+    // room for nothing, and for all but the last byte of `ok`, of the one fault and of the report
+    for (size, init_size) in [(0, 0), (22, 2), (29, 2)] {
+        let device = memory(rt.alloc(), 22)?;
+        let (device, answer) = print_vfy(rt.alloc(), device, &mut room(&mut space, size));
+        assert_eq!(rt; answer, Err(Failure::CannotWrite), "{size}");
+        let answer = print_rt_vfy(rt.alloc(), device, &mut room(&mut space, size));
+        assert_eq!(rt; answer, Err(Failure::CannotWrite), "{size}");
+        let device = memory(rt.alloc(), 22)?;
+        let mut writer = room(&mut space, init_size);
+        let (device, answer) = print_init(device, &mut writer, &params());
+        assert_eq!(rt; answer, Err(Failure::CannotWrite), "{size}");
+        let answer = print_rt_init(device, 1, &mut room(&mut space, init_size));
+        assert_eq!(rt; answer, Err(Failure::CannotWrite), "{size}");
+    }
     Ok(())
 }

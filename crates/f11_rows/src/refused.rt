@@ -3,3 +3,4 @@
 mod devices;
 mod index;
 mod names;
+mod volumes;

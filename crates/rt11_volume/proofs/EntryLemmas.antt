@@ -5,7 +5,7 @@ use Rattle.std.proofs.Math.Nat.{le-div_iff_mul-le, mul-le-mul_right, mul-le-mul_
 use Rattle.std.proofs.lemmas.List.{length-map, length-take, length-take-le, get_or-take}
 use Rattle.std.proofs.lemmas.List.Edits.{get_or-between}
 use Rattle.std.proofs.lemmas.List.FromFn.{length-range_with_len, get_or-range_with_len, get_or-map-range_with_len}
-use Rattle.std.proofs.lemmas.List.Sums.{position_or_len_is, sum_by_more}
+use Rattle.std.proofs.lemmas.List.Sums.{position_or_len_is, sum_by_more, fails_before_first}
 use Rattle.rt11_volume.specs.Entry.{entry_size, status, is_end, area_length}
 use Rattle.rt11_volume.specs.Segment.{Segment, entry_place, entry_words, entry_room, entries, area_start, HasEnd}
 use Rattle.std.specs.List.{Any}
@@ -131,3 +131,11 @@ has_end-is extra s b tells = by_tests b (has_end extra s) (λ yes. (has_end-HasE
     by_tests true false to from = absurd (let no : false ≡ true = to refl in cc)
     by_tests false true to from = absurd (let no : false ≡ true = from refl in cc)
     by_tests false false to from = refl
+
+-- no entry of a segment is an end mark
+pub entries-no_end : (extra : ℕ) (s : List ℕ) (i : ℕ) (d : List ℕ) → i < length (entries extra s) → is_end (status (get_or (entries extra s) i d)) ≡ false
+unfolding entries
+entries-no_end extra s i d inside =
+    let n : ℕ = position_or_len (λ e. is_end (status e)) (whole extra s) in
+    let before : i < n = omega (arith, inside, length-take n (whole extra s)) in
+    ap (λ (e : List ℕ). is_end (status e)) (get_or-take n (whole extra s) i d before) ∙ fails_before_first (λ e. is_end (status e)) (whole extra s) i d before

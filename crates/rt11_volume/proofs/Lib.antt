@@ -16,4 +16,9 @@ pub mod KeepLemmas
 pub mod BlockLemmas
 pub mod AnswerLemmas
 pub mod ListLemmas
+pub mod DraftLemmas
+pub mod AssemblyLemmas
+pub mod EditLemmas
+pub mod RewriteLemmas
+pub mod DeleteLemmas
 pub mod TextLemmas

@@ -1,5 +1,5 @@
 -- The walk over an accepted volume, a segment at a time.
-use Rattle.std.proofs.Common.{◌≡◌, ◌≢◌, ℕ, zero, suc, ◌+◌, ◌-◌, ◌*◌, ◌<◌, ◌≤◌, ◌==◌, ◌&&◌, Bool, true, false, not, nat_le, if◌then◌else◌, List, [], ◌∷◌, ◌++◌, length, get_or, Some, refl, sym, ◌∙◌, ap, append_assoc, append-nil, arith}
+use Rattle.std.proofs.Common.{◌≡◌, ◌≢◌, ℕ, zero, suc, ◌+◌, ◌-◌, ◌*◌, ◌<◌, ◌≤◌, ◌==◌, ◌&&◌, Bool, true, false, not, nat_le, if◌then◌else◌, List, [], ◌∷◌, ◌++◌, length, get_or, Some, refl, sym, ◌∙◌, ap, subst, append_assoc, append-nil, arith}
 use Rattle.std.specs.List.{list_any, slice_get}
 use Rattle.std.proofs.Math.Seq.{get_or-append_seam}
 use Rattle.std.proofs.lemmas.Bool.{ne_eqb, le-leb, and_from, not_from_false}
@@ -118,3 +118,36 @@ IsNext-step image place k sound within on =
 -- a segment that is visited is on the device
 pub visited-within : (image : Image) (place k : ℕ) → IsSoundImage image → slice_get (visited image) place ≡ Some k → 4 + 2 * k + 1 < length image
 visited-within image place k sound at = omega (arith, (sound.each place k at).low, sound.highest, sound.sized.within)
+
+-- the walk comes to each segment that is visited
+pub on-visited : (image : Image) (place k : ℕ) → IsSoundImage image → slice_get (visited image) place ≡ Some k → IsOn image place k
+on-visited image zero k sound at =
+    let first = (IsNext-first image).goes (λ none. omega (arith, none)) (omega arith) in
+    let same : Some k ≡ Some 1 = sym at ∙ visited-on image 0 1 first in
+    let is : 1 ≡ k = cc in
+    subst (IsOn image 0) is first
+on-visited image (suc place) k sound at =
+    let long : suc place < length (visited image) = slice_get_within (visited image) (suc place) k at in
+    let j : ℕ = get_or (visited image) place 0 in
+    let here : IsOn image place j = on-visited image place j sound (slice_get-get_or (visited image) place 0 (omega (arith, long))) in
+    let next = IsNext-step image place j sound (omega (arith, long, visited-few image)) here in
+    let some : next_of image j ≢ 0 = λ none. omega (arith, next.ends none, long) in
+    let there : IsOn image (place + 1) (next_of image j) = next.goes some (omega (arith, long, visited-few image)) in
+    let place_is : place + 1 ≡ suc place = omega arith in
+    let same : Some k ≡ Some (next_of image j) = sym at ∙ ap (slice_get (visited image)) (sym place_is) ∙ visited-on image (place + 1) (next_of image j) there in
+    let is : next_of image j ≡ k = cc in
+    subst (IsOn image (suc place)) is (subst (λ p. IsOn image p (next_of image j)) place_is there)
+
+-- no segment is visited twice
+pub visited-distinct : (image : Image) (earlier place k : ℕ) → IsSoundImage image → earlier < place → slice_get (visited image) earlier ≡ Some k → slice_get (visited image) place ≡ Some k → ⊥
+visited-distinct image earlier zero k sound before first again = omega (arith, before)
+visited-distinct image earlier (suc place) k sound before first again =
+    let long : suc place < length (visited image) = slice_get_within (visited image) (suc place) k again in
+    let j : ℕ = get_or (visited image) place 0 in
+    let at : slice_get (visited image) place ≡ Some j = slice_get-get_or (visited image) place 0 (omega (arith, long)) in
+    let next = IsNext-step image place j sound (omega (arith, long, visited-few image)) (on-visited image place j sound at) in
+    let some : next_of image j ≢ 0 = λ none. omega (arith, next.ends none, long) in
+    let there : IsOn image (place + 1) (next_of image j) = next.goes some (omega (arith, long, visited-few image)) in
+    let place_is : place + 1 ≡ suc place = omega arith in
+    let same : slice_get (visited image) (suc place) ≡ Some (next_of image j) = ap (slice_get (visited image)) (sym place_is) ∙ visited-on image (place + 1) (next_of image j) there in
+    (sound.each place j at).link_on earlier (omega (arith, before)) (first ∙ sym again ∙ same)

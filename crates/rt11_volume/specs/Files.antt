@@ -7,7 +7,9 @@ use Rattle.f11_dev.specs.declared.device.Device.{Ghosts}
 use Rattle.rt11_volume.specs.Calls.{volume_device, has_failed}
 use Rattle.rt11_volume.specs.Entry.{is_file_named}
 use Rattle.rt11_volume.specs.Looking.{IsSoundDisk}
-use Rattle.rt11_volume.specs.Operations.{with_block}
+use Rattle.rt11_volume.specs.Directory.{count_of}
+use Rattle.rt11_volume.specs.Fresh.{KeepsData}
+use Rattle.rt11_volume.specs.Operations.{with_area_emptied, with_block}
 use Rattle.rt11_volume.specs.Search.{IsFirst, HasNone}
 use Rattle.rt11_volume.specs.Segment.{Segment}
 use Rattle.rt11_volume.specs.Store.{RtStore, rt_store_of, Area, area_at}
@@ -115,3 +117,31 @@ pub record WritesBlock (name : List ℕ) (place : ℕ) (block : List ℕ) (old n
 -- the images that stand while it is written
 abbrev pub HasBlockWritten : List ℕ → ℕ → List ℕ → Disk → Image → Type 0
 HasBlockWritten name place block old image = IsSoundDisk old → WritesBlock name place block old.image image
+
+-- no block but those of the directory is another than it was
+abbrev pub KeepsFiles : Disk → Image → Type 0
+KeepsFiles old image = IsSoundDisk old → KeepsData (count_of old.image) old.image image
+
+-- The file's area is empty and joined with one empty neighbour on each side; the image is accepted as it was.
+pub record DeletesFile (name : List ℕ) (old new : Image) : Type 0 where
+  pub file : HasFile name (rt_store_of old)
+  pub unprotected : (file_area file).protected ≡ false
+  pub store_is : rt_store_of new ≡ with_area_emptied (rt_store_of old) file.place file.i file.segment
+  pub accepted : IsRtAccepted new
+
+-- The file is protected.
+pub record IsProtectedFile (name : List ℕ) (store : RtStore) : Type 0 where
+  pub file : HasFile name store
+  pub protected : (file_area file).protected ≡ true
+
+-- why a file is not deleted
+abbrev pub FailsToDelete : RtRefusal → List ℕ → Disk → Type 0
+FailsToDelete Failed name disk = ⊤
+FailsToDelete NoSuchFile name disk = IsSoundDisk disk → HasNoFile name (rt_store_of disk.image)
+FailsToDelete EndOfFile name disk = ⊥
+FailsToDelete Protected name disk = IsSoundDisk disk → IsProtectedFile name (rt_store_of disk.image)
+FailsToDelete DuplicateName name disk = ⊥
+FailsToDelete NoSpace name disk = ⊥
+FailsToDelete DirectoryFull name disk = ⊥
+FailsToDelete NoMemory name disk = ⊥
+FailsToDelete DeviceFault name disk = ⊤

@@ -1,11 +1,12 @@
 -- A segment in hand.
-use Rattle.std.specs.Prelude.{◌≡◌, ℕ, ◌<◌, ◌-◌, ◌&&◌, not, if◌then◌else◌, IsTrue, List, [], length, map, Option, Some, None, slice_index_or}
+use Rattle.std.specs.Prelude.{◌≡◌, ◌≢◌, ℕ, ◌+◌, ◌<◌, ◌-◌, ◌&&◌, not, if◌then◌else◌, IsTrue, List, [], length, map, Option, Some, None, slice_index_or}
 use Rattle.f11_dev.specs.Disk.{Disk}
 use Rattle.f11_dev.specs.Looked.{Looked}
+use Rattle.f11_dev.specs.Went.{Went}
 use Rattle.rt11_volume.specs.Entry.{status, name_words, area_length, date}
-use Rattle.f11_dev.specs.Image.{Image}
+use Rattle.f11_dev.specs.Image.{Image, image_block}
 use Rattle.rt11_volume.specs.Directory.{are_extra_wrong, is_link_on, visited}
-use Rattle.rt11_volume.specs.Segment.{segment_words, segment_count, next_segment, extra_bytes}
+use Rattle.rt11_volume.specs.Segment.{segment_lbn, segment_words, segment_count, next_segment, extra_bytes}
 use Rattle.rt11_volume.specs.declared.directory.LookFault.{LookFault}
 use Rattle.rt11_volume.specs.declared.directory.LookFault.TheVariants.{DeviceFault, NoMemory}
 use Rattle.rt11_volume.specs.declared.directory.Visited.{Visited}
@@ -15,6 +16,16 @@ use Rattle.rt11_volume.specs.declared.entry.Entry.{Entry}
 pub record ReadsSegment (k : ℕ) (words : List ℕ) (old new : Disk) : Type 0 where
   pub words_are : IsTrue old.honest → words ≡ segment_words old.image k
   pub looked : Looked old new 2 0
+
+-- no block but those of segment k is another than it was
+abbrev pub KeepsOthers : ℕ → Image → Image → Type 0
+KeepsOthers k old new = (lbn : ℕ) → lbn ≢ segment_lbn k → lbn ≢ segment_lbn k + 1 → image_block new lbn ≡ image_block old lbn
+
+-- Segment k was written with these words, and nothing else.
+pub record WritesSegment (k : ℕ) (words : List ℕ) (old new : Disk) : Type 0 where
+  pub words_are : segment_words new.image k ≡ words
+  pub kept : KeepsOthers k old.image new.image
+  pub went : Went (KeepsOthers k old.image) old new 2 0
 
 -- What was read of an entry is what its words say.
 pub record SaysEntry (entry : Entry) (words : List ℕ) : Type 0 where

@@ -16,3 +16,4 @@ pub mod Refusal
 pub mod Looking
 pub mod Files
 pub mod Listing
+pub mod Draft

@@ -74,6 +74,7 @@ pub record IsFirstFound (test : List ℕ → Bool) (image : Image) (found : Foun
 -- It was found; it stands in the segment in hand on any disk.
 pub record FindsFirst (wanted : Wanted) (found : Found) (old new : Disk) : Type 0 where
   pub inside : found.i < length (found_segment found).entries
+  pub on_device : IsOnDevice found.number (length old.image)
   pub is_first : IsSoundDisk old → IsFirstFound (is_wanted wanted) old.image found
   pub looked : Looked old new 62 0
 

@@ -2,12 +2,13 @@
 ghost use Rattle.std.specs.Prelude.{◌≡◌, false, IfOk, IfErr, OnOk, OnErr, IsErrOf};
 ghost use Rattle.f11_dev.specs.Looked.{Looked};
 ghost use Rattle.f11_dev.specs.Went.{Went};
-ghost use Rattle.rt11_volume.specs.Files.{is_device_fault, faults_in, FailsToReach, HasBlock, WritesBlock, HasBlockWritten};
+ghost use Rattle.rt11_volume.specs.Files.{is_device_fault, faults_in, FailsToReach, HasBlock, WritesBlock, HasBlockWritten, KeepsFiles, DeletesFile, FailsToDelete};
 ghost use Rattle.rt11_volume.specs.Listing.{ListsAreas, FailsToList};
 ghost use Rattle.rt11_volume.specs.Looking.{IsSoundDisk};
 ghost use Rattle.rt11_volume.specs.Store.{rt_store_of};
 
 use crate::area::RtArea;
+use crate::delete::delete_file;
 use crate::list::list_areas;
 use crate::lookup::{locate, reach};
 use crate::name::RtName;
@@ -163,6 +164,34 @@ impl<D: Device> RtAccepted<D> {
             return Err(RtRefusal::Failed);
         }
         let answer = write_block(&mut self.device, name.words(), place, block);
+        self.failed = is_device_fault(&answer);
+        answer
+    }
+
+    /// Deletes a file: its area becomes empty, and is joined with one empty neighbour on each side in its segment (profile). The two
+    /// blocks of that segment alone are written, in ascending order.
+    ///
+    /// # Errors
+    ///
+    /// `Failed` where an earlier call answered `DeviceFault`, `NoSuchFile` where there is no such file, `Protected` where it is
+    /// protected, `DeviceFault` where a transfer failed.
+    pub fn delete(&mut self, name: &RtName) -> Result<(), RtRefusal>
+        ensures answers { Answers D.disk result self.old self.new }
+        ensures went { Went (KeepsFiles (D.disk (volume_device self.old)))
+            (D.disk (volume_device self.old)) (D.disk (volume_device self.new))
+            64 (faults_in result) }
+        ensures deleted { OnOk result (IsSoundDisk (D.disk (volume_device self.old))
+            → DeletesFile name.now (D.disk (volume_device self.old)).image
+            (D.disk (volume_device self.new)).image) }
+        ensures refused { IfErr result (λ refusal.
+            FailsToDelete refusal name.now (D.disk (volume_device self.old))) }
+        ensures kept { is_device_fault result ≡ false → OnErr result
+            (Looked (D.disk (volume_device self.old)) (D.disk (volume_device self.new)) 62 0) }
+    {
+        if self.failed {
+            return Err(RtRefusal::Failed);
+        }
+        let answer = delete_file(&mut self.device, name.words());
         self.failed = is_device_fault(&answer);
         answer
     }

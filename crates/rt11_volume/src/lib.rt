@@ -2,12 +2,16 @@
 //!
 //! [`verify`] answers exactly the faults and notes of an image, and [`init`] makes a fresh volume. An [`RtAccepted`] is a volume
 //! without faults, which owns its device: [`RtAccepted::list`] gives its areas, [`RtAccepted::find`] a file, and
-//! [`RtAccepted::read`] and [`RtAccepted::write`] a file's blocks. What these mean stands in specs/ (`Store`, `Search`,
+//! [`RtAccepted::read`] and [`RtAccepted::write`] a file's blocks, and [`RtAccepted::delete`] deletes one. What these mean stands in specs/ (`Store`, `Search`,
 //! `Operations`, `Files`). The crate stands on [`f11_dev`], [`f11_findings`] and [`f11_rad50`].
 #![tactic(auto)]
 
 mod area;
+mod assembly;
+mod delete;
 mod directory;
+mod draft;
+mod edit;
 mod entry;
 mod faults;
 mod files;

@@ -3,7 +3,8 @@ ghost use Rattle.std.specs.Prelude.{◌≡◌, ◌↔◌, ◌+◌, ◌*◌, ◌^
 ghost use Rattle.f11_dev.specs.Looked.{Looked};
 ghost use Rattle.rt11_volume.specs.Entry.{entry_size};
 ghost use Rattle.rt11_volume.specs.Segment.{segment_lbn, segment_count, next_segment, highest_segment, extra_bytes, first_block, entry_room, entry_place, entries, HasEnd, segment_with, area_start, areas_end};
-ghost use Rattle.rt11_volume.specs.InHand.{ReadsSegment, SaysEntry};
+ghost use Rattle.f11_dev.specs.Went.{Went};
+ghost use Rattle.rt11_volume.specs.InHand.{KeepsOthers, ReadsSegment, WritesSegment, SaysEntry};
 
 use crate::entry::{END, Entry, has_bit};
 use f11_bytes::{BLOCK_SIZE, Block, read_word, write_word};
@@ -37,7 +38,9 @@ impl Model for Segment {
 
 impl Segment {
     /// A segment of zeros.
-    pub(crate) fn zeros() -> Segment {
+    pub(crate) fn zeros() -> Segment
+        ensures { length result ≡ 512 }
+    {
         Segment {
             low: [0; BLOCK_SIZE],
             high: [0; BLOCK_SIZE],
@@ -63,6 +66,24 @@ impl Segment {
         Ok(Segment { low, high })
     }
 
+    /// Writes it as segment `k`, each of its blocks once.
+    ///
+    /// # Errors
+    ///
+    /// `DeviceFault` where a transfer failed.
+    pub(crate) fn write<D: Device>(&self, device: &mut D, k: u16) -> Result<(), DeviceFault>
+        requires { segment_lbn k + 1 < length (D.disk device.old).image }
+        ensures written { OnOk result
+            (WritesSegment k self.now (D.disk device.old) (D.disk device.new)) }
+        ensures failed { OnErr result (Went (KeepsOthers k (D.disk device.old).image)
+            (D.disk device.old) (D.disk device.new) 2 1) }
+    {
+        let lbn = 4 + 2 * u32::from(k);
+        device.write(lbn, &self.low)?;
+        device.write(lbn + 1, &self.high)?;
+        Ok(())
+    }
+
     /// Word `i` of the segment; 0 past its end.
     pub(crate) fn word(&self, i: usize) -> u16
         ensures { result ≡ slice_index self.now i }
@@ -74,6 +95,18 @@ impl Segment {
             return read_word(&self.high, 2 * (i - BLOCK_WORDS));
         }
         0
+    }
+
+    /// Puts word `i`.
+    pub(crate) fn set_word(&mut self, i: usize, word: u16)
+        requires { i < 512 }
+        ensures { self.new ≡ slice_set self.old i word }
+    {
+        if i < BLOCK_WORDS {
+            write_word(&mut self.low, 2 * i, word);
+        } else {
+            write_word(&mut self.high, 2 * (i - BLOCK_WORDS), word);
+        }
     }
 
     /// How many segments there are, as segment 1 says.
@@ -115,7 +148,10 @@ impl Segment {
     pub(crate) fn entry_size(&self) -> usize
         ensures size { result ≡ entry_size (extra_bytes self.now) }
         ensures low { result ≤ 32774 }
+        ensures words { length self.now ≡ 512 }
     {
+        // So that the proof knows of what the words are made.
+        let _ = &self.low;
         7 + usize::from(self.extra() / 2)
     }
 

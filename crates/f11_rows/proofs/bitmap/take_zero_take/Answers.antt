@@ -1,7 +1,7 @@
-use Rattle.std.proofs.Common.{◌≡◌, ◌≢◌, ◌∙◌, ◌<◌, ◌≤◌, ℕ, true, false, length, sym, ap, subst, arith, slice_index}
+use Rattle.std.proofs.Common.{◌≡◌, ◌≢◌, ◌∙◌, ◌<◌, ℕ, true, false, length, sym, ap, subst, arith, slice_index}
 use Rattle.f11_dev.specs.Image.{Image}
 use Rattle.f11_bits.specs.Bitmap.{Bitmap, is_free}
-use Rattle.f11_bits.specs.Storage.{IsFor, bitmap_of}
+use Rattle.f11_bits.specs.Storage.{IsFor}
 use Rattle.f11_bits.proofs.LawLemmas.{IsFor-write}
 use Rattle.f11_rows.proofs.bitmap.take_zero_take.Goals as goal
 

@@ -40,6 +40,7 @@ returns-in-Some-first_in-clause-searches g c =
     let first = c.in-Some-first_in.ensures in
     record {
       inside = first.inside;
+      on_device = subst (λ (image : Image). IsOnDevice c.loop.number (length image)) so_far.image read.0;
       is_first = λ sound.
           let words : c.in-Some.segment ≡ segment_words old.image c.loop.number = read.1.words_are (so_far.honest ∙ sound.honest) ∙ ap (λ (image : Image). segment_words image c.loop.number) so_far.image in
           record {

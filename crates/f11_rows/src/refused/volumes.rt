@@ -1,0 +1,125 @@
+//! Volumes, and the names of RT-11 files.
+use crate::fixtures::{are_found, file, keep, lines, linked, memory, put_words, text_of};
+use crate::{rt_volumes, volumes};
+use f11_bytes::NoMemory;
+use f11_commands::{Answer, Failure, print_rt_vfy, print_vfy};
+use f11_dev::{DeviceFault, Memory};
+use f11_vfy::{Report, VfyError};
+use rt11_volume::{RtName, RtReport, RtVfyError};
+use std::alloc::Global;
+use std::io::Cursor;
+use std::test::Fail;
+
+/// A volume where header 5 names block 30, past the end, block 21 is free and 22 lost; of the directory record 2 has no name, and
+/// record 4 that of record 0, for no file.
+fn faulty(alloc: Global) -> Result<Memory, Fail> {
+    let mut device = volumes::made(memory(alloc, volumes::BLOCKS)?)?;
+    let header = linked(file(5, 5), 0, file(0, 0), &[(30, 0)]);
+    keep(&mut device, 7, &header)?;
+    put_words(&mut device, 20, &[(2, 0xa0)])?;
+    put_words(&mut device, 21, &[(38, 0), (40, 0), (44, 0)])?;
+    put_words(&mut device, 21, &[(64, 9), (70, 14964), (72, 8966)])?;
+    Ok(device)
+}
+
+/// Verifies a volume, once more where there was no memory.
+fn verified(alloc: Global, device: Memory) -> Result<Report<Memory>, VfyError<Memory>> {
+    match f11_vfy::verify(alloc, device) {
+        Err(VfyError::NoMemory(device)) => f11_vfy::verify(alloc, device),
+        done => done,
+    }
+}
+
+#[test]
+fn a_volume_is_verified(rt: HostRuntime) -> Result<(), Fail> {
+    let device = faulty(rt.alloc())?;
+    let Ok(Report::Faulty(_, faults, notes)) = verified(rt.alloc(), device) else {
+        return Err(DeviceFault)?;
+    };
+    assert!(rt; are_found(&faults, &[(8, 5, 0), (10, 21, 0)]));
+    let wanted = [(1, 22, 22), (6, 5, 0), (7, 4, 4), (8, 4, 4), (9, 4, 2)];
+    assert!(rt; are_found(&notes, &wanted));
+    Ok(())
+}
+
+#[test]
+fn a_report_is_written(rt: HostRuntime) -> Result<(), Fail> {
+    let mut lines = Cursor::new([0; 300]);
+    let (device, mut answer) = print_vfy(rt.alloc(), faulty(rt.alloc())?, &mut lines);
+    if answer == Err(Failure::NoMemory) {
+        assert_eq!(rt; lines.position(), 0);
+        answer = print_vfy(rt.alloc(), device, &mut lines).1;
+    }
+    assert_eq!(rt; answer, Ok(Answer::Fault));
+    let text =
+        b"fault F8 header 5 pointer 0 outside the volume\nfault F10 block 21 named and free\nnote N1 blocks 22 to 22 lost\nnote N6 file 5 in no directory\nnote N7 directory 4 record 4 names no file\nnote N8 directory 4 record 4 repeats a name\nnote N9 directory 4 record 2 has no name\nfaulty\n";
+    let written = lines.get_ref().get(..lines.position() as usize);
+    assert_eq!(rt; written, Some(text.as_slice()));
+    Ok(())
+}
+
+/// A volume with all segments in use, where the entry of the first has two kinds, and the second begins late, with a tentative file.
+fn faulty_rt(alloc: Global) -> Result<Memory, Fail> {
+    let mut device = rt_volumes::made(memory(alloc, rt_volumes::BLOCKS)?)?;
+    rt_volumes::fill(&mut device)?;
+    put_words(&mut device, 6, &[(10, 0o1400)])?;
+    put_words(&mut device, 8, &[(8, 19), (10, 0o400), (24, 0o4000)])?;
+    Ok(device)
+}
+
+/// Verifies an RT-11 volume, once more where there was no memory.
+fn rt_verified(alloc: Global, device: Memory) -> Result<RtReport<Memory>, RtVfyError<Memory>> {
+    match rt11_volume::verify(alloc, device) {
+        Err(RtVfyError::NoMemory(device)) => rt11_volume::verify(alloc, device),
+        done => done,
+    }
+}
+
+#[test]
+fn an_rt_volume_is_verified(rt: HostRuntime) -> Result<(), Fail> {
+    let device = faulty_rt(rt.alloc())?;
+    let Ok(RtReport::Faulty(_, faults, notes)) = rt_verified(rt.alloc(), device) else {
+        return Err(DeviceFault)?;
+    };
+    assert!(rt; are_found(&faults, &[(6, 1, 0), (7, 2, 0), (8, 3, 0)]));
+    assert!(rt; are_found(&notes, &[(1, 2, 0), (4, 2, 0)]));
+    Ok(())
+}
+
+#[test]
+fn an_rt_report_is_written(rt: HostRuntime) -> Result<(), Fail> {
+    let mut lines = lines();
+    let mut answer = print_rt_vfy(rt.alloc(), faulty_rt(rt.alloc())?, &mut lines);
+    if answer == Err(Failure::NoMemory) {
+        assert_eq!(rt; lines.position(), 0);
+        answer = print_rt_vfy(rt.alloc(), faulty_rt(rt.alloc())?, &mut lines);
+    }
+    assert_eq!(rt; answer, Ok(Answer::Fault));
+    let text =
+        b"fault R6 segment 1 entry 0 status\nfault R7 segment 2 entry 0 past the device\nfault R8 segment 3 begins too early\nnote Q1 segment 2 entry 0 tentative\nnote Q4 segment 2 begins late\nfaulty\n";
+    assert_eq!(rt; text_of(&lines), text.as_slice());
+    Ok(())
+}
+
+/// The text of a name, asked for again where memory was refused once.
+fn spelled(alloc: Global, name: &RtName) -> Result<String, NoMemory> {
+    match name.text(alloc) {
+        Ok(text) => Ok(text),
+        Err(NoMemory) => name.text(alloc),
+    }
+}
+
+#[test]
+fn rt_names(rt: HostRuntime) -> Result<(), Fail> {
+    for (text, words) in [
+        ("A.TXT", [1600, 0, 32980]),
+        ("B.TXT", [3200, 0, 32980]),
+        ("ABCDEF.", [1683, 6606, 0]),
+    ] {
+        let name = RtName::parse(text.as_bytes())?;
+        assert_eq!(rt; name.words(), words, "{text}");
+        let spelled = spelled(rt.alloc(), &name)?;
+        assert_eq!(rt; spelled.as_str(), text);
+    }
+    Ok(())
+}
