@@ -1,3 +1,4 @@
 pub mod StoreLemmas
 pub mod SlotLemmas
 pub mod InstanceLemmas
+pub mod FileLemmas

@@ -1,3 +1,4 @@
 pub mod StoreOf
 pub mod StoreLaws
 pub mod SlotLaws
+pub mod FileLaws

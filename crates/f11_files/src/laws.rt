@@ -1,4 +1,5 @@
 //! Laws of the store of an image, each the contract of a function that does nothing.
+ghost use Rattle.f11_files.specs.FileLaws as files;
 ghost use Rattle.f11_files.specs.SlotLaws as slots;
 ghost use Rattle.f11_files.specs.StoreLaws as laws;
 
@@ -32,4 +33,10 @@ pub fn header_writes()
     ensures loose { slots.LooseHeaderIsWritten }
     ensures killed { slots.FileIsKilled }
     ensures rewritten { slots.FileIsRewritten }
+{}
+
+/// A file whose last header names more blocks.
+pub fn growth()
+    ensures file { files.FileHasMore }
+    ensures store { files.FileGrows }
 {}

@@ -1,0 +1,8 @@
+use Rattle.f11_files.proofs.FileLemmas.{file-more, file-grows}
+use Rattle.f11_files.proofs.laws.growth.Goals as goal
+
+pub returns-clause-file : goal.returns-clause-file
+returns-clause-file c = file-more
+
+pub returns-clause-store : goal.returns-clause-store
+returns-clause-store c = file-grows
