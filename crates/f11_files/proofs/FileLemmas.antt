@@ -1,8 +1,9 @@
 -- A file one of whose headers was written.
-use Rattle.std.proofs.Common.{◌≡◌, ◌≢◌, ◌⊎◌, ◌≤◌, ◌+◌, ◌-◌, inl, inr, ℕ, suc, Bool, List, [], ◌∷◌, ◌++◌, Some, option_map, refl, ap, sym, subst, ◌∙◌, length, map, get_or, arith}
+use Rattle.std.proofs.Common.{◌≡◌, ◌≢◌, ◌⊎◌, ◌≤◌, ◌<◌, ◌+◌, ◌-◌, inl, inr, ℕ, suc, Bool, List, [], ◌∷◌, ◌++◌, Some, option_map, refl, ap, sym, subst, ◌∙◌, length, length-append, map, take, get_or, arith}
 use Rattle.std.specs.List.{range_with_len, slice_get, sum_by}
 use Rattle.std.proofs.lemmas.Bool.{cases_eq}
-use Rattle.std.proofs.lemmas.List.{map-append}
+use Rattle.std.proofs.lemmas.List.{map-append, take-map}
+use Rattle.std.proofs.Math.Seq.{take-append_seam}
 use Rattle.std.proofs.lemmas.List.Sums.{sum_by-append, sum_by-cons}
 use Rattle.std.proofs.lemmas.Option.{slice_get_within, get_or_from_slice_get}
 use Rattle.f11_dev.specs.Image.{Image}
@@ -10,25 +11,26 @@ use Rattle.f11_header.specs.Fields.{file_sequence, owner, protection, characteri
 use Rattle.f11_header.specs.Header.{IsHeader}
 use Rattle.f11_header.specs.MapFields.{places}
 use Rattle.f11_home.specs.Home.{HomeFields}
-use Rattle.f11_map.specs.MapArea.{runs_of}
 use Rattle.f11_index.specs.ChangeLaws.{IsAsGood}
 use Rattle.f11_index.specs.HeaderBlock.{segment_number, link_of, blocks_named}
-use Rattle.f11_index.specs.Headers.{headers_of}
-use Rattle.f11_index.specs.Table.{Table, table_of, IsHeaderOf, IsWholeFile, first}
+use Rattle.f11_index.specs.Headers.{headers_of, headers_from}
+use Rattle.f11_index.specs.Table.{Table, table_of, IsLive, IsNext, IsHeaderOf, IsWholeFile, first, next}
 use Rattle.f11_index.proofs.ChainLemmas.{file_of-header, live_of-header}
-use Rattle.f11_index.proofs.HeadersLemmas.{Comes, Comes-header, Comes-last, header-placed, last-ends, last-whole, live-some, place-has}
+use Rattle.f11_index.proofs.HeadersLemmas.{Comes, Comes-header, Comes-last, Comes-split, last-whole, link_number, live-some, place-has}
 use Rattle.f11_index.proofs.PlaceLemmas.{slice_get-append_front}
+use Rattle.f11_map.proofs.MapLemmas.{slice_get-append_back}
 use Rattle.f11_index.proofs.UpLemmas.{header-up}
 use Rattle.f11_chain.specs.FileHeaders.{file_blocks}
-use Rattle.f11_chain.specs.Laws.{HasMore}
-use Rattle.f11_chain.proofs.ChangeLemmas.{has-more}
+use Rattle.f11_chain.specs.Laws.{HasMore, HasHeaderMore}
+use Rattle.f11_chain.proofs.ChangeLemmas.{has-more, has-header, ends-with, is-cut}
 use Rattle.f11_store.specs.Changes.{with_change, with_file}
 use Rattle.f11_store.specs.File.{File}
 use Rattle.f11_vfy.specs.Contents.{block_or_zeros, file_of, headers_reached, pointer_count, room_left}
-use Rattle.f11_vfy.proofs.FileLemmas.{reached-are, file-blocks-are}
+use Rattle.f11_vfy.proofs.FileLemmas.{image-files, reached-are, file-blocks-are}
+use Rattle.f11_vfy.specs.Sound.{HasSoundVolume}
 use Rattle.f11_writes.specs.Kept.{file_in, WritesHeader}
 use Rattle.f11_writes.proofs.OtherSlotLemmas.{stay-before, stay-up-to}
-use Rattle.f11_files.specs.FileLaws.{SaysAlike, NamesMoreOf, with_more_blocks, held_from}
+use Rattle.f11_files.specs.FileLaws.{SaysAlike, MayStand, NamesMoreOf, LinksOnTo, EndsThere, with_more_blocks, with_header_more, with_first_headers, held_from, blocks_before, pointers_before, pointers_in, room_in}
 use Rattle.f11_files.specs.StoreOf.{store_of}
 use Rattle.f11_files.proofs.StoreLemmas.{file-at, seen-own}
 use Rattle.f11_files.proofs.InstanceLemmas.{file-rewritten}
@@ -41,45 +43,42 @@ sum-same p q (x ∷ xs) same =
     let here = same 0 x refl in
     sum_by-cons p x xs ∙ omega (arith, rest, here) ∙ sym (sum_by-cons q x xs)
 
-module _ (old new : Image) (home : HomeFields) (f n : ℕ) (block : List ℕ) (more lbn count : ℕ) (late : 2 ≤ f) (wrote : WritesHeader n block home old new)
-    (may : NamesMoreOf (table_of old home) f n block more lbn count) where
+-- the last of a list
+last-behind : (xs : List ℕ) (n : ℕ) → get_or (xs ++ n ∷ []) (length (xs ++ n ∷ []) - 1) 0 ≡ n
+last-behind xs n =
+    let count = length-append xs (n ∷ []) in
+    let place : length (xs ++ n ∷ []) - 1 ≡ length xs = omega (arith, count) in
+    let none : length xs - length xs ≡ 0 = omega arith in
+    ap (λ (i : ℕ). get_or (xs ++ n ∷ []) i 0) place
+    ∙ get_or_from_slice_get (xs ++ n ∷ []) (length xs) n 0 (slice_get-append_back xs (n ∷ []) (length xs) (length xs) refl (omega arith) ∙ ap (slice_get (n ∷ [])) none)
+
+module _ (old new : Image) (home : HomeFields) (f n : ℕ) (block : List ℕ) (late : 2 ≤ f) (wrote : WritesHeader n block home old new) (stands : MayStand (table_of old home) f n block) where
   abbrev t : Table
   t = table_of old home
 
   abbrev u : Table
   u = table_of new home
 
-  here : u.header n ≡ block
+  pub here : u.header n ≡ block
   here = wrote.index_file.header
 
   good-now : IsAsGood t u n
   good-now = record {
-    in_use = ap (λ (g : ℕ → Bool). g n) wrote.in_use ∙ (live_of-header may.last.of).in_use;
-    valid = subst (λ (b : List ℕ). IsHeader b n) (sym here) may.good.valid;
-    sequence = ap file_sequence here ∙ may.good.sequence;
-    segment = ap segment_number here ∙ may.good.segment;
+    in_use = ap (λ (g : ℕ → Bool). g n) wrote.in_use ∙ (live_of-header stands.of).in_use;
+    valid = subst (λ (b : List ℕ). IsHeader b n) (sym here) stands.good.valid;
+    sequence = ap file_sequence here ∙ stands.good.sequence;
+    segment = ap segment_number here ∙ stands.good.segment;
   }
 
   pub of-now : IsHeaderOf u f n
-  of-now = header-up t u f may.last.of (stay-up-to t u f n may.last.of wrote.slot.others good-now)
-
-  whole-was : IsWholeFile t f
-  whole-was = last-whole t f n may.last
-
-  whole-now : IsWholeFile u f
-  whole-now = last-whole u f n (record { of = of-now; no_link = ap (λ (b : List ℕ). (link_of b).number) here ∙ may.no_link })
-
-  longer : HasMore f (range_with_len lbn count) t u
-  longer =
-      has-more t u f n may.last.of may.few (stay-before t u f n wrote.slot.others) may.last.no_link (range_with_len lbn count)
-      (ap (λ (b : List ℕ). (link_of b).number) here ∙ may.no_link) (ap blocks_named here ∙ may.blocks)
+  of-now = header-up t u f stands.of (stay-up-to t u f n stands.of wrote.slot.others good-now)
 
   -- what the file's first header says
   alike : (f ≡ n) ⊎ (f ≢ n) → SaysAlike (t.header f) (u.header f)
   alike (inl same) =
-      subst (λ (k : ℕ). SaysAlike (t.header k) (u.header k)) (sym same) (subst (λ (b : List ℕ). SaysAlike (t.header n) b) (sym here) may.alike)
+      subst (λ (k : ℕ). SaysAlike (t.header k) (u.header k)) (sym same) (subst (λ (b : List ℕ). SaysAlike (t.header n) b) (sym here) stands.alike)
   alike (inr apart) =
-      let stays = wrote.slot.others.header f apart (file_of-header may.last.of).live.in_use in
+      let stays = wrote.slot.others.header f apart (file_of-header stands.of).live.in_use in
       record {
         owner_is = ap owner stays;
         protection_is = ap protection stays;
@@ -90,75 +89,105 @@ module _ (old new : Image) (home : HomeFields) (f n : ℕ) (block : List ℕ) (m
 
   sequence-stays : (f ≡ n) ⊎ (f ≢ n) → file_sequence (u.header f) ≡ file_sequence (t.header f)
   sequence-stays (inl same) = ap (λ (k : ℕ). file_sequence (u.header k)) same ∙ good-now.sequence ∙ ap (λ (k : ℕ). file_sequence (t.header k)) (sym same)
-  sequence-stays (inr apart) = ap file_sequence (wrote.slot.others.header f apart (file_of-header may.last.of).live.in_use)
+  sequence-stays (inr apart) = ap file_sequence (wrote.slot.others.header f apart (file_of-header stands.of).live.in_use)
 
-  -- the headers are those that it had
-  headers-are : (v : Table) → IsWholeFile v f → headers_reached v f ≡ headers_of v f
+  -- the headers of a whole file are its own
+  pub headers-are : (v : Table) → IsWholeFile v f → headers_reached v f ≡ headers_of v f
   headers-are v whole = reached-are 256 v f whole (first whole.file)
 
-  held-stays : headers_reached u f ≡ headers_reached t f
-  held-stays = headers-are u whole-now ∙ longer.headers ∙ sym (headers-are t whole-was)
-
-  -- header n behind the others
-  before : (behind : List ℕ) × Comes t f n (segment_number (t.header n)) behind
-  before = Comes-header may.last.of may.few
-
-  split : headers_reached t f ≡ before.0 ++ n ∷ []
-  split = headers-are t whole-was ∙ Comes-last t f n (segment_number (t.header n)) before.0 before.1 (live-some (live_of-header may.last.of)) may.few may.last.no_link
-
-  others-stay : (i m : ℕ) → slice_get before.0 i ≡ Some m → pointer_count u m ≡ pointer_count t m
-  others-stay i m at =
-      let early = slice_get_within before.0 i m at in
-      let listed : slice_get (headers_of t f) i ≡ Some m = ap (λ (hs : List ℕ). slice_get hs i) (sym (headers-are t whole-was) ∙ split) ∙ slice_get-append_front before.0 (n ∷ []) i m at in
-      let is = place-has t f m i whole-was listed in
-      ap (λ (b : List ℕ). length (runs_of (map_area b))) (stay-before t u f n wrote.slot.others m is.of (omega (arith, is.number, early, before.1.count)))
-
-  pointers-here : pointer_count u n ≡ pointer_count t n + more
-  pointers-here = ap (λ (b : List ℕ). length (runs_of (map_area b))) here ∙ may.pointers.pointers
-
-  pointers-more : sum_by (pointer_count u) (headers_reached u f) ≡ sum_by (pointer_count t) (headers_reached t f) + more
-  pointers-more =
-      let now = ap (sum_by (pointer_count u)) (held-stays ∙ split) ∙ sum_by-append (pointer_count u) before.0 (n ∷ []) in
-      let was = ap (sum_by (pointer_count t)) split ∙ sum_by-append (pointer_count t) before.0 (n ∷ []) in
-      let front = sum-same (pointer_count u) (pointer_count t) before.0 others-stay in
-      let one = sum_by-cons (pointer_count u) n [] in
-      let other = sum_by-cons (pointer_count t) n [] in
-      omega (arith, now, was, front, one, other, pointers-here)
-
-  last-is : get_or (headers_reached t f) (length (headers_reached t f) - 1) 0 ≡ n
-  last-is =
-      let ends = last-ends t f n may.last may.few in
-      let place : length (headers_of t f) - 1 ≡ segment_number (t.header n) = omega (arith, ends) in
-      ap (λ (hs : List ℕ). get_or hs (length hs - 1) 0) (headers-are t whole-was) ∙ ap (λ (i : ℕ). get_or (headers_of t f) i 0) place
-      ∙ get_or_from_slice_get (headers_of t f) (segment_number (t.header n)) n 0 (header-placed t f n may.last.of may.few)
-
-  room-less : room_left u (headers_reached u f) ≡ room_left t (headers_reached t f) - more
-  room-less =
-      let now = ap (room_left u) held-stays ∙ ap (λ (m : ℕ). places (map_area (u.header m)) - pointer_count u m) last-is in
-      let was = ap (λ (m : ℕ). places (map_area (t.header m)) - pointer_count t m) last-is in
-      let all = ap (λ (b : List ℕ). places (map_area b)) here ∙ may.pointers.places_are in
-      omega (arith, now, was, all, pointers-here)
-
-  pub file-more : file_in home f new ≡ with_more_blocks more (held_from old lbn count) (file_in home f old)
+  -- the file is what it was but for its headers, and what they say
+  pub file-as : IsWholeFile u f → (held : List ℕ) (pointers room : ℕ) (blocks : List (List ℕ)) → headers_of u f ≡ held → sum_by (pointer_count u) held ≡ pointers → room_left u held ≡ room
+      → map (block_or_zeros old) (file_blocks u f) ≡ blocks → file_in home f new ≡ record (file_in home f old) { held = held; pointers = pointers; room = room; blocks = blocks }
   unfolding file_of
-  file-more = λ i. record {
+  file-as whole held pointers room blocks held_is pointers_are room_is blocks_are = λ i. record {
     sequence = sequence-stays (cases_eq f n) i;
     owner = (alike (cases_eq f n)).owner_is i;
     protection = (alike (cases_eq f n)).protection_is i;
     characteristics = (alike (cases_eq f n)).characteristics_are i;
     ident = (alike (cases_eq f n)).ident_is i;
     attr = (alike (cases_eq f n)).attributes_are i;
-    held = held-stays i;
-    pointers = pointers-more i;
-    room = room-less i;
-    blocks = blocks-more i;
+    held = reached i;
+    pointers = (ap (sum_by (pointer_count u)) reached ∙ pointers_are) i;
+    room = (ap (room_left u) reached ∙ room_is) i;
+    blocks = (wrote.slot.contents f (file_of-header of-now) (λ same. omega (arith, same, late)) ∙ blocks_are) i;
   }
     where
-      blocks-more : (file_of new u f).blocks ≡ (file_of old t f).blocks ++ held_from old lbn count
-      blocks-more =
-          wrote.slot.contents f (file_of-header of-now) (λ same. omega (arith, same, late)) ∙ ap (map (block_or_zeros old)) longer.blocks
-          ∙ map-append (block_or_zeros old) (file_blocks t f) (range_with_len lbn count)
-          ∙ ap (λ (bs : List (List ℕ)). bs ++ held_from old lbn count) (sym (file-blocks-are old t f whole-was))
+      reached : headers_reached u f ≡ held
+      reached = headers-are u whole ∙ held_is
+
+  -- header n behind the others
+  pub before : (behind : List ℕ) × Comes t f n (segment_number (t.header n)) behind
+  before = Comes-header stands.of stands.few
+
+  some : 0 < n
+  some = live-some (live_of-header stands.of)
+
+  pub taken : take (segment_number (t.header n)) (headers_of t f) ≡ before.0
+  taken = ap (take (segment_number (t.header n))) before.1.list ∙ ap (λ (c : ℕ). take c (before.0 ++ headers_from (256 - segment_number (t.header n)) t n)) (sym before.1.count) ∙ take-append_seam before.0 _
+
+  pub up-taken : take (segment_number (t.header n) + 1) (headers_of t f) ≡ before.0 ++ n ∷ []
+  up-taken =
+      let rest : List ℕ = headers_from (255 - segment_number (t.header n)) t (link_number t n) in
+      let count : length (before.0 ++ n ∷ []) ≡ segment_number (t.header n) + 1 = length-append before.0 (n ∷ []) ∙ ap (λ (c : ℕ). c + 1) before.1.count in
+      ap (take (segment_number (t.header n) + 1)) (Comes-split t f n (segment_number (t.header n)) before.0 before.1 some stands.few)
+      ∙ ap (λ (c : ℕ). take c ((before.0 ++ n ∷ []) ++ rest)) (sym count) ∙ take-append_seam (before.0 ++ n ∷ []) rest
+
+  pub last-split : link_number t n ≡ 0 → headers_of t f ≡ before.0 ++ n ∷ []
+  last-split none = Comes-last t f n (segment_number (t.header n)) before.0 before.1 some stands.few none
+
+  -- the headers before it have the pointers that they had
+  others-stay : IsWholeFile t f → (i m : ℕ) → slice_get before.0 i ≡ Some m → pointer_count u m ≡ pointer_count t m
+  others-stay whole i m at =
+      let early = slice_get_within before.0 i m at in
+      let listed : slice_get (headers_of t f) i ≡ Some m = ap (λ (hs : List ℕ). slice_get hs i) before.1.list ∙ slice_get-append_front before.0 _ i m at in
+      let is = place-has t f m i whole listed in
+      ap pointers_in (stay-before t u f n wrote.slot.others m is.of (omega (arith, is.number, early, before.1.count)))
+
+  pub front-pointers : IsWholeFile t f → sum_by (pointer_count u) (before.0 ++ n ∷ []) ≡ sum_by (pointer_count t) before.0 + pointers_in block
+  front-pointers whole =
+      let now = sum_by-append (pointer_count u) before.0 (n ∷ []) in
+      let front = sum-same (pointer_count u) (pointer_count t) before.0 (others-stay whole) in
+      let one = sum_by-cons (pointer_count u) n [] in
+      let own = ap pointers_in here in
+      omega (arith, now, front, one, own)
+
+  pub was-pointers : sum_by (pointer_count t) (before.0 ++ n ∷ []) ≡ sum_by (pointer_count t) before.0 + pointer_count t n
+  was-pointers = sum_by-append (pointer_count t) before.0 (n ∷ []) ∙ (let one = sum_by-cons (pointer_count t) n [] in omega (arith, one))
+
+  pub front-room : room_left u (before.0 ++ n ∷ []) ≡ room_in block
+  front-room = ap (λ (m : ℕ). places (map_area (u.header m)) - pointer_count u m) (last-behind before.0 n) ∙ ap room_in here
+
+module _ (old new : Image) (home : HomeFields) (f n : ℕ) (block : List ℕ) (more lbn count : ℕ) (late : 2 ≤ f) (wrote : WritesHeader n block home old new)
+    (may : NamesMoreOf (table_of old home) f n block more lbn count) where
+  abbrev was : Table
+  was = table_of old home
+
+  whole-was : IsWholeFile was f
+  whole-was = last-whole was f n (record { of = may.stands.of; no_link = may.last })
+
+  link-now : link_number (table_of new home) n ≡ 0
+  link-now = ap (λ (b : List ℕ). (link_of b).number) (here old new home f n block late wrote may.stands) ∙ may.no_link
+
+  longer : HasMore f (range_with_len lbn count) was (table_of new home)
+  longer =
+      has-more was (table_of new home) f n may.stands.of may.stands.few (stay-before was (table_of new home) f n wrote.slot.others) may.last (range_with_len lbn count)
+      link-now (ap blocks_named (here old new home f n block late wrote may.stands) ∙ may.blocks)
+
+  pub file-more : file_in home f new ≡ with_more_blocks more (held_from old lbn count) (file_in home f old)
+  unfolding file_of
+  file-more =
+      let split = last-split old new home f n block late wrote may.stands may.last in
+      let reached = headers-are old new home f n block late wrote may.stands was whole-was in
+      let behind = (before old new home f n block late wrote may.stands).0 in
+      file-as old new home f n block late wrote may.stands
+      (last-whole (table_of new home) f n (record { of = of-now old new home f n block late wrote may.stands; no_link = link-now }))
+      (headers_reached was f) _ _ _ (longer.headers ∙ sym reached)
+      (ap (sum_by (pointer_count (table_of new home))) (reached ∙ split) ∙ front-pointers old new home f n block late wrote may.stands whole-was
+      ∙ (let all = ap (sum_by (pointer_count was)) (reached ∙ split) ∙ was-pointers old new home f n block late wrote may.stands in omega (arith, all, may.pointers.pointers)))
+      (ap (room_left (table_of new home)) (reached ∙ split) ∙ front-room old new home f n block late wrote may.stands
+      ∙ (let all = ap (room_left was) (reached ∙ split) ∙ ap (λ (m : ℕ). places (map_area (was.header m)) - pointer_count was m) (last-behind behind n) in omega (arith, all, may.pointers.pointers, may.pointers.places_are)))
+      (ap (map (block_or_zeros old)) longer.blocks ∙ map-append (block_or_zeros old) (file_blocks was f) (range_with_len lbn count)
+      ∙ ap (λ (bs : List (List ℕ)). bs ++ held_from old lbn count) (sym (file-blocks-are old was f whole-was)))
 
 pub file-grows : (old new : Image) (home : HomeFields) (f n : ℕ) (block : List ℕ) (more lbn count : ℕ) → 4 ≤ f → WritesHeader n block home old new
     → NamesMoreOf (table_of old home) f n block more lbn count → store_of new home ≡ with_change (store_of old home) f (with_more_blocks more (held_from old lbn count))
@@ -167,9 +196,108 @@ file-grows old new home f n block more lbn count late wrote may =
     let t : Table = table_of old home in
     let change : File → File = with_more_blocks more (held_from old lbn count) in
     let few : 2 ≤ f = omega (arith, late) in
-    let file = file_of-header may.last.of in
-    file-rewritten old new home n block wrote may.good.sequence f may.last.of (of-now old new home f n block more lbn count few wrote may)
+    let file = file_of-header may.stands.of in
+    file-rewritten old new home n block wrote may.stands.good.sequence f may.stands.of (of-now old new home f n block few wrote may.stands)
     ∙ ap (with_file (store_of old home) f) (
     ap Some (seen-own f (file_in home f new) late ∙ file-more old new home f n block more lbn count few wrote may ∙ ap change (sym (seen-own f (file_in home f old) late)))
     ∙ sym (ap (option_map change) (file-at old t f _ (λ _. refl) (λ none. absurd (none file))))
     )
+
+-- its last header links on to header m
+module _ (old new : Image) (home : HomeFields) (f n m : ℕ) (block : List ℕ) (late : 2 ≤ f) (wrote : WritesHeader n block home old new) (may : LinksOnTo (table_of old home) f n m block) where
+  abbrev v : Table
+  v = table_of old home
+
+  abbrev w : Table
+  w = table_of new home
+
+  was-whole : IsWholeFile v f
+  was-whole = last-whole v f n (record { of = may.stands.of; no_link = may.last })
+
+  n-now : w.header n ≡ block
+  n-now = here old new home f n block late wrote may.stands
+
+  m-stays : w.header m ≡ v.header m
+  m-stays = wrote.slot.others.header m may.other may.to.in_use
+
+  m-live : IsLive w m
+  m-live = record {
+    in_use = ap (λ (g : ℕ → Bool). g m) wrote.in_use ∙ may.to.in_use;
+    valid = subst (λ (b : List ℕ). IsHeader b m) (sym m-stays) may.to.valid;
+  }
+
+  of-n : IsHeaderOf w f n
+  of-n = of-now old new home f n block late wrote may.stands
+
+  goes : IsNext w n m
+  goes = record {
+    from = live_of-header of-n;
+    to = m-live;
+    number = ap (λ (b : List ℕ). (link_of b).number) n-now ∙ may.number;
+    sequence = ap (λ (b : List ℕ). (link_of b).sequence) n-now ∙ may.sequence ∙ ap file_sequence (sym m-stays);
+    segment = ap segment_number m-stays ∙ may.next_segment ∙ ap (λ (k : ℕ). k + 1) (sym (ap segment_number n-now ∙ may.stands.good.segment));
+  }
+
+  m-last : link_number w m ≡ 0
+  m-last = ap (λ (b : List ℕ). (link_of b).number) m-stays ∙ may.no_link
+
+  linked : HasHeaderMore f m v w
+  linked =
+      has-header v w f n may.stands.of may.stands.few (stay-before v w f n wrote.slot.others) may.last m may.early (live-some m-live)
+      (ap (λ (b : List ℕ). (link_of b).number) n-now ∙ may.number) (ap blocks_named n-now ∙ may.blocks) m-last
+
+  pub file-linked : file_in home f new ≡ with_header_more old v m (file_in home f old)
+  unfolding file_of
+  file-linked =
+      let split = last-split old new home f n block late wrote may.stands may.last in
+      let reached = headers-are old new home f n block late wrote may.stands v was-whole in
+      let behind = (before old new home f n block late wrote may.stands).0 in
+      file-as old new home f n block late wrote may.stands
+      (last-whole w f m (record { of = next of-n goes; no_link = m-last }))
+      (headers_reached v f ++ m ∷ []) _ _ _ (linked.headers ∙ ap (λ (hs : List ℕ). hs ++ m ∷ []) (sym reached))
+      (sum_by-append (pointer_count w) (headers_reached v f) (m ∷ [])
+      ∙ (let one = sum_by-cons (pointer_count w) m [] in
+      let own = ap pointers_in m-stays in
+      let now = ap (sum_by (pointer_count w)) (reached ∙ split) ∙ front-pointers old new home f n block late wrote may.stands was-whole in
+      let all = ap (sum_by (pointer_count v)) (reached ∙ split) ∙ was-pointers old new home f n block late wrote may.stands in
+      omega (arith, one, own, now, all, may.pointers.pointers)))
+      (ap (λ (k : ℕ). places (map_area (w.header k)) - pointer_count w k) (last-behind (headers_reached v f) m) ∙ ap room_in m-stays)
+      (ap (map (block_or_zeros old)) linked.blocks ∙ map-append (block_or_zeros old) (file_blocks v f) (blocks_named (w.header m))
+      ∙ ap (λ (bs : List (List ℕ)). bs ++ map (block_or_zeros old) (blocks_named (w.header m))) (sym (file-blocks-are old v f was-whole))
+      ∙ ap (λ (b : List ℕ). (file_of old v f).blocks ++ map (block_or_zeros old) (blocks_named b)) m-stays)
+
+-- it ends at header n
+module _ (old new : Image) (home : HomeFields) (f n : ℕ) (block : List ℕ) (left : ℕ) (late : 2 ≤ f) (wrote : WritesHeader n block home old new) (is : HasSoundVolume old home)
+    (may : EndsThere (table_of old home) f n block left) where
+  abbrev x : Table
+  x = table_of old home
+
+  abbrev y : Table
+  y = table_of new home
+
+  x-whole : IsWholeFile x f
+  x-whole = ((image-files old home is).each f (file_of-header may.stands.of)).whole
+
+  x-here : y.header n ≡ block
+  x-here = here old new home f n block late wrote may.stands
+
+  x-end : link_number y n ≡ 0
+  x-end = ap (λ (b : List ℕ). (link_of b).number) x-here ∙ may.no_link
+
+  pub file-ends : file_in home f new ≡ with_first_headers (segment_number (x.header n) + 1) (pointers_before x f n + pointers_in block) (room_in block) (blocks_before x f n + left) (file_in home f old)
+  unfolding file_of
+  file-ends =
+      let stay = stay-before x y f n wrote.slot.others in
+      let reached = headers-are old new home f n block late wrote may.stands x x-whole in
+      let up = up-taken old new home f n block late wrote may.stands in
+      let front = taken old new home f n block late wrote may.stands in
+      let ends = ends-with x y f n may.stands.of may.stands.few stay x-end in
+      file-as old new home f n block late wrote may.stands
+      (last-whole y f n (record { of = of-now old new home f n block late wrote may.stands; no_link = x-end }))
+      (take (segment_number (x.header n) + 1) (headers_reached x f)) _ _ _
+      (ends.headers ∙ ap (take (segment_number (x.header n) + 1)) (sym reached))
+      (ap (sum_by (pointer_count y)) (ap (take (segment_number (x.header n) + 1)) reached ∙ up) ∙ front-pointers old new home f n block late wrote may.stands x-whole
+      ∙ ap (λ (hs : List ℕ). sum_by (pointer_count x) hs + pointers_in block) (sym front))
+      (ap (room_left y) (ap (take (segment_number (x.header n) + 1)) reached ∙ up) ∙ front-room old new home f n block late wrote may.stands)
+      (ap (map (block_or_zeros old)) (is-cut x y f n may.stands.of may.stands.few stay left x-end (ap blocks_named x-here ∙ may.blocks) may.within)
+      ∙ sym (take-map (block_or_zeros old) (blocks_before x f n + left) (file_blocks x f)) ∙ ap (take (blocks_before x f n + left)) (sym (file-blocks-are old x f x-whole)))

@@ -1,18 +1,20 @@
 -- How a file changes where one of its headers is written (Files-11 On-Disk Structure Level 1, "File Header" and "Map Area").
-use Rattle.std.specs.Prelude.{◌≡◌, ℕ, ◌+◌, ◌-◌, ◌<◌, ◌≤◌, List, ◌++◌, length, map}
+use Rattle.std.specs.Prelude.{◌≡◌, ◌≢◌, ℕ, ◌+◌, ◌-◌, ◌<◌, ◌≤◌, List, [], ◌∷◌, ◌++◌, length, map, take, sum_by}
 use Rattle.std.specs.List.{range_with_len}
 use Rattle.f11_dev.specs.Image.{Image}
-use Rattle.f11_header.specs.Fields.{owner, protection, characteristics, attributes, ident_area, map_area}
+use Rattle.f11_header.specs.Fields.{file_sequence, owner, protection, characteristics, attributes, ident_area, map_area}
 use Rattle.f11_header.specs.MapFields.{places}
 use Rattle.f11_home.specs.Home.{HomeFields}
 use Rattle.f11_map.specs.MapArea.{runs_of}
 use Rattle.f11_index.specs.Growth.{IsGoodFor}
 use Rattle.f11_index.specs.HeaderBlock.{segment_number, link_of, blocks_named}
-use Rattle.f11_index.specs.Headers.{IsLastOf}
-use Rattle.f11_index.specs.Table.{Table, table_of}
+use Rattle.f11_index.specs.Headers.{headers_of}
+use Rattle.f11_index.specs.Table.{Table, table_of, IsLive, IsHeaderOf}
+use Rattle.f11_chain.specs.FileHeaders.{blocks_by}
 use Rattle.f11_store.specs.Changes.{with_change}
 use Rattle.f11_store.specs.File.{File}
-use Rattle.f11_vfy.specs.Contents.{block_or_zeros}
+use Rattle.f11_vfy.specs.Contents.{block_or_zeros, pointer_count}
+use Rattle.f11_vfy.specs.Sound.{HasSoundVolume}
 use Rattle.f11_writes.specs.Kept.{file_in, WritesHeader}
 use Rattle.f11_files.specs.StoreOf.{store_of}
 
@@ -29,15 +31,41 @@ pub record HasPointersMore (more : ℕ) (old new : List ℕ) : Type 0 where
   pub pointers : length (runs_of (map_area new)) ≡ length (runs_of (map_area old)) + more
   pub places_are : places (map_area new) ≡ places (map_area old)
 
--- Block `block` may stand as header n, the last of file f, with so many blocks from `lbn` on more, in so many pointers more.
-pub record NamesMoreOf (t : Table) (f n : ℕ) (block : List ℕ) (more lbn count : ℕ) : Type 0 where
-  pub last : IsLastOf t f n
+-- This block may stand as header n of file f: it is as good, and says what that does of the file.
+pub record MayStand (t : Table) (f n : ℕ) (block : List ℕ) : Type 0 where
+  pub of : IsHeaderOf t f n
   pub few : segment_number (t.header n) < 256
   pub good : IsGoodFor t n block
-  pub no_link : (link_of block).number ≡ 0
   pub alike : SaysAlike (t.header n) block
+
+-- It may stand there, the last one, with so many blocks from `lbn` on more, in so many pointers more.
+pub record NamesMoreOf (t : Table) (f n : ℕ) (block : List ℕ) (more lbn count : ℕ) : Type 0 where
+  pub stands : MayStand t f n block
+  pub last : (link_of (t.header n)).number ≡ 0
+  pub no_link : (link_of block).number ≡ 0
   pub pointers : HasPointersMore more (t.header n) block
   pub blocks : blocks_named block ≡ blocks_named (t.header n) ++ range_with_len lbn count
+
+-- It may stand there, the last one, with a link to header m, which links to none.
+pub record LinksOnTo (t : Table) (f n m : ℕ) (block : List ℕ) : Type 0 where
+  pub stands : MayStand t f n block
+  pub last : (link_of (t.header n)).number ≡ 0
+  pub early : segment_number (t.header n) < 255
+  pub number : (link_of block).number ≡ m
+  pub other : m ≢ n
+  pub to : IsLive t m
+  pub sequence : (link_of block).sequence ≡ file_sequence (t.header m)
+  pub next_segment : segment_number (t.header m) ≡ segment_number (t.header n) + 1
+  pub no_link : (link_of (t.header m)).number ≡ 0
+  pub pointers : HasPointersMore 0 (t.header n) block
+  pub blocks : blocks_named block ≡ blocks_named (t.header n)
+
+-- It may stand there with the first of the blocks that it names, so many, and no link: the file ends there.
+pub record EndsThere (t : Table) (f n : ℕ) (block : List ℕ) (left : ℕ) : Type 0 where
+  pub stands : MayStand t f n block
+  pub no_link : (link_of block).number ≡ 0
+  pub blocks : blocks_named block ≡ take left (blocks_named (t.header n))
+  pub within : left ≤ length (blocks_named (t.header n))
 
 -- a file with these blocks more, in so many pointers more
 abbrev pub with_more_blocks : ℕ → List (List ℕ) → File → File
@@ -46,6 +74,34 @@ with_more_blocks more blocks f = record f { pointers = f.pointers + more; room =
 -- what the blocks from this one on hold, so many
 abbrev pub held_from : Image → ℕ → ℕ → List (List ℕ)
 held_from image lbn count = map (block_or_zeros image) (range_with_len lbn count)
+
+-- a file with this header more, and what its blocks hold
+abbrev pub with_header_more : Image → Table → ℕ → File → File
+with_header_more image t m f = record f {
+  held = f.held ++ m ∷ [];
+  pointers = f.pointers + pointer_count t m;
+  room = places (map_area (t.header m)) - pointer_count t m;
+  blocks = f.blocks ++ map (block_or_zeros image) (blocks_named (t.header m));
+}
+
+-- a file with the first of its headers, so many pointers and places, and the first of its blocks
+abbrev pub with_first_headers : ℕ → ℕ → ℕ → ℕ → File → File
+with_first_headers headers pointers room blocks f = record f { held = take headers f.held; pointers = pointers; room = room; blocks = take blocks f.blocks }
+
+-- how many blocks the headers of file f before header n name
+abbrev pub blocks_before : Table → ℕ → ℕ → ℕ
+blocks_before t f n = length (blocks_by t (take (segment_number (t.header n)) (headers_of t f)))
+
+-- how many pointers they have
+abbrev pub pointers_before : Table → ℕ → ℕ → ℕ
+pointers_before t f n = sum_by (pointer_count t) (take (segment_number (t.header n)) (headers_of t f))
+
+-- the pointers and the places left of a header
+abbrev pub pointers_in : List ℕ → ℕ
+pointers_in block = length (runs_of (map_area block))
+
+abbrev pub room_in : List ℕ → ℕ
+room_in block = places (map_area block) - pointers_in block
 
 -- a file whose last header is written so has those blocks more, with what they hold
 abbrev pub FileHasMore : Type 0
@@ -60,3 +116,18 @@ FileGrows =
     (old new : Image) (home : HomeFields) (f n : ℕ) (block : List ℕ) (more lbn count : ℕ) → 4 ≤ f → WritesHeader n block home old new →
     NamesMoreOf (table_of old home) f n block more lbn count →
     store_of new home ≡ with_change (store_of old home) f (with_more_blocks more (held_from old lbn count))
+
+-- a file whose last header links on has that header more
+abbrev pub FileHasHeaderMore : Type 0
+FileHasHeaderMore =
+    (old new : Image) (home : HomeFields) (f n m : ℕ) (block : List ℕ) → 2 ≤ f → WritesHeader n block home old new →
+    LinksOnTo (table_of old home) f n m block → file_in home f new ≡ with_header_more old (table_of old home) m (file_in home f old)
+
+-- and one that ends at a header has those up to it
+abbrev pub FileEndsThere : Type 0
+FileEndsThere =
+    (old new : Image) (home : HomeFields) (f n : ℕ) (block : List ℕ) (left : ℕ) → 2 ≤ f → WritesHeader n block home old new → HasSoundVolume old home →
+    EndsThere (table_of old home) f n block left →
+    file_in home f new ≡
+    with_first_headers (segment_number ((table_of old home).header n) + 1) (pointers_before (table_of old home) f n + pointers_in block) (room_in block)
+    (blocks_before (table_of old home) f n + left) (file_in home f old)

@@ -35,8 +35,14 @@ pub fn header_writes()
     ensures rewritten { slots.FileIsRewritten }
 {}
 
-/// A file whose last header names more blocks.
+/// A file whose last header names more blocks, or links to a header that does.
 pub fn growth()
     ensures file { files.FileHasMore }
     ensures store { files.FileGrows }
+    ensures links { files.FileHasHeaderMore }
+{}
+
+/// A file that ends at one of its headers.
+pub fn cuts()
+    ensures { files.FileEndsThere }
 {}

@@ -1,4 +1,4 @@
-use Rattle.f11_files.proofs.FileLemmas.{file-more, file-grows}
+use Rattle.f11_files.proofs.FileLemmas.{file-more, file-linked, file-grows}
 use Rattle.f11_files.proofs.laws.growth.Goals as goal
 
 pub returns-clause-file : goal.returns-clause-file
@@ -6,3 +6,6 @@ returns-clause-file c = file-more
 
 pub returns-clause-store : goal.returns-clause-store
 returns-clause-store c = file-grows
+
+pub returns-clause-links : goal.returns-clause-links
+returns-clause-links c = file-linked
