@@ -38,12 +38,12 @@ with_last-same : (s : Store) (n sequence : ℕ) → s.last n ≡ sequence → wi
 with_last-same s n sequence is = λ i. record s { last = λ m. set-same s.last n sequence is m i }
 
 -- the sequence number of a slot that there is
-last-at : (t : Table) (n : ℕ) → 0 < n → n ≤ t.slots → last_given t n ≡ last_sequence t n
+pub last-at : (t : Table) (n : ℕ) → 0 < n → n ≤ t.slots → last_given t n ≡ last_sequence t n
 unfolding last_given
 last-at t n some within = ap (λ (b : Bool). cond (b && leb n t.slots) (last_sequence t n) 0) (lt-ltb 0 n some) ∙ ap (λ (b : Bool). cond b (last_sequence t n) 0) (le-leb n t.slots within)
 
 -- a first header is one of its own file alone
-first-alone : (v : Table) (g n : ℕ) → g ≢ n → IsFile v n → ¬ IsHeaderOf v g n
+pub first-alone : (v : Table) (g n : ℕ) → g ≢ n → IsFile v n → ¬ IsHeaderOf v g n
 first-alone v g n apart file (first own) = apart refl
 first-alone v g n apart file (next of goes) = let segment = goes.segment in omega (arith, segment, file.first)
 

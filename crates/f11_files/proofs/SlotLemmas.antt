@@ -39,12 +39,12 @@ module _ (old new : Image) (home : HomeFields) (n : ℕ) (slot : KeepsButSlot n 
         (slot.said 1 (subst (λ (k : ℕ). IsFile u k) first file) (subst (λ (k : ℕ). ¬ IsHeaderOf u k n) first none))
     seen none file (inr other) = ap (as_seen f) (slot.files f file other none)
 
-    other-file : ¬ IsHeaderOf u f n → file_at new u f ≡ file_at old t f
+    pub other-file : ¬ IsHeaderOf u f n → file_at new u f ≡ file_at old t f
     other-file none = file-at new u f (file_at old t f)
         (λ file. ap Some (seen none file (cases_eq f 1)) ∙ sym (file-at old t f _ (λ _. refl) (λ no. absurd (no (was apart file)))))
         (λ no. sym (file-at old t f None (λ file. absurd (no (now apart file))) (λ _. refl)))
 
-  free-stays : free_blocks new (storage_bitmap new home) ≡ free_blocks old (storage_bitmap old home)
+  pub free-stays : free_blocks new (storage_bitmap new home) ≡ free_blocks old (storage_bitmap old home)
   free-stays = free-count new home ∙ ap (λ (v : Volume). count_below v.free v.size) slot.volume ∙ sym (free-count old home)
 
   -- the sequence number of another slot

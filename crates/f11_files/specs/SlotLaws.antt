@@ -1,14 +1,14 @@
 -- What a write of one slot, of its header or of its bit, makes of the store of an image, in the words of the plain store (profile).
-use Rattle.std.specs.Prelude.{◌≡◌, ◌≢◌, ℕ, ◌<◌, ◌≤◌, ◌==◌, Bool, true, false, List, Some, None, if◌then◌else◌}
+use Rattle.std.specs.Prelude.{◌≡◌, ◌≢◌, ℕ, ◌+◌, ◌<◌, ◌≤◌, ◌==◌, Bool, true, false, List, Some, None, if◌then◌else◌}
 use Rattle.f11_dev.specs.Image.{Image}
 use Rattle.f11_header.specs.Fields.{file_sequence}
 use Rattle.f11_header.specs.Header.{IsDead}
 use Rattle.f11_home.specs.Home.{HomeFields}
 use Rattle.f11_index.specs.IndexFile.{Index}
 use Rattle.f11_index.specs.Table.{Table, table_of, last_sequence, IsFile, IsHeaderOf}
-use Rattle.f11_store.specs.Changes.{with_file}
+use Rattle.f11_store.specs.Changes.{with_file, with_more_slots}
 use Rattle.f11_store.specs.Store.{Store}
-use Rattle.f11_writes.specs.Kept.{file_in, KeepsButSlot, WritesHeader, WritesSlotBit}
+use Rattle.f11_writes.specs.Kept.{file_in, KeepsButSlot, WritesHeader, WritesSlotBit, WritesGrowth}
 use Rattle.f11_files.specs.StoreOf.{as_seen, file_at, last_given, store_of}
 
 -- slot n is in use now, or isn't
@@ -78,3 +78,19 @@ FileIsRewritten =
     (old new : Image) (home : HomeFields) (f n : ℕ) (block : List ℕ) → WritesHeader n block home old new → file_sequence block ≡ last_sequence (table_of old home) n →
     IsHeaderOf (table_of old home) f n → IsHeaderOf (table_of new home) f n →
     store_of new home ≡ with_file (store_of old home) f (Some (as_seen f (file_in home f new)))
+
+-- The index file has so many slots more, none of which was given a sequence number, where header n of file 1 was written with the
+-- sequence number that it had.
+pub record GivesSlots (n count : ℕ) (old new : Table) : Type 0 where
+  pub of_old : IsHeaderOf old 1 n
+  pub of_new : IsHeaderOf new 1 n
+  pub sequence : last_sequence new n ≡ last_sequence old n
+  pub slots : new.slots ≡ old.slots + count
+  pub unnumbered : (m : ℕ) → old.slots < m → m ≤ old.slots + count → last_sequence new m ≡ 0
+
+-- then the store has them, and file 1 as it is now
+abbrev pub IndexFileIsStored : Type 0
+IndexFileIsStored =
+    (old new : Image) (home : HomeFields) (n : ℕ) (block : List ℕ) (lbn count : ℕ) → WritesGrowth n block lbn count home old new →
+    GivesSlots n count (table_of old home) (table_of new home) →
+    store_of new home ≡ with_more_slots (with_file (store_of old home) 1 (Some (as_seen 1 (file_in home 1 new)))) count

@@ -46,3 +46,8 @@ pub fn growth()
 pub fn cuts()
     ensures { files.FileEndsThere }
 {}
+
+/// An index file that grows.
+pub fn index_growth()
+    ensures { slots.IndexFileIsStored }
+{}
