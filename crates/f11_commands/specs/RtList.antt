@@ -1,10 +1,8 @@
 -- The lines of the command `rt-list` (profile).
-use Rattle.std.specs.Prelude.{◌≡◌, ℕ, ◌++◌, ◌∷◌, [], Bool, true, false, IsTrue, List, Option, Some, None, codes}
+use Rattle.std.specs.Prelude.{ℕ, ◌++◌, ◌∷◌, [], Bool, true, false, IsTrue, List, Option, Some, None, codes}
 use Rattle.std.specs.Fmt.{decimal}
-use Rattle.std.specs.Io.KnownBytes.{Keeps}
 use Rattle.std.specs.List.{flat_map}
 use Rattle.f11_dev.specs.Disk.{Disk}
-use Rattle.f11_dev.specs.Image.{Image}
 use Rattle.f11_dev.specs.Looked.{Looked}
 use Rattle.rt11_volume.specs.Listing.{ListsAreas}
 use Rattle.rt11_volume.specs.RtName.{rt_name_text}
@@ -13,7 +11,7 @@ use Rattle.rt11_volume.specs.Verdict.{IsRtAccepted}
 use Rattle.rt11_volume.specs.declared.area.RtArea.{RtArea}
 use Rattle.rt11_volume.specs.declared.area.RtKind.{RtKind}
 use Rattle.rt11_volume.specs.declared.area.RtKind.TheVariants.{Tentative, Empty, Permanent}
-use Rattle.f11_commands.specs.Output.{TakesSome}
+use Rattle.f11_commands.specs.Output.{Takes}
 
 -- the name of a file, or `?`
 abbrev pub name_shown : Option (List ℕ) → List ℕ
@@ -39,24 +37,14 @@ area_line a = kind_line a.kind a
 abbrev pub area_lines : List RtArea → List ℕ
 area_lines areas = flat_map area_line areas
 
--- The lines of a volume without faults: one for each area.
-pub record IsListText (image : Image) (text : List ℕ) : Type 0 where
-  pub accepted : IsRtAccepted image
+-- at most so many transfers are made: the verifier's, and those of the list
+abbrev pub list_transfers : ℕ
+list_transfers = 124
+
+-- The volume has no fault, and a line was written for each of its areas.
+pub record PrintsList {W : Type 0} (old new : Disk) (contents : W → Option (List ℕ)) (before after : W) : Type 0 where
+  pub accepted : IsTrue old.honest → IsRtAccepted old.image
   pub areas : List RtArea
-  pub areas_are : ListsAreas (rt_store_of image) areas
-  pub text_is : text ≡ area_lines areas
-
--- the lines were written, which are the image's where the disk is honest
-abbrev pub PrintsList : {W : Type 0} → Disk → (W → Option (List ℕ)) → W → W → Type 0
-PrintsList disk contents before after = TakesSome contents (λ text. IsTrue disk.honest → IsListText disk.image text) before after
-
--- A transfer failed, of the verifier or of the list, and nothing was written.
-pub record FailsToVerifyOrList {D W : Type 0} (disk : D → Disk) (device : D) (contents : W → Option (List ℕ)) (before after : W) : Type 0 where
-  pub left : D
-  pub looked : Looked (disk device) (disk left) 124 1
-  pub keeps : Keeps (contents before) (contents after)
-
--- The volume was verified and its areas listed, whatever became of the lines.
-pub record IsVerifiedAndListed {D : Type 0} (disk : D → Disk) (device : D) : Type 0 where
-  pub left : D
-  pub looked : Looked (disk device) (disk left) 124 0
+  pub areas_are : IsTrue old.honest → ListsAreas (rt_store_of old.image) areas
+  pub looked : Looked old new list_transfers 0
+  pub takes : Takes contents before after (area_lines areas)

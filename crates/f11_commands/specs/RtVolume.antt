@@ -1,17 +1,18 @@
 -- The lines of the commands on RT-11 volumes (profile).
-use Rattle.std.specs.Prelude.{◌≡◌, ℕ, ◌<◌, ◌==◌, ◌++◌, ◌∷◌, [], IsTrue, if◌then◌else◌, List, length, Option, codes}
+use Rattle.std.specs.Prelude.{◌≡◌, ◌⊎◌, ℕ, ◌==◌, ◌++◌, ◌∷◌, [], if◌then◌else◌, List, length, Option, codes}
 use Rattle.std.specs.Fmt.{decimal}
 use Rattle.std.specs.List.{flat_map}
 use Rattle.f11_dev.specs.Disk.{Disk}
-use Rattle.f11_dev.specs.Image.{Image}
 use Rattle.f11_dev.specs.Looked.{Looked}
 use Rattle.std.specs.Io.KnownBytes.{Keeps}
-use Rattle.rt11_volume.specs.Calls.{most_transfers}
+use Rattle.rt11_volume.specs.Calls.{Accepts, Rejects}
 use Rattle.rt11_volume.specs.Fresh.{HasRoom, WritesFresh, FailsToWriteFresh}
-use Rattle.f11_findings.specs.Finding.{IsExactly}
 use Rattle.f11_findings.specs.declared.finding.Finding.{Finding}
-use Rattle.rt11_volume.specs.Verdict.{IsRtFault, IsRtNote, IsRtAccepted}
-use Rattle.f11_commands.specs.Output.{Takes, TakesSome}
+use Rattle.rt11_volume.specs.Verdict.{IsRtAccepted}
+use Rattle.f11_commands.specs.InitCommand.{done_line, refusal_line}
+use Rattle.f11_commands.specs.Output.{Takes}
+use Rattle.f11_commands.specs.declared.outcome.Failure.{Failure}
+use Rattle.f11_commands.specs.declared.outcome.Failure.TheVariants.{DeviceFault, NoMemory, CannotWrite}
 
 -- a segment, as a line names it
 abbrev pub segment_text : ℕ → List ℕ → List ℕ
@@ -49,61 +50,53 @@ rt_fault_lines faults = flat_map rt_fault_line faults
 unfoldable pub rt_note_lines : List Finding → List ℕ
 rt_note_lines notes = flat_map rt_note_line notes
 
--- The lines of a volume without faults: its notes, exactly those of the image, and then `accepted`.
-pub record IsAcceptedText (image : Image) (text : List ℕ) : Type 0 where
-  pub accepted : IsRtAccepted image
+-- The volume has no fault, and its notes and `accepted` were written.
+pub record PrintsAccepted {W : Type 0} (old new : Disk) (contents : W → Option (List ℕ)) (before after : W) : Type 0 where
   pub notes : List Finding
-  pub notes_are : IsExactly (IsRtNote image) notes
-  pub text_is : text ≡ rt_note_lines notes ++ (codes "accepted" ++ 10 ∷ [])
+  pub accepts : Accepts notes old new
+  pub takes : Takes contents before after (rt_note_lines notes ++ (codes "accepted" ++ 10 ∷ []))
 
--- The lines of one with faults: these, one at least, exactly those of the image, its notes, and then `faulty`.
-pub record IsFaultyText (image : Image) (text : List ℕ) : Type 0 where
+-- It has faults, which were written, then its notes and `faulty`.
+pub record PrintsFaulty {W : Type 0} (old new : Disk) (contents : W → Option (List ℕ)) (before after : W) : Type 0 where
   pub faults : List Finding
-  pub some : 0 < length faults
-  pub faults_are : IsExactly (IsRtFault image) faults
   pub notes : List Finding
-  pub notes_are : IsExactly (IsRtNote image) notes
-  pub text_is : text ≡ rt_fault_lines faults ++ (rt_note_lines notes ++ (codes "faulty" ++ 10 ∷ []))
+  pub rejects : Rejects faults notes old new
+  pub takes : Takes contents before after (rt_fault_lines faults ++ (rt_note_lines notes ++ (codes "faulty" ++ 10 ∷ [])))
 
--- the lines were written, which are the image's where the disk is honest
-abbrev pub PrintsAccepted : {W : Type 0} → Disk → (W → Option (List ℕ)) → W → W → Type 0
-PrintsAccepted disk contents before after = TakesSome contents (λ text. IsTrue disk.honest → IsAcceptedText disk.image text) before after
+-- The command, which makes so many transfers at most, couldn't be done: a transfer failed or there was no memory, and nothing was written;
+-- or the writer takes no more.
+abbrev pub FailsToPrintRt : {W : Type 0} → ℕ → Failure → Disk → Disk → (W → Option (List ℕ)) → W → W → Type 0
+FailsToPrintRt most DeviceFault old new contents before after = Looked old new most 1 × Keeps (contents before) (contents after)
+FailsToPrintRt most NoMemory old new contents before after = Looked old new most 0 × Keeps (contents before) (contents after)
+FailsToPrintRt most CannotWrite old new contents before after = Looked old new most 0
 
-abbrev pub PrintsFaulty : {W : Type 0} → Disk → (W → Option (List ℕ)) → W → W → Type 0
-PrintsFaulty disk contents before after = TakesSome contents (λ text. IsTrue disk.honest → IsFaultyText disk.image text) before after
+-- A fresh volume was made: there was room, the directory alone was written, and the image is accepted.
+pub record MakesVolume (segments : ℕ) (old new : Disk) : Type 0 where
+  pub room : HasRoom segments (length old.image)
+  pub writes : WritesFresh segments old new
+  pub accepted : IsRtAccepted new.image
 
--- A transfer of the verifier failed, and nothing was written.
-pub record FailsToVerify {D W : Type 0} (disk : D → Disk) (device : D) (contents : W → Option (List ℕ)) (before after : W) : Type 0 where
-  pub left : D
-  pub looked : Looked (disk device) (disk left) most_transfers 1
-  pub keeps : Keeps (contents before) (contents after)
+-- None can be made with so many segments, and nothing was done to the device.
+pub record RefusesVolume (segments : ℕ) (old new : Disk) : Type 0 where
+  pub no_room : ¬ HasRoom segments (length old.image)
+  pub disk_stays : new ≡ old
 
--- The volume was verified, whatever became of the lines.
-pub record IsVerified {D : Type 0} (disk : D → Disk) (device : D) : Type 0 where
-  pub left : D
-  pub looked : Looked (disk device) (disk left) most_transfers 0
+-- A transfer failed.
+pub record FailsToMakeVolume (segments : ℕ) (old new : Disk) : Type 0 where
+  pub room : HasRoom segments (length old.image)
+  pub fails : FailsToWriteFresh segments old new
 
--- A fresh volume was made, and `ok` written: there was room, the directory alone was written, and the image is accepted.
-pub record MakesVolume {D W : Type 0} (segments : ℕ) (disk : D → Disk) (device : D) (contents : W → Option (List ℕ)) (before after : W) : Type 0 where
-  pub left : D
-  pub room : HasRoom segments (length (disk device).image)
-  pub writes : WritesFresh segments (disk device) (disk left)
-  pub accepted : IsRtAccepted (disk left).image
-  pub takes : Takes contents before after (codes "ok" ++ 10 ∷ [])
+-- A fresh volume was made, and that was written.
+abbrev pub PrintsMade : {W : Type 0} → ℕ → Disk → Disk → (W → Option (List ℕ)) → W → W → Type 0
+PrintsMade segments old new contents before after = MakesVolume segments old new × Takes contents before after done_line
 
--- The number of segments is bad, and that was written.
-pub record RefusesVolume {D W : Type 0} (segments : ℕ) (disk : D → Disk) (device : D) (contents : W → Option (List ℕ)) (before after : W) : Type 0 where
-  pub no_room : ¬ HasRoom segments (length (disk device).image)
-  pub takes : Takes contents before after (codes "no BadParameter" ++ 10 ∷ [])
+-- None can be made, and that was written.
+abbrev pub PrintsRefused : {W : Type 0} → ℕ → Disk → Disk → (W → Option (List ℕ)) → W → W → Type 0
+PrintsRefused segments old new contents before after = RefusesVolume segments old new × Takes contents before after refusal_line
 
--- A transfer failed, and nothing was written to the writer.
-pub record FailsToMakeVolume {D W : Type 0} (segments : ℕ) (disk : D → Disk) (device : D) (contents : W → Option (List ℕ)) (before after : W) : Type 0 where
-  pub left : D
-  pub room : HasRoom segments (length (disk device).image)
-  pub fails : FailsToWriteFresh segments (disk device) (disk left)
-  pub keeps : Keeps (contents before) (contents after)
-
--- The volume was made or refused, whatever became of the line.
-pub record IsMadeOrNot {D : Type 0} (segments : ℕ) (disk : D → Disk) (device : D) : Type 0 where
-  pub left : D
-  pub made : HasRoom segments (length (disk device).image) → WritesFresh segments (disk device) (disk left)
+-- The command couldn't be done: a transfer failed, and nothing was written; or the writer takes no more, and the device is as after the one
+-- or the other. Memory is never wanting.
+abbrev pub FailsToPrintMade : {W : Type 0} → Failure → ℕ → Disk → Disk → (W → Option (List ℕ)) → W → W → Type 0
+FailsToPrintMade DeviceFault segments old new contents before after = FailsToMakeVolume segments old new × Keeps (contents before) (contents after)
+FailsToPrintMade CannotWrite segments old new contents before after = MakesVolume segments old new ⊎ RefusesVolume segments old new
+FailsToPrintMade NoMemory segments old new contents before after = ⊥

@@ -37,7 +37,7 @@ pub fn print_init<D: Device, W: Write>(
 }
 
 /// Writes that it is done.
-fn write_done<W: Write>(writer: &mut W) -> Result<Answer, Failure>
+pub(crate) fn write_done<W: Write>(writer: &mut W) -> Result<Answer, Failure>
     ensures done { OnOk result (Takes W.contents writer.old writer.new done_line) }
     ensures answer { IfOk result (λ answer. answer ≡ Answer.Done) }
     ensures failed { IfErr result (λ failure. failure ≡ Failure.CannotWrite) }

@@ -1,8 +1,8 @@
 //! The command `rt-list`.
-ghost use Rattle.std.specs.Prelude.{◌≡◌, OnOk};
+ghost use Rattle.std.specs.Prelude.{◌≡◌, IfOk, IfErr, OnOk};
 ghost use Rattle.f11_commands.specs.Output.{Takes};
-ghost use Rattle.f11_commands.specs.RtList.{area_line, area_lines, PrintsList, FailsToVerifyOrList, IsVerifiedAndListed};
-ghost use Rattle.f11_commands.specs.RtVolume.{PrintsFaulty};
+ghost use Rattle.f11_commands.specs.RtList.{area_line, area_lines, list_transfers, PrintsList};
+ghost use Rattle.f11_commands.specs.RtVolume.{PrintsFaulty, FailsToPrintRt};
 
 use crate::outcome::{Answer, Failure};
 use crate::rt_vfy::write_faulty;
@@ -50,41 +50,46 @@ impl fmt::Display for ShownProtection {
 }
 
 /// Verifies the RT-11 volume on a device and writes a line for each of its areas, in the order of its segments and their entries;
-/// where it has faults the lines of `rt-vfy`, with which it answers [`Answer::Fault`].
+/// where it has faults the lines of `rt-vfy`, with which it answers [`Answer::Fault`]. The device comes back; nothing is written to it.
 ///
 /// # Errors
 ///
 /// [`Failure::DeviceFault`] where a transfer failed, [`Failure::NoMemory`] where there was no memory, and
 /// [`Failure::CannotWrite`] where the writer takes no more: then it may hold a part of the lines.
-pub fn print_rt_list<D: Device + Drop, W: Write>(
+pub fn print_rt_list<D: Device, W: Write>(
     alloc: Global,
     device: D,
     writer: &mut W,
-) -> Result<Answer, Failure>
-    ensures listed { result ≡ Ok Answer.Done
-        → PrintsList (D.disk device) W.contents writer.old writer.new }
-    ensures faulty { result ≡ Ok Answer.Fault
-        → PrintsFaulty (D.disk device) W.contents writer.old writer.new }
-    ensures device_fault { result ≡ Err Failure.DeviceFault
-        → FailsToVerifyOrList D.disk device W.contents writer.old writer.new }
-    ensures cannot_write { result ≡ Err Failure.CannotWrite → IsVerifiedAndListed D.disk device }
+) -> (D, Result<Answer, Failure>)
+    ensures listed { result.1 ≡ Ok Answer.Done → PrintsList
+        (D.disk device) (D.disk result.0) W.contents writer.old writer.new }
+    ensures faulty { result.1 ≡ Ok Answer.Fault → PrintsFaulty
+        (D.disk device) (D.disk result.0) W.contents writer.old writer.new }
+    ensures failed { IfErr result.1 (λ failure. FailsToPrintRt list_transfers failure
+        (D.disk device) (D.disk result.0) W.contents writer.old writer.new) }
 {
     match verify(alloc, device) {
         Ok(RtReport::Accepted(mut volume, _notes)) => match volume.list(alloc) {
-            Ok(areas) => {
-                write_areas(writer, &areas)?;
-                Ok(Answer::Done)
-            }
-            Err(RtRefusal::NoMemory) => Err(Failure::NoMemory),
-            Err(_) => Err(Failure::DeviceFault),
+            Ok(areas) => (volume.device(), write_list(writer, &areas)),
+            Err(RtRefusal::NoMemory) => (volume.device(), Err(Failure::NoMemory)),
+            Err(_) => (volume.device(), Err(Failure::DeviceFault)),
         },
-        Ok(RtReport::Faulty(_device, faults, notes)) => {
-            write_faulty(writer, &faults, &notes)?;
-            Ok(Answer::Fault)
+        Ok(RtReport::Faulty(device, faults, notes)) => {
+            (device, write_faulty(writer, &faults, &notes))
         }
-        Err(RtVfyError::DeviceFault(_device)) => Err(Failure::DeviceFault),
-        Err(RtVfyError::NoMemory(_device)) => Err(Failure::NoMemory),
+        Err(RtVfyError::DeviceFault(device)) => (device, Err(Failure::DeviceFault)),
+        Err(RtVfyError::NoMemory(device)) => (device, Err(Failure::NoMemory)),
     }
+}
+
+/// Writes the lines of areas, and that it is done.
+fn write_list<W: Write>(writer: &mut W, areas: &[RtArea]) -> Result<Answer, Failure>
+    ensures lines { OnOk result (Takes W.contents writer.old writer.new (area_lines areas.now)) }
+    ensures answer { IfOk result (λ answer. answer ≡ Answer.Done) }
+    ensures failed { IfErr result (λ failure. failure ≡ Failure.CannotWrite) }
+{
+    write_areas(writer, areas)?;
+    Ok(Answer::Done)
 }
 
 /// Writes the lines of areas.

@@ -1,7 +1,8 @@
 //! The command `rt-vfy`.
-ghost use Rattle.std.specs.Prelude.{◌≡◌, ◌++◌, ◌∷◌, [], codes, OnOk};
+ghost use Rattle.std.specs.Prelude.{◌≡◌, ◌++◌, ◌∷◌, [], codes, IfOk, IfErr, OnOk};
 ghost use Rattle.f11_commands.specs.Output.{Takes};
-ghost use Rattle.f11_commands.specs.RtVolume.{rt_fault_line, rt_fault_lines, rt_note_line, rt_note_lines, PrintsAccepted, PrintsFaulty, FailsToVerify, IsVerified};
+ghost use Rattle.f11_commands.specs.RtVolume.{rt_fault_line, rt_fault_lines, rt_note_line, rt_note_lines, PrintsAccepted, PrintsFaulty, FailsToPrintRt};
+ghost use Rattle.rt11_volume.specs.Calls.{most_transfers};
 
 use crate::outcome::{Answer, Failure};
 use f11_dev::Device;
@@ -10,46 +11,44 @@ use std::alloc::Global;
 use std::io::{self, Write};
 
 /// Verifies the RT-11 volume on a device and writes a line for each fault and each note, in their order, and then `accepted` or
-/// `faulty`, with which it answers [`Answer::Fault`].
+/// `faulty`, with which it answers [`Answer::Fault`]. The device comes back; nothing is written to it.
 ///
 /// # Errors
 ///
 /// [`Failure::DeviceFault`] where a transfer failed, [`Failure::NoMemory`] where there was no memory, and
 /// [`Failure::CannotWrite`] where the writer takes no more: then it may hold a part of the lines.
-pub fn print_rt_vfy<D: Device + Drop, W: Write>(
+pub fn print_rt_vfy<D: Device, W: Write>(
     alloc: Global,
     device: D,
     writer: &mut W,
-) -> Result<Answer, Failure>
-    ensures accepted { result ≡ Ok Answer.Done
-        → PrintsAccepted (D.disk device) W.contents writer.old writer.new }
-    ensures faulty { result ≡ Ok Answer.Fault
-        → PrintsFaulty (D.disk device) W.contents writer.old writer.new }
-    ensures device_fault { result ≡ Err Failure.DeviceFault
-        → FailsToVerify D.disk device W.contents writer.old writer.new }
-    ensures cannot_write { result ≡ Err Failure.CannotWrite → IsVerified D.disk device }
+) -> (D, Result<Answer, Failure>)
+    ensures accepted { result.1 ≡ Ok Answer.Done → PrintsAccepted
+        (D.disk device) (D.disk result.0) W.contents writer.old writer.new }
+    ensures faulty { result.1 ≡ Ok Answer.Fault → PrintsFaulty
+        (D.disk device) (D.disk result.0) W.contents writer.old writer.new }
+    ensures failed { IfErr result.1 (λ failure. FailsToPrintRt most_transfers failure
+        (D.disk device) (D.disk result.0) W.contents writer.old writer.new) }
 {
     match verify(alloc, device) {
-        Ok(RtReport::Accepted(_volume, notes)) => {
-            write_accepted(writer, &notes)?;
-            Ok(Answer::Done)
+        Ok(RtReport::Accepted(volume, notes)) => (volume.device(), write_accepted(writer, &notes)),
+        Ok(RtReport::Faulty(device, faults, notes)) => {
+            (device, write_faulty(writer, &faults, &notes))
         }
-        Ok(RtReport::Faulty(_device, faults, notes)) => {
-            write_faulty(writer, &faults, &notes)?;
-            Ok(Answer::Fault)
-        }
-        Err(RtVfyError::DeviceFault(_device)) => Err(Failure::DeviceFault),
-        Err(RtVfyError::NoMemory(_device)) => Err(Failure::NoMemory),
+        Err(RtVfyError::DeviceFault(device)) => (device, Err(Failure::DeviceFault)),
+        Err(RtVfyError::NoMemory(device)) => (device, Err(Failure::NoMemory)),
     }
 }
 
 /// Writes the lines of a volume without faults.
-fn write_accepted<W: Write>(writer: &mut W, notes: &Notes) -> io::Result<()>
-    ensures { OnOk result (Takes W.contents writer.old writer.new
+fn write_accepted<W: Write>(writer: &mut W, notes: &Notes) -> Result<Answer, Failure>
+    ensures lines { OnOk result (Takes W.contents writer.old writer.new
         (rt_note_lines notes.now ++ (codes "accepted" ++ 10 ∷ []))) }
+    ensures answer { IfOk result (λ answer. answer ≡ Answer.Done) }
+    ensures failed { IfErr result (λ failure. failure ≡ Failure.CannotWrite) }
 {
     write_notes(writer, notes)?;
-    writeln!(writer, "accepted")
+    writeln!(writer, "accepted")?;
+    Ok(Answer::Done)
 }
 
 /// Writes the lines of one with faults.
@@ -57,13 +56,16 @@ pub(crate) fn write_faulty<W: Write>(
     writer: &mut W,
     faults: &Faults,
     notes: &Notes,
-) -> io::Result<()>
-    ensures { OnOk result (Takes W.contents writer.old writer.new
+) -> Result<Answer, Failure>
+    ensures lines { OnOk result (Takes W.contents writer.old writer.new
         (rt_fault_lines faults.now ++ (rt_note_lines notes.now ++ (codes "faulty" ++ 10 ∷ [])))) }
+    ensures answer { IfOk result (λ answer. answer ≡ Answer.Fault) }
+    ensures failed { IfErr result (λ failure. failure ≡ Failure.CannotWrite) }
 {
     write_faults(writer, faults)?;
     write_notes(writer, notes)?;
-    writeln!(writer, "faulty")
+    writeln!(writer, "faulty")?;
+    Ok(Answer::Fault)
 }
 
 /// Writes the lines of faults.

@@ -135,16 +135,22 @@ fn run<W: Write>(rt: &HostRuntime, words: Words<'_>, writer: &mut W) -> Result<A
             segments,
         } => {
             let device = FileImage::create(rt, image, u32::from(blocks))?;
-            print_rt_init(device, segments, writer)?
+            let (_, answer) = print_rt_init(device, segments, writer);
+            answer?
         }
         Words::RtList { image } => {
-            print_rt_list(rt.alloc(), FileImage::open_to_read(rt, image)?, writer)?
+            let device = FileImage::open_to_read(rt, image)?;
+            let (_, answer) = print_rt_list(rt.alloc(), device, writer);
+            answer?
         }
         Words::RtVfy { image } => {
-            print_rt_vfy(rt.alloc(), FileImage::open_to_read(rt, image)?, writer)?
+            let device = FileImage::open_to_read(rt, image)?;
+            let (_, answer) = print_rt_vfy(rt.alloc(), device, writer);
+            answer?
         }
         Words::Vfy { image } => {
-            let (_, answer) = print_vfy(rt.alloc(), FileImage::open_to_read(rt, image)?, writer);
+            let device = FileImage::open_to_read(rt, image)?;
+            let (_, answer) = print_vfy(rt.alloc(), device, writer);
             answer?
         }
     };

@@ -125,10 +125,11 @@ fn volumes_on_devices_that_fail(rt: HostRuntime) -> Result<(), Fail> {
     let (device, answer) = print_init(device, &mut lines, &params());
     assert_eq!(rt; answer, fault);
     let device = FailOnce::new(device, 1, false);
-    let answer = print_rt_vfy(rt.alloc(), device, &mut lines);
+    let (device, answer) = print_rt_vfy(rt.alloc(), device, &mut lines);
     assert_eq!(rt; answer, fault);
-    let device = FailOnce::new(memory(rt.alloc(), 22)?, 1, false);
-    assert_eq!(rt; print_rt_init(device, 1, &mut lines), fault);
+    let device = FailOnce::new(device, 1, false);
+    let (_, answer) = print_rt_init(device, 1, &mut lines);
+    assert_eq!(rt; answer, fault);
     assert_eq!(rt; text_of(&lines), b"".as_slice());
     Ok(())
 }
@@ -146,13 +147,12 @@ fn volumes_without_room(rt: HostRuntime) -> Result<(), Fail> {
         let device = memory(rt.alloc(), 22)?;
         let (device, answer) = print_vfy(rt.alloc(), device, &mut room(&mut space, size));
         assert_eq!(rt; answer, Err(Failure::CannotWrite), "{size}");
-        let answer = print_rt_vfy(rt.alloc(), device, &mut room(&mut space, size));
+        let (device, answer) = print_rt_vfy(rt.alloc(), device, &mut room(&mut space, size));
         assert_eq!(rt; answer, Err(Failure::CannotWrite), "{size}");
-        let device = memory(rt.alloc(), 22)?;
         let mut writer = room(&mut space, init_size);
         let (device, answer) = print_init(device, &mut writer, &params());
         assert_eq!(rt; answer, Err(Failure::CannotWrite), "{size}");
-        let answer = print_rt_init(device, 1, &mut room(&mut space, init_size));
+        let (_, answer) = print_rt_init(device, 1, &mut room(&mut space, init_size));
         assert_eq!(rt; answer, Err(Failure::CannotWrite), "{size}");
     }
     Ok(())

@@ -89,10 +89,10 @@ fn an_rt_volume_is_verified(rt: HostRuntime) -> Result<(), Fail> {
 #[test]
 fn an_rt_report_is_written(rt: HostRuntime) -> Result<(), Fail> {
     let mut lines = lines();
-    let mut answer = print_rt_vfy(rt.alloc(), faulty_rt(rt.alloc())?, &mut lines);
+    let (device, mut answer) = print_rt_vfy(rt.alloc(), faulty_rt(rt.alloc())?, &mut lines);
     if answer == Err(Failure::NoMemory) {
         assert_eq!(rt; lines.position(), 0);
-        answer = print_rt_vfy(rt.alloc(), faulty_rt(rt.alloc())?, &mut lines);
+        answer = print_rt_vfy(rt.alloc(), device, &mut lines).1;
     }
     assert_eq!(rt; answer, Ok(Answer::Fault));
     let text =
