@@ -21,4 +21,5 @@ pub mod AssemblyLemmas
 pub mod EditLemmas
 pub mod RewriteLemmas
 pub mod DeleteLemmas
+pub mod CreateLemmas
 pub mod TextLemmas

@@ -8,6 +8,7 @@
 
 mod area;
 mod assembly;
+mod create;
 mod delete;
 mod directory;
 mod draft;
@@ -21,6 +22,7 @@ mod lookup;
 mod name;
 mod notes;
 mod refusal;
+mod room;
 mod search;
 mod segment;
 mod verifier;
