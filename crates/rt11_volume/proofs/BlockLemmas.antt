@@ -6,17 +6,20 @@ use Rattle.std.proofs.lemmas.Bool.{cases_eq, le-leb, eq-eqb, ne_eqb}
 use Rattle.std.proofs.lemmas.List.{length-map, length-set}
 use Rattle.std.proofs.lemmas.List.FromFn.{length-range_with_len, get_or-map-range_with_len}
 use Rattle.std.proofs.lemmas.Option.{slice_get_within, slice_get-get_or}
+use Rattle.f11_dev.specs.Disk.{Disk}
 use Rattle.f11_dev.specs.Image.{Image, image_block}
 use Rattle.f11_dev.proofs.ImageLemmas.{image_block-written, image_block-other, image_block-read}
 use Rattle.rt11_volume.specs.Directory.{segment_of, visited, data_start, count_of}
 use Rattle.rt11_volume.specs.Entry.{area_length}
-use Rattle.rt11_volume.specs.Files.{HasFile, file_area, IsBlockAt, HasBlock, WritesBlock}
+use Rattle.rt11_volume.specs.Files.{HasFile, file_area, IsBlockAt, HasBlock, HasBlockWritten, WritesBlock}
+use Rattle.rt11_volume.specs.Looking.{IsSoundDisk}
 use Rattle.rt11_volume.specs.Operations.{with_block}
 use Rattle.rt11_volume.specs.Segment.{Segment, segment_words, segment_with, words_of, area_start}
 use Rattle.rt11_volume.specs.Store.{RtStore, rt_store_of, area_at}
 use Rattle.rt11_volume.proofs.FileLemmas.{segments-at, area-begins, area-ends}
 use Rattle.rt11_volume.proofs.KeepLemmas.{KeepsLinks, visited-same, visited-low, sound-kept, keeps-words}
-use Rattle.rt11_volume.proofs.SoundLemmas.{IsSoundImage, accepted_from}
+use Rattle.rt11_volume.proofs.LookingLemmas.{length-segments}
+use Rattle.rt11_volume.proofs.SoundLemmas.{IsSoundImage, accepted_from, sound_from}
 
 -- Where the area of a file is.
 record IsPlaced (image : Image) (start length_is : ℕ) : Type 0 where
@@ -28,7 +31,7 @@ unfolding rt_store_of area_at
 placed name image file sound =
     let place : ℕ = file.place in
     let at = file.first.segment_is in
-    let long : place < length (visited image) = omega (arith, slice_get_within (map (segment_of image) (visited image)) place file.segment at, length_map image) in
+    let long : place < length (visited image) = omega (arith, slice_get_within (map (segment_of image) (visited image)) place file.segment at, length-segments image) in
     let k : ℕ = get_or (visited image) place 0 in
     let there : slice_get (visited image) place ≡ Some k = slice_get-get_or (visited image) place 0 long in
     let same : Some file.segment ≡ Some (segment_of image k) = sym at ∙ segments-at image place k there in
@@ -36,9 +39,6 @@ placed name image file sound =
     let inside : file.i < length (segment_of image k).entries = subst (λ (s : Segment). file.i < length s.entries) seg (slice_get_within file.segment.entries file.i file.entry file.first.entry_is) in
     subst (λ (s : Segment). IsPlaced image (area_start s file.i) (area_length (get_or s.entries file.i []))) (sym seg)
     (record { behind = area-begins image place k file.i sound there; inside = area-ends image place k file.i sound there inside })
-  where
-    length_map : (image : Image) → length (map (segment_of image) (visited image)) ≡ length (visited image)
-    length_map image = simp length-map
 
 -- a block of an area, as the store has it
 contents-at : (store : RtStore) (seg : Segment) (i place : ℕ) → place < (area_at store seg i).length → slice_get (area_at store seg i).contents place ≡ Some (store.block ((area_at store seg i).start + place))
@@ -125,7 +125,7 @@ store-written image lbn block sound within behind =
     λ i. record { count = links.count i; highest = links.highest i; extra = extra i; segments = segments i; block = λ n. blocks n i }
 
 -- the block of a file was written
-pub block-written : (name : List ℕ) (image : Image) (place lbn : ℕ) (block : List ℕ) → IsSoundImage image → IsBlockAt name (rt_store_of image) place lbn → lbn < length image
+block-written : (name : List ℕ) (image : Image) (place lbn : ℕ) (block : List ℕ) → IsSoundImage image → IsBlockAt name (rt_store_of image) place lbn → lbn < length image
     → WritesBlock name place block image (slice_set image lbn block)
 block-written name image place lbn block sound at within =
     let behind : data_start image ≤ lbn = omega (arith, (placed name image at.file sound).behind, at.lbn_is) in
@@ -135,3 +135,10 @@ block-written name image place lbn block sound at within =
       store_is = store-written image lbn block sound within behind ∙ ap (λ n. with_block (rt_store_of image) n block) at.lbn_is;
       accepted = accepted_from (slice_set image lbn block) (sound-written image lbn block sound behind);
     }
+
+-- and the image after it is as it has to be, where the disk is sound
+pub block-lands : (name : List ℕ) (place lbn : ℕ) (block : List ℕ) (old : Disk) (now : Image) → now ≡ old.image → lbn < length now → (IsSoundDisk old → IsBlockAt name (rt_store_of old.image) place lbn)
+    → HasBlockWritten name place block old (slice_set now lbn block)
+block-lands name place lbn block old now same within at sound =
+    subst (λ (image : Image). WritesBlock name place block old.image (slice_set image lbn block)) (sym same)
+    (block-written name old.image place lbn block (sound_from old.image sound.accepted) (at sound) (omega (arith, within, ap (λ (image : Image). length image) same)))

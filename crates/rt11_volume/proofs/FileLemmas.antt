@@ -2,7 +2,7 @@
 use Rattle.std.proofs.Common.{◌≡◌, ◌⊎◌, inl, inr, ℕ, zero, suc, ◌+◌, ◌<◌, ◌≤◌, Bool, false, min, List, [], length, get_or, Some, sym, ◌∙◌, ap, subst, arith}
 use Rattle.std.specs.List.{All, slice_get}
 use Rattle.std.specs.Option.{option_map}
-use Rattle.std.proofs.lemmas.List.{length-map, get_or_default}
+use Rattle.std.proofs.lemmas.List.{get_or_default}
 use Rattle.std.proofs.lemmas.Option.{slice_get-map, slice_get_within, slice_get-get_or, get_or_from_slice_get}
 use Rattle.f11_dev.specs.Image.{Image}
 use Rattle.rt11_volume.specs.Directory.{segment_of, visited, data_start, end_before}
@@ -14,6 +14,7 @@ use Rattle.rt11_volume.specs.Segment.{Segment, segment_with, area_start}
 use Rattle.rt11_volume.specs.Store.{rt_store_of, area_at}
 use Rattle.rt11_volume.specs.declared.search.Found.{Found}
 use Rattle.rt11_volume.proofs.EntryLemmas.{area_start-more}
+use Rattle.rt11_volume.proofs.LookingLemmas.{length-segments}
 use Rattle.rt11_volume.proofs.SoundLemmas.{IsSoundImage}
 
 -- the segments that are visited, by their place
@@ -35,7 +36,7 @@ first-found test image found is =
       passes = is.first.passes;
       none_before = λ j e before at. ap test (sym (get_or_from_slice_get es j e [] at)) ∙ is.first.none_before j before;
       none_earlier = λ l s before at.
-          let long : l < length (visited image) = omega (arith, slice_get_within (segments_of image) l s at, length_segments image) in
+          let long : l < length (visited image) = omega (arith, slice_get_within (segments_of image) l s at, length-segments image) in
           let k : ℕ = get_or (visited image) l 0 in
           let there = slice_get-get_or (visited image) l 0 long in
           let same : Some s ≡ Some (segment_of image k) = sym at ∙ segments-at image l k there in
@@ -43,9 +44,6 @@ first-found test image found is =
           subst (λ (x : Segment). All (λ e. test e ≡ false) x.entries) (sym seg)
           (λ i e in_it. ap test (get_or_default (segment_of image k).entries i e [] in_it) ∙ is.none_earlier l k before there i in_it);
     }
-  where
-    length_segments : (image : Image) → length (segments_of image) ≡ length (visited image)
-    length_segments image = simp length-map
 
 -- the file of a name that was found
 unfoldable pub file-found : (name : List ℕ) (image : Image) (found : Found) → IsFirstFound (is_file_named name) image found → HasFile name (rt_store_of image)

@@ -2,7 +2,7 @@
 use Rattle.std.proofs.Common.{◌≡◌, ℕ, suc, ◌+◌, ◌<◌, ◌≤◌, min, List, [], ◌∷◌, ◌++◌, length, get_or, map, take, Some, refl, sym, ◌∙◌, ap, append_assoc, arith}
 use Rattle.std.specs.List.{flat_map, range_with_len, slice_get}
 use Rattle.std.proofs.lemmas.Grind.{flat_map-append}
-use Rattle.std.proofs.lemmas.List.{length-map, get_or-map, take_more, take_all, map-append, append-nil}
+use Rattle.std.proofs.lemmas.List.{get_or-map, take_more, take_all, map-append, append-nil}
 use Rattle.std.proofs.lemmas.List.FromFn.{map-range_with_len_more, length-range_with_len, get_or-range_with_len}
 use Rattle.std.proofs.lemmas.Option.{slice_get_within, slice_get-get_or, get_or_from_slice_get}
 use Rattle.std.proofs.lemmas.Simd.{map-map}
@@ -18,6 +18,7 @@ use Rattle.rt11_volume.specs.declared.area.RtArea.{RtArea}
 use Rattle.rt11_volume.specs.declared.entry.Entry.{Entry}
 use Rattle.rt11_volume.proofs.BlockLemmas.{map-agree}
 use Rattle.rt11_volume.proofs.FileLemmas.{area-ends}
+use Rattle.rt11_volume.proofs.LookingLemmas.{length-segments}
 use Rattle.rt11_volume.proofs.SoundLemmas.{IsSoundImage}
 
 -- what is shown of an entry in hand is what is shown of its words
@@ -45,7 +46,7 @@ pub listed-more : (image : Image) (place k : ℕ) (words : List ℕ) (before : L
 listed-more image place k words before at is so_far =
     let none : Segment = record { number = 0; first = 0; entries = [] } in
     let long : place < length (visited image) = slice_get_within (visited image) place k at in
-    let inside : place < length (segments_of image) = omega (arith, long, length_segments image) in
+    let inside : place < length (segments_of image) = omega (arith, long, length-segments image) in
     let here : get_or (segments_of image) place none ≡ segment_of image k =
     get_or-map (segment_of image) (visited image) place 0 none long ∙ ap (segment_of image) (get_or_from_slice_get (visited image) place k 0 at) in
     (λ i. so_far i ++ shown_segment (segment_with k (is i)))
@@ -53,9 +54,6 @@ listed-more image place k words before at is so_far =
     ∙ ap (λ xs. flat_map shown_segment (take place (segments_of image)) ++ xs) (sym (append-nil (shown_segment (get_or (segments_of image) place none))))
     ∙ sym (flat_map-append shown_segment (take place (segments_of image)) (get_or (segments_of image) place none ∷ []))
     ∙ ap (flat_map shown_segment) (sym (take_more (segments_of image) place none inside))
-  where
-    length_segments : (image : Image) → length (segments_of image) ≡ length (visited image)
-    length_segments image = simp length-map
 
 -- what two functions agree on, piece by piece
 flat_map-agree : {A B : Type 0} (f g : A → List B) (xs : List A) → ((j : ℕ) (x : A) → slice_get xs j ≡ Some x → f x ≡ g x) → flat_map f xs ≡ flat_map g xs
@@ -87,14 +85,11 @@ unfolding rt_store_of areas_of
 listed-all image place areas sound long so_far =
     let segs : List Segment = segments_of image in
     let store : RtStore = rt_store_of image in
-    so_far ∙ ap (flat_map shown_segment) (take_all place segs (omega (arith, long, length_segments image)))
+    so_far ∙ ap (flat_map shown_segment) (take_all place segs (omega (arith, long, length-segments image)))
     ∙ flat_map-agree shown_segment (λ seg. map shown_area (map (area_at store seg) (range_with_len 0 (length seg.entries)))) segs (λ j s is.
-    let within : j < length (visited image) = omega (arith, slice_get_within segs j s is, length_segments image) in
+    let within : j < length (visited image) = omega (arith, slice_get_within segs j s is, length-segments image) in
     let k : ℕ = get_or (visited image) j 0 in
     let none : Segment = record { number = 0; first = 0; entries = [] } in
     let seg : s ≡ segment_of image k = sym (get_or_from_slice_get segs j s none is) ∙ get_or-map (segment_of image) (visited image) j 0 none within in
     ap shown_segment seg ∙ area-shown image store j k sound (slice_get-get_or (visited image) j 0 within) ∙ ap (λ (x : Segment). map shown_area (map (area_at store x) (range_with_len 0 (length x.entries)))) (sym seg))
     ∙ sym (map-flat_map shown_area (λ seg. map (area_at store seg) (range_with_len 0 (length seg.entries))) segs)
-  where
-    length_segments : (image : Image) → length (segments_of image) ≡ length (visited image)
-    length_segments image = simp length-map

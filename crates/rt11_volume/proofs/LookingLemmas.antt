@@ -30,7 +30,7 @@ HasNoneBefore-more test image place k at none before j k' low at' = elim (cases_
 ]
 
 -- as many segments as are visited
-length-segments : (image : Image) → length (segments_of image) ≡ length (visited image)
+pub length-segments : (image : Image) → length (segments_of image) ≡ length (visited image)
 length-segments image = simp length-map
 
 -- that was all

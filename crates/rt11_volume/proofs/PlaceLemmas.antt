@@ -44,9 +44,6 @@ pub record IsAt (image : Image) (j k : ℕ) : Type 0 where
 pub visits-first : (image : Image) → visit_at (visits image) 0 ≡ visit_of image 1
 visits-first image = ap (λ (ks : List ℕ). visit_at (map (visit_of image) ks) 0) (visited-first image).1
 
-pub visits-some : (image : Image) → 0 < length (visits image)
-visits-some image = omega (arith, ap (λ (ks : List ℕ). length (map (visit_of image) ks)) (visited-first image).1)
-
 length-visits : (image : Image) → length (visits image) ≡ length (visited image)
 length-visits image = simp length-map
 

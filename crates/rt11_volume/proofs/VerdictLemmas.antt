@@ -11,7 +11,7 @@ use Rattle.rt11_volume.specs.Segment.{segment_words, segment_count}
 use Rattle.rt11_volume.specs.declared.directory.Visited.{Visited}
 use Rattle.rt11_volume.specs.InHand.{visits}
 use Rattle.rt11_volume.specs.Judging.{faults_of, notes_of}
-use Rattle.rt11_volume.specs.Verdict.{IsRtFault, IsRtNote, IsRtAccepted}
+use Rattle.rt11_volume.specs.Verdict.{IsRtFault, IsRtNote}
 use Rattle.rt11_volume.specs.Verdict.IsRtFault.{size_wrong, of_directory}
 use Rattle.rt11_volume.proofs.FaultLemmas.{faults_found, faults_listed}
 use Rattle.rt11_volume.proofs.NoteLemmas.{notes_noted, notes_listed}
@@ -51,12 +51,6 @@ notes-sized image found sized adds = IsExactly-added (IsRtNote image) found (not
     (λ k d within. let f : Finding = get_or (notes_of (visits image)) k d in
     record { sized = sized; note = notes_noted image f (Contains-get_or (notes_of (visits image)) k d within) })
     (λ code a b note. notes_listed image code a b note.note)
-
--- where there is no fault in the list, there is none
-pub accepted-none : (image : Image) (found : List Finding) → IsExactly (IsRtFault image) found → found ≡ [] → IsRtAccepted image
-accepted-none image found exact none code a b fault =
-    let has : Contains [] (finding code a b) = subst (λ (fs : List Finding). Contains fs (finding code a b)) none (exact.all code a b fault) in
-    omega (arith, has.1)
 
 -- a device of fewer than 8 blocks has no room for a directory
 pub unsized-few : (image : Image) → length image < 8 → ¬ IsSized image

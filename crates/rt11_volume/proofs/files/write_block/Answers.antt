@@ -1,14 +1,11 @@
-use Rattle.std.proofs.Common.{ap, sym, subst, length, arith}
+use Rattle.std.proofs.Common.{ap, sym, subst, arith}
 use Rattle.f11_dev.specs.Disk.{Disk}
-use Rattle.f11_dev.specs.Image.{Image}
 use Rattle.f11_dev.specs.Went.{Went}
-use Rattle.std.specs.Prelude.{slice_set}
 use Rattle.f11_dev.proofs.WentLemmas.{went_looked, went_write, went_failed_write, went_more, went_within}
 use Rattle.rt11_volume.specs.Files.{HasBlockWritten}
 use Rattle.rt11_volume.specs.declared.refusal.RtRefusal.TheVariants.{DeviceFault}
-use Rattle.rt11_volume.proofs.SoundLemmas.{sound_from}
 use Rattle.rt11_volume.proofs.AnswerLemmas.{faults-handed_on}
-use Rattle.rt11_volume.proofs.BlockLemmas.{block-written}
+use Rattle.rt11_volume.proofs.BlockLemmas.{block-lands}
 use Rattle.rt11_volume.proofs.files.write_block.Goals as goal
 
 pub returns-in_err-lbn-clause-went : goal.returns-in_err-lbn-clause-went
@@ -22,32 +19,25 @@ pub returns-in_err-write-clause-went : goal.returns-in_err-write-clause-went
 returns-in_err-write-clause-went g c =
     let old = g.D.Device.disk c.args.device.now in
     let now = g.D.Device.disk c.reach.new.device in
-    let looked = c.in_ok-lbn.ensures.looked in
+    let reached = c.in_ok-lbn.ensures in
     let P = HasBlockWritten c.args.name c.args.place c.args.block.now old in
+    let lands = block-lands c.args.name c.args.place c.in_ok-lbn.lbn c.args.block.now old now.image reached.looked.image reached.within reached.found in
     subst (λ n. Went P old (g.D.Device.disk c.write.new.self) 63 n) (sym (faults-handed_on c.from_residual-in_err-write.result DeviceFault c.from_residual-in_err-write.ensures.1))
-    (went_more P (went_looked P looked) (went_failed_write P now _ c.in_ok-lbn.lbn c.args.block.now c.in_err-write.ensures.writes.err (λ sound.
-    subst (λ (image : Image). P (slice_set image c.in_ok-lbn.lbn c.args.block.now)) (sym looked.image)
-    (λ again. block-written c.args.name old.image c.args.place c.in_ok-lbn.lbn c.args.block.now (sound_from old.image again.accepted) (c.in_ok-lbn.ensures.found again)
-    (omega (arith, c.in_ok-lbn.ensures.within, ap (λ (image : Image). length image) looked.image))) sound)))
+    (went_more P (went_looked P reached.looked) (went_failed_write P now _ c.in_ok-lbn.lbn c.args.block.now c.in_err-write.ensures.writes.err lands))
 
 pub returns-clause-went : goal.returns-clause-went
 returns-clause-went g c =
     let old = g.D.Device.disk c.args.device.now in
     let now = g.D.Device.disk c.reach.new.device in
-    let looked = c.in_ok-lbn.ensures.looked in
+    let reached = c.in_ok-lbn.ensures in
     let P = HasBlockWritten c.args.name c.args.place c.args.block.now old in
-    went_more P (went_looked P looked) (went_write P now _ c.in_ok-lbn.lbn c.args.block.now c.in_ok-write.ensures.writes.ok (λ sound.
-    subst (λ (image : Image). P (slice_set image c.in_ok-lbn.lbn c.args.block.now)) (sym looked.image)
-    (λ again. block-written c.args.name old.image c.args.place c.in_ok-lbn.lbn c.args.block.now (sound_from old.image again.accepted) (c.in_ok-lbn.ensures.found again)
-    (omega (arith, c.in_ok-lbn.ensures.within, ap (λ (image : Image). length image) looked.image))) sound))
+    let lands = block-lands c.args.name c.args.place c.in_ok-lbn.lbn c.args.block.now old now.image reached.looked.image reached.within reached.found in
+    went_more P (went_looked P reached.looked) (went_write P now _ c.in_ok-lbn.lbn c.args.block.now c.in_ok-write.ensures.writes.ok lands)
 
 pub returns-clause-written : goal.returns-clause-written
-returns-clause-written g c = λ sound.
+returns-clause-written g c =
     let old = g.D.Device.disk c.args.device.now in
     let now = g.D.Device.disk c.reach.new.device in
-    let looked = c.in_ok-lbn.ensures.looked in
-    let P = HasBlockWritten c.args.name c.args.place c.args.block.now old in
-    subst P (sym (ap (λ (d : Disk). d.image) c.in_ok-write.ensures.writes.ok))
-    (subst (λ (image : Image). P (slice_set image c.in_ok-lbn.lbn c.args.block.now)) (sym looked.image)
-    (λ again. block-written c.args.name old.image c.args.place c.in_ok-lbn.lbn c.args.block.now (sound_from old.image again.accepted) (c.in_ok-lbn.ensures.found again)
-    (omega (arith, c.in_ok-lbn.ensures.within, ap (λ (image : Image). length image) looked.image)))) sound
+    let reached = c.in_ok-lbn.ensures in
+    subst (HasBlockWritten c.args.name c.args.place c.args.block.now old) (sym (ap (λ (d : Disk). d.image) c.in_ok-write.ensures.writes.ok))
+    (block-lands c.args.name c.args.place c.in_ok-lbn.lbn c.args.block.now old now.image reached.looked.image reached.within reached.found)
