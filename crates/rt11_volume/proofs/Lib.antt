@@ -22,4 +22,5 @@ pub mod EditLemmas
 pub mod RewriteLemmas
 pub mod DeleteLemmas
 pub mod CreateLemmas
+pub mod CountLemmas
 pub mod TextLemmas

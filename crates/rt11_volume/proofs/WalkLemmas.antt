@@ -181,3 +181,22 @@ linked-walk image ks (suc most) j linked inside long =
 -- is the list of those that are visited
 pub linked-visited : (image : Image) (ks : List ℕ) → IsLinked image ks → visited image ≡ ks
 linked-visited image ks linked = ap (walked 31 image []) (sym linked.first) ∙ linked-walk image ks 31 0 linked linked.some (omega (arith, linked.few))
+
+-- no segment 0 is visited
+pub visited-some : (image : Image) (place k : ℕ) → IsSoundImage image → slice_get (visited image) place ≡ Some k → 0 < k
+visited-some image zero k sound at =
+    let first = (IsNext-first image).goes (λ none. omega (arith, none)) (omega arith) in
+    let same : Some k ≡ Some 1 = sym at ∙ visited-on image 0 1 first in
+    let is : k ≡ 1 = cc in
+    omega (arith, is)
+visited-some image (suc place) k sound at =
+    let long : suc place < length (visited image) = slice_get_within (visited image) (suc place) k at in
+    let j : ℕ = get_or (visited image) place 0 in
+    let there : slice_get (visited image) place ≡ Some j = slice_get-get_or (visited image) place 0 (omega (arith, long)) in
+    let next = IsNext-step image place j sound (omega (arith, long, visited-few image)) (on-visited image place j sound there) in
+    let some : next_of image j ≢ 0 = λ none. omega (arith, next.ends none, long) in
+    let place_is : place + 1 ≡ suc place = omega arith in
+    let same : Some k ≡ Some (next_of image j) =
+    sym at ∙ ap (slice_get (visited image)) (sym place_is) ∙ visited-on image (place + 1) (next_of image j) (next.goes some (omega (arith, long, visited-few image))) in
+    let is : k ≡ next_of image j = cc in
+    omega (arith, is, some)
