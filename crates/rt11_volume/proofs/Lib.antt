@@ -23,4 +23,5 @@ pub mod RewriteLemmas
 pub mod DeleteLemmas
 pub mod CreateLemmas
 pub mod CountLemmas
+pub mod SplitLemmas
 pub mod TextLemmas

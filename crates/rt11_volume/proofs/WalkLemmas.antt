@@ -5,7 +5,7 @@ use Rattle.std.proofs.Math.Seq.{get_or-append_seam}
 use Rattle.std.proofs.lemmas.Bool.{cases_lt, ne_eqb, le-leb, and_from, not_from_false}
 use Rattle.std.proofs.lemmas.List.{take_more, take_all, length-append, get_or_append_left}
 use Rattle.std.proofs.lemmas.List.Folds.{list_any_none}
-use Rattle.std.proofs.lemmas.Option.{slice_get_within, slice_get-get_or}
+use Rattle.std.proofs.lemmas.Option.{slice_get_within, slice_get-get_or, get_or_from_slice_get}
 use Rattle.f11_dev.specs.Image.{Image}
 use Rattle.rt11_volume.specs.Directory.{is_extra_wrong, goes_on, next_of, walked, visited, is_link_on, count_of}
 use Rattle.rt11_volume.proofs.SoundLemmas.{IsSoundImage, IsSoundAt}
@@ -91,7 +91,7 @@ link_on image place k on sound some =
     (and_from (not (next == 0)) (nat_le next (count_of image) && not (list_any (λ j. j == next) seen)) (not_from_false _ (ne_eqb next 0 some))
     (and_from (nat_le next (count_of image)) (not (list_any (λ j. j == next) seen)) (le-leb _ _ sound.link_in) (not_from_false _ none)))
 
-link_ends : (image : Image) (seen : List ℕ) (k : ℕ) → next_of image k ≡ 0 → goes_on image seen k ≡ false
+pub link_ends : (image : Image) (seen : List ℕ) (k : ℕ) → next_of image k ≡ 0 → goes_on image seen k ≡ false
 link_ends image seen k none =
     ap (λ n. not (is_extra_wrong image k) && is_link_on (count_of image) seen n) none ∙ and_false (not (is_extra_wrong image k))
   where
@@ -200,3 +200,7 @@ visited-some image (suc place) k sound at =
     sym at ∙ ap (slice_get (visited image)) (sym place_is) ∙ visited-on image (place + 1) (next_of image j) (next.goes some (omega (arith, long, visited-few image))) in
     let is : k ≡ next_of image j = cc in
     omega (arith, is, some)
+
+-- segment 1 is visited first
+pub visited-first_one : (image : Image) → IsSoundImage image → get_or (visited image) 0 0 ≡ 1
+visited-first_one image sound = get_or_from_slice_get (visited image) 0 1 0 (visited-on image 0 1 ((IsNext-first image).goes (λ none. omega (arith, none)) (omega arith)))
