@@ -24,4 +24,5 @@ pub mod DeleteLemmas
 pub mod CreateLemmas
 pub mod CountLemmas
 pub mod SplitLemmas
+pub mod SplitSoundLemmas
 pub mod TextLemmas
