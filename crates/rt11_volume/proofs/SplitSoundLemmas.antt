@@ -77,3 +77,165 @@ chain-sound image ks chain within few high areas first then = record {
           | inl more ↦ chain.apart earlier (place + 1) (omega (arith, order)) more (get_or_from_slice_get ks earlier (next_of image k) 0 back ∙ ap (next_of image) (sym is) ∙ chain.next place more)
           | inr end ↦ omega (arith, get_or_from_slice_get ks earlier (next_of image k) 0 back, last_next place k inside is end, chain.positive earlier (slice_get_within ks earlier (next_of image k) back))
         ]
+
+-- Segment k was split: its entries stand in two, the second in a new segment whose areas begin where those of the first end.
+pub record SplitsAreas (old new : Image) (place k number start : ℕ) (front back : List (List ℕ)) : Type 0 where
+  pub links : SplitsLinks old new place k number
+  pub size : length new ≡ length old
+  pub highest : highest_segment (segment_words new 1) ≡ number
+  pub front_is : segment_of new k ≡ record { number = k; first = (segment_of old k).first; entries = front }
+  pub back_is : segment_of new number ≡ record { number = number; first = start; entries = back }
+  pub others : (j : ℕ) → j ≢ k → j ≢ number → segment_of new j ≡ segment_of old j
+  pub ends_front : HasEnd (extra_bytes (segment_words new k)) (segment_words new k)
+  pub ends_back : HasEnd (extra_bytes (segment_words new number)) (segment_words new number)
+  pub ends : (j : ℕ) → j ≢ k → j ≢ number → HasEnd (extra_bytes (segment_words old j)) (segment_words old j) → HasEnd (extra_bytes (segment_words new j)) (segment_words new j)
+  pub start_is : start ≡ (segment_of old k).first + sum_by area_length front
+  pub sum : sum_by area_length front + sum_by area_length back ≡ sum_by area_length (segment_of old k).entries
+  pub some : 0 < length (segment_of old k).entries
+  pub kinds_front : All (λ e. is_one_kind (status e) ≡ true) front
+  pub kinds_back : All (λ e. is_one_kind (status e) ≡ true) back
+
+-- areas in a row
+row-areas : (image : Image) (blocks high k number first bound : ℕ) (es : List (List ℕ)) → segment_of image k ≡ record { number = number; first = first; entries = es }
+    → HasEnd (extra_bytes (segment_words image k)) (segment_words image k) → k ≤ high → All (λ e. is_one_kind (status e) ≡ true) es → first + sum_by area_length es ≤ bound → bound ≤ min blocks 65535 → AreSoundAreas image blocks high k
+row-areas image blocks high k number first bound es is ends low kinds within few = record {
+  ends = ends;
+  low = low;
+  one_kind = λ i e entry.
+      let in_it : slice_get es i ≡ Some e = ap (λ (s : Segment). slice_get s.entries i) (sym is) ∙ entry in
+      ap (λ (x : List ℕ). is_one_kind (status x)) (sym (get_or_from_slice_get es i e e in_it)) ∙ kinds i e (slice_get_within es i e in_it);
+  within = λ i e entry. omega (arith, ap (λ (s : Segment). area_start s (i + 1)) is, sum_by-take-le area_length es (i + 1), within, few);
+}
+
+-- the areas of a segment begin where those of the one before end, or behind
+row-behind : (image : Image) (place : ℕ) → IsSoundImage image → place + 1 < length (visited image)
+    → areas_end (segment_of image (get_or (visited image) place 0)) ≤ (segment_of image (get_or (visited image) (place + 1) 0)).first
+unfolding end_before
+row-behind image place sound more =
+    let p : place + 1 ≡ suc place = omega arith in
+    let begins = (sound.each (suc place) (get_or (visited image) (suc place) 0) (slice_get-get_or (visited image) (suc place) 0 (omega (arith, more)))).begins in
+    omega (arith, begins, ap (λ n. (segment_of image (get_or (visited image) n 0)).first) p)
+
+row-first : (image : Image) → IsSoundImage image → 0 < length (visited image) → 6 + 2 * count_of image ≤ (segment_of image (get_or (visited image) 0 0)).first
+unfolding end_before
+row-first image sound some = (sound.each 0 (get_or (visited image) 0 0) (slice_get-get_or (visited image) 0 0 some)).begins
+
+-- the image has no fault
+pub split-sound : (old new : Image) (place k number start : ℕ) (front back : List (List ℕ)) → IsSoundImage old → SplitsAreas old new place k number start front back → IsSoundImage new
+split-sound old new place k number start front back sound is =
+    chain-sound new L (split-chain old new place k number sound is.links) (omega (arith, sound.sized.within, is.links.count, is.size)) (omega (arith, sound.sized.few, is.links.count))
+    (omega (arith, is.highest, is.links.room, is.links.count)) areas
+    (omega (arith, row-first old sound (omega (arith, inside_at)), first_same 0 (omega (arith, inside_at)), ap (λ n. (segment_of new n).first) (before 0 (omega arith)), is.links.count)) then
+  where
+    L : List ℕ
+    L = split_visited old place number
+
+    V : ℕ → ℕ
+    V j = get_or (visited old) j 0
+
+    inside_at : place < length (visited old)
+    inside_at = slice_get_within (visited old) place k is.links.at
+
+    here : (j : ℕ) → j < length (visited old) → slice_get (visited old) j ≡ Some (V j)
+    here j inside = slice_get-get_or (visited old) j 0 inside
+
+    k_is : V place ≡ k
+    k_is = get_or_from_slice_get (visited old) place k 0 is.links.at
+
+    size : length L ≡ length (visited old) + 1
+    size = length-insert (visited old) (place + 1) number (omega (arith, inside_at))
+
+    fresh : (j : ℕ) → j < length (visited old) → V j ≢ number
+    fresh j inside same = omega (arith, same, is.links.number_is, (sound.each j (V j) (here j inside)).low)
+
+    other_than_k : (j : ℕ) → j < length (visited old) → j ≢ place → V j ≢ k
+    other_than_k j inside apart same = elim (cases_lt j place) [
+      | inl early ↦ visited-distinct old j place k sound early (here j inside ∙ ap Some same) is.links.at
+      | inr late ↦ visited-distinct old place j k sound (omega (arith, late, apart)) is.links.at (here j inside ∙ ap Some same)
+    ]
+
+    before : (j : ℕ) → j < place + 1 → get_or L j 0 ≡ V j
+    before j early = get_or-insert_below (visited old) (place + 1) number 0 j early (omega (arith, inside_at))
+
+    middle : get_or L (place + 1) 0 ≡ number
+    middle = get_or-insert_at (visited old) (place + 1) number 0 (omega (arith, inside_at))
+
+    behind : (j : ℕ) → place + 1 ≤ j → get_or L (j + 1) 0 ≡ V j
+    behind j late = get_or-insert_above (visited old) (place + 1) number 0 j late (omega (arith, inside_at))
+
+    first_same : (j : ℕ) → j < length (visited old) → (segment_of new (V j)).first ≡ (segment_of old (V j)).first
+    first_same j inside = elim (cases_eq (V j) k) [
+      | inl same ↦ ap (λ n. (segment_of new n).first) same ∙ (λ t. (is.front_is t).first) ∙ ap (λ n. (segment_of old n).first) (sym same)
+      | inr apart ↦ λ t. (is.others (V j) apart (fresh j inside) t).first
+    ]
+
+    end_same : (j : ℕ) → j < length (visited old) → j ≢ place → areas_end (segment_of new (V j)) ≡ areas_end (segment_of old (V j))
+    end_same j inside apart = ap areas_end (is.others (V j) (other_than_k j inside apart) (fresh j inside))
+
+    whole : areas_end (segment_of old k) ≤ min (length old) 65535
+    whole = areas-end-low old place k sound is.links.at is.some
+
+    end_front : areas_end (segment_of new k) ≡ start
+    end_front = ap areas_end is.front_is ∙ sym is.start_is
+
+    end_back : areas_end (segment_of new number) ≡ areas_end (segment_of old k)
+    end_back = ap areas_end is.back_is ∙ omega (arith, is.start_is, is.sum)
+
+    olds : (i : ℕ) → i < length (visited old) → AreSoundAreas new (length new) (highest_segment (segment_words new 1)) (V i)
+    olds i inside = elim (cases_eq (V i) k) [
+      | inl same ↦
+        subst (AreSoundAreas new (length new) (highest_segment (segment_words new 1))) (sym same)
+        (row-areas new (length new) (highest_segment (segment_words new 1)) k k (segment_of old k).first (areas_end (segment_of old k)) front is.front_is is.ends_front
+        (omega (arith, (sound.each place k is.links.at).low, is.highest, is.links.number_is)) is.kinds_front (omega (arith, is.sum)) (omega (arith, whole, is.size)))
+      | inr apart ↦
+        let at = sound.each i (V i) (here i inside) in
+        let seg = is.others (V i) apart (fresh i inside) in
+        record {
+          ends = is.ends (V i) apart (fresh i inside) at.ends;
+          low = omega (arith, at.low, is.highest, is.links.number_is);
+          one_kind = λ j e entry. at.one_kind j e (ap (λ (s : Segment). slice_get s.entries j) (sym seg) ∙ entry);
+          within = λ j e entry. omega (arith, at.within j e (ap (λ (s : Segment). slice_get s.entries j) (sym seg) ∙ entry), ap (λ (s : Segment). area_start s (j + 1)) seg, is.size);
+        }
+    ]
+
+    areas : (j : ℕ) → j < length L → AreSoundAreas new (length new) (highest_segment (segment_words new 1)) (get_or L j 0)
+    areas j within = elim (cases_lt j (place + 1)) [
+      | inl early ↦ subst (AreSoundAreas new (length new) (highest_segment (segment_words new 1))) (sym (before j early)) (olds j (omega (arith, early, inside_at)))
+      | inr late ↦ elim (cases_eq j (place + 1)) [
+        | inl same ↦
+          subst (AreSoundAreas new (length new) (highest_segment (segment_words new 1))) (sym (ap (λ n. get_or L n 0) same ∙ middle))
+          (row-areas new (length new) (highest_segment (segment_words new 1)) number number start (areas_end (segment_of old k)) back is.back_is is.ends_back (omega (arith, is.highest)) is.kinds_back
+          (omega (arith, is.start_is, is.sum)) (omega (arith, whole, is.size)))
+        | inr apart ↦
+          let there : j - 1 + 1 ≡ j = omega (arith, late, apart) in
+          subst (AreSoundAreas new (length new) (highest_segment (segment_words new 1))) (sym (ap (λ n. get_or L n 0) (sym there) ∙ behind (j - 1) (omega (arith, late, apart))))
+          (olds (j - 1) (omega (arith, within, size, late, apart)))
+      ]
+    ]
+
+    then : (j : ℕ) → j + 1 < length L → areas_end (segment_of new (get_or L j 0)) ≤ (segment_of new (get_or L (j + 1) 0)).first
+    then j more = elim (cases_lt j place) [
+      | inl early ↦
+        let inside : j + 1 < length (visited old) = omega (arith, early, inside_at) in
+        omega (arith, row-behind old j sound inside, ap (λ n. areas_end (segment_of new n)) (before j (omega (arith, early))), ap (λ n. (segment_of new n).first) (before (j + 1) (omega (arith, early))),
+          end_same j (omega (arith, inside)) (λ s. omega (arith, s, early)), first_same (j + 1) inside)
+      | inr late ↦ elim (cases_eq j place) [
+        | inl same ↦
+          let p : j + 1 ≡ place + 1 = omega (arith, same) in
+          omega (arith, ap (λ n. areas_end (segment_of new n)) (before j (omega (arith, same)) ∙ ap V same ∙ k_is), end_front, ap (λ n. (segment_of new n).first) (ap (λ n. get_or L n 0) p ∙ middle),
+            (let b : (segment_of new number).first ≡ start = λ t. (is.back_is t).first in b))
+        | inr apart ↦ elim (cases_eq j (place + 1)) [
+          | inl same ↦
+            let inside : place + 1 < length (visited old) = omega (arith, more, size, same) in
+            let p : j + 1 ≡ place + 1 + 1 = omega (arith, same) in
+            omega (arith, ap (λ n. areas_end (segment_of new n)) (ap (λ n. get_or L n 0) same ∙ middle), end_back, ap (λ n. areas_end (segment_of old n)) k_is, row-behind old place sound inside,
+              ap (λ n. (segment_of new n).first) (ap (λ n. get_or L n 0) p ∙ behind (place + 1) (omega arith)), first_same (place + 1) inside)
+          | inr far ↦
+            let i : ℕ = j - 1 in
+            let there : i + 1 ≡ j = omega (arith, late, apart) in
+            let inside : i + 1 < length (visited old) = omega (arith, more, size, there) in
+            omega (arith, row-behind old i sound inside, ap (λ n. areas_end (segment_of new n)) (ap (λ n. get_or L n 0) (sym there) ∙ behind i (omega (arith, late, apart, far))),
+              ap (λ n. (segment_of new n).first) (ap (λ n. get_or L (n + 1) 0) (sym there) ∙ behind (i + 1) (omega (arith, late, apart, far))), end_same i (omega (arith, inside)) (λ s. omega (arith, s, there, far)), first_same (i + 1) inside)
+        ]
+      ]
+    ]
