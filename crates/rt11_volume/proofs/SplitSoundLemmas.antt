@@ -1,7 +1,8 @@
 -- An image of which a segment was split has no fault where it had none.
-use Rattle.std.proofs.Common.{◌≡◌, ◌≢◌, inl, inr, ℕ, zero, suc, ◌+◌, ◌-◌, ◌*◌, ◌<◌, ◌≤◌, true, false, min, List, length, get_or, sum_by, Some, sym, ◌∙◌, ap, subst, arith}
-use Rattle.std.specs.List.{All, slice_get}
+use Rattle.std.proofs.Common.{◌≡◌, ◌≢◌, inl, inr, ℕ, zero, suc, ◌+◌, ◌-◌, ◌*◌, ◌<◌, ◌≤◌, true, false, min, List, [], ◌∷◌, ◌++◌, length, get_or, map, take, drop, sum_by, append_assoc, Some, sym, ◌∙◌, ap, subst, arith}
+use Rattle.std.specs.List.{All, slice_get, take-map, drop-map}
 use Rattle.std.proofs.lemmas.Bool.{cases_eq, cases_lt}
+use Rattle.std.proofs.lemmas.List.{length-take, length-drop, get_or-take, get_or-drop, take_more, map-append}
 use Rattle.std.proofs.lemmas.List.Edits.{length-insert, get_or-insert_below, get_or-insert_at, get_or-insert_above}
 use Rattle.std.proofs.lemmas.List.Sums.{sum_by-take-le}
 use Rattle.std.proofs.lemmas.Option.{slice_get_within, slice_get-get_or, get_or_from_slice_get}
@@ -9,6 +10,7 @@ use Rattle.f11_dev.specs.Image.{Image}
 use Rattle.rt11_volume.specs.Directory.{count_of, next_of, visited, segment_of, end_before, is_extra_wrong}
 use Rattle.rt11_volume.specs.Entry.{area_length, status, is_one_kind}
 use Rattle.rt11_volume.specs.Segment.{Segment, segment_words, extra_bytes, highest_segment, HasEnd, area_start, areas_end}
+use Rattle.rt11_volume.proofs.BlockLemmas.{map-agree}
 use Rattle.rt11_volume.proofs.RewriteLemmas.{areas-end-low}
 use Rattle.rt11_volume.proofs.SoundLemmas.{IsSoundImage, IsSoundAt}
 use Rattle.rt11_volume.proofs.SplitLemmas.{IsChain, SplitsLinks, chain-visited, split-chain, split_visited}
@@ -239,3 +241,49 @@ split-sound old new place k number start front back sound is =
         ]
       ]
     ]
+
+-- the segments then: the two where there was one
+pub split-segments : (old new : Image) (place k number start : ℕ) (front back : List (List ℕ)) → IsSoundImage old → SplitsAreas old new place k number start front back
+    → map (segment_of new) (visited new)
+    ≡ take place (map (segment_of old) (visited old))
+    ++ (record { number = k; first = (segment_of old k).first; entries = front } ∷ record { number = number; first = start; entries = back } ∷ drop (place + 1) (map (segment_of old) (visited old)))
+split-segments old new place k number start front back sound is =
+    ap (map (segment_of new)) (chain-visited new (split_visited old place number) (split-chain old new place k number sound is.links))
+    ∙ map-append (segment_of new) (take (place + 1) V) (number ∷ drop (place + 1) V)
+    ∙ (λ t. map (segment_of new) (upto t) ++ (is.back_is t ∷ ends t))
+    ∙ ap (λ xs. xs ++ (record { number = number; first = start; entries = back } ∷ drop (place + 1) (map (segment_of old) V))) (map-append (segment_of new) (take place V) (k ∷ []))
+    ∙ append_assoc (map (segment_of new) (take place V)) (segment_of new k ∷ []) (record { number = number; first = start; entries = back } ∷ drop (place + 1) (map (segment_of old) V))
+    ∙ (λ t. begins t ++ (is.front_is t ∷ record { number = number; first = start; entries = back } ∷ drop (place + 1) (map (segment_of old) V)))
+  where
+    V : List ℕ
+    V = visited old
+
+    inside_at : place < length (visited old)
+    inside_at = slice_get_within (visited old) place k is.links.at
+
+    upto : take (place + 1) (visited old) ≡ take place (visited old) ++ k ∷ []
+    upto = take_more (visited old) place 0 inside_at ∙ ap (λ n. take place (visited old) ++ n ∷ []) (get_or_from_slice_get (visited old) place k 0 is.links.at)
+
+    same : (j n : ℕ) → slice_get (visited old) j ≡ Some n → j ≢ place → segment_of new n ≡ segment_of old n
+    same j n at apart = is.others n
+        (λ e. elim (cases_lt j place) [
+          | inl early ↦ visited-distinct old j place k sound early (at ∙ ap Some e) is.links.at
+          | inr late ↦ visited-distinct old place j k sound (omega (arith, late, apart)) is.links.at (at ∙ ap Some e)
+        ])
+        (λ e. omega (arith, e, is.links.number_is, (sound.each j n at).low))
+
+    begins : map (segment_of new) (take place (visited old)) ≡ take place (map (segment_of old) (visited old))
+    begins =
+        map-agree (segment_of new) (segment_of old) (take place (visited old)) (λ j n at.
+        let within : j < place = omega (arith, slice_get_within (take place (visited old)) j n at, length-take place (visited old)) in
+        let there : get_or (visited old) j 0 ≡ n = sym (get_or-take place (visited old) j 0 within) ∙ get_or_from_slice_get (take place (visited old)) j n 0 at in
+        same j n (slice_get-get_or (visited old) j 0 (omega (arith, within, inside_at)) ∙ ap Some there) (λ e. omega (arith, e, within)))
+        ∙ sym (take-map (segment_of old) place (visited old))
+
+    ends : map (segment_of new) (drop (place + 1) (visited old)) ≡ drop (place + 1) (map (segment_of old) (visited old))
+    ends =
+        map-agree (segment_of new) (segment_of old) (drop (place + 1) (visited old)) (λ j n at.
+        let within : j < length (drop (place + 1) (visited old)) = slice_get_within (drop (place + 1) (visited old)) j n at in
+        let there : get_or (visited old) (place + 1 + j) 0 ≡ n = sym (get_or-drop (place + 1) (visited old) j 0) ∙ get_or_from_slice_get (drop (place + 1) (visited old)) j n 0 at in
+        same (place + 1 + j) n (slice_get-get_or (visited old) (place + 1 + j) 0 (omega (arith, within, length-drop (place + 1) (visited old))) ∙ ap Some there) (λ e. omega (arith, e)))
+        ∙ sym (drop-map (segment_of old) (place + 1) (visited old))
