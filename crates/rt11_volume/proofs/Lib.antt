@@ -25,4 +25,5 @@ pub mod CreateLemmas
 pub mod CountLemmas
 pub mod SplitLemmas
 pub mod SplitSoundLemmas
+pub mod SplitStoreLemmas
 pub mod TextLemmas
