@@ -1,18 +1,18 @@
 -- A file is made.
-use Rattle.std.proofs.Common.{◌≡◌, ℕ, ◌+◌, ◌-◌, ◌*◌, ◌<◌, ◌≤◌, ◌==◌, ◌&&◌, Bool, true, false, not, nat_le, nat_lt, if◌then◌else◌, List, [], length, get_or, take, slice_range, Some, refl, sym, ◌∙◌, ap, subst, arith}
-use Rattle.std.specs.List.{All, slice_get}
+use Rattle.std.proofs.Common.{◌≡◌, ℕ, ◌+◌, ◌-◌, ◌*◌, ◌<◌, ◌≤◌, ◌==◌, ◌&&◌, Bool, true, false, not, nat_le, if◌then◌else◌, List, [], length, get_or, take, slice_range, refl, sym, ◌∙◌, ap, subst, arith}
+use Rattle.std.specs.List.{All}
 use Rattle.std.proofs.Math.Nat.{mul-le-mul_right, div-mul-le_self}
 use Rattle.std.proofs.Math.Seq.{take-length}
 use Rattle.std.proofs.lemmas.Bool.{and_parts, leb-true, leb-false}
 use Rattle.std.proofs.lemmas.Option.{slice_get-get_or}
 use Rattle.std.proofs.lemmas.Slice.{between_from_start}
 use Rattle.f11_dev.specs.Image.{Image}
-use Rattle.rt11_volume.specs.Directory.{segment_of, visited, extra_of}
+use Rattle.rt11_volume.specs.Directory.{segment_of, extra_of}
 use Rattle.rt11_volume.specs.Draft.{IsRewritten}
 use Rattle.rt11_volume.specs.Entry.{status, is_one_kind, is_empty, area_length, is_file_named, entry_size}
 use Rattle.rt11_volume.specs.Files.{HasArea, CreatesFile}
 use Rattle.rt11_volume.specs.InHand.{KeepsOthers}
-use Rattle.rt11_volume.specs.Looking.{segments_of, found_segment, found_entry, IsFirstFound}
+use Rattle.rt11_volume.specs.Looking.{segments_of, found_segment, IsFirstFound}
 use Rattle.rt11_volume.specs.Operations.{entry_at, most_entries, needs_split, segments_with_file, with_entries, with_file, with_new_file}
 use Rattle.rt11_volume.specs.Search.{HasNone, is_empty_for}
 use Rattle.rt11_volume.specs.Segment.{Segment, segment_words, segment_with, entries, extra_bytes, entry_place, entry_room}
@@ -20,7 +20,7 @@ use Rattle.rt11_volume.specs.Store.{RtStore, rt_store_of}
 use Rattle.rt11_volume.specs.declared.search.Found.{Found}
 use Rattle.rt11_volume.proofs.DeleteLemmas.{extra-first}
 use Rattle.rt11_volume.proofs.EditLemmas.{with-sum, with-kinds}
-use Rattle.rt11_volume.proofs.FileLemmas.{first-found, found-segment, no-file-found}
+use Rattle.rt11_volume.proofs.FileLemmas.{first-found, no-file-found}
 use Rattle.rt11_volume.proofs.RewriteLemmas.{Rewrites, IsAsLong, rewritten-sound, rewritten-store}
 use Rattle.rt11_volume.proofs.SoundLemmas.{IsSoundImage, accepted_from}
 

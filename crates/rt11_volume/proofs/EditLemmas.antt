@@ -124,7 +124,7 @@ without-kinds extra es i are =
 take-part : (es : List (List ℕ)) (a i b : ℕ) → a ≤ i → i ≤ b → take (i - a) (slice_range es a b) ≡ slice_range es a i
 take-part es a i b low high = take-take (i - a) (b - a) (drop a es) (omega (arith, low, high))
 
-at-part : (es : List (List ℕ)) (a i b : ℕ) → a ≤ i → i < b → entry_at (slice_range es a b) (i - a) ≡ entry_at es i
+pub at-part : (es : List (List ℕ)) (a i b : ℕ) → a ≤ i → i < b → entry_at (slice_range es a b) (i - a) ≡ entry_at es i
 at-part es a i b low high =
     get_or-between es a b (i - a) [] (omega (arith, low, high)) ∙ ap (λ n. get_or es n []) (let p : a + (i - a) ≡ i = omega (arith, low) in p)
 

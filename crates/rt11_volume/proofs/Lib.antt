@@ -26,4 +26,8 @@ pub mod CountLemmas
 pub mod SplitLemmas
 pub mod SplitSoundLemmas
 pub mod SplitStoreLemmas
+pub mod SplitWriteLemmas
+pub mod SplitFileLemmas
+pub mod SplitDiskLemmas
+pub mod SplitCreateLemmas
 pub mod TextLemmas

@@ -1,8 +1,8 @@
 -- The walk over an image of which a segment was split.
-use Rattle.std.proofs.Common.{◌≡◌, ◌≢◌, inl, inr, ℕ, suc, ◌+◌, ◌-◌, ◌*◌, ◌%◌, ◌<◌, ◌≤◌, ◌==◌, ◌&&◌, ◌||◌, true, false, not, nat_le, nat_lt, List, length, get_or, take, Some, sym, ◌∙◌, ap, subst, arith}
+use Rattle.std.proofs.Common.{◌≡◌, ◌≢◌, inl, inr, ℕ, ◌+◌, ◌-◌, ◌<◌, ◌≤◌, ◌==◌, ◌&&◌, true, false, not, nat_le, List, length, get_or, take, Some, sym, ◌∙◌, ap, subst, arith}
 use Rattle.std.specs.List.{list_any, slice_get, insert}
 use Rattle.std.proofs.lemmas.Bool.{cases_eq, cases_lt, and_from, not_from_false, ne_eqb, le-leb}
-use Rattle.std.proofs.lemmas.List.{length-take, get_or-take, get_or_default, take_all}
+use Rattle.std.proofs.lemmas.List.{length-take, get_or-take, get_or_default}
 use Rattle.std.proofs.lemmas.List.Edits.{length-insert, get_or-insert_below, get_or-insert_at, get_or-insert_above}
 use Rattle.std.proofs.lemmas.List.Folds.{list_any_none}
 use Rattle.std.proofs.lemmas.Option.{slice_get_within, slice_get-get_or, get_or_from_slice_get}
@@ -11,7 +11,7 @@ use Rattle.rt11_volume.specs.Directory.{count_of, extra_of, next_of, visited, go
 use Rattle.rt11_volume.specs.Segment.{segment_words, extra_bytes, highest_segment}
 use Rattle.rt11_volume.proofs.CountLemmas.{visited-highest}
 use Rattle.rt11_volume.proofs.SoundLemmas.{IsSoundImage}
-use Rattle.rt11_volume.proofs.WalkLemmas.{IsLinked, linked-visited, link_ends, IsNext-step, on-visited, visited-on, visited-few, visited-distinct, visited-some, visited-first_one}
+use Rattle.rt11_volume.proofs.WalkLemmas.{linked-visited, link_ends, IsNext-step, on-visited, visited-on, visited-few, visited-distinct, visited-some, visited-first_one}
 
 -- Segments that links make, no two of them the same.
 pub record IsChain (image : Image) (ks : List ℕ) : Type 0 where
@@ -70,8 +70,8 @@ visited-last image sound some few =
     elim (cases_eq (next_of image j) 0) [
       | inl none ↦ none
       | inr more ↦
-        let behind = slice_get_within (visited image) (place + 1) (next_of image j) (visited-on image (place + 1) (next_of image j) (next.goes more (omega (arith, some, few)))) in
-        absurd (omega (arith, behind, some))
+          let behind = slice_get_within (visited image) (place + 1) (next_of image j) (visited-on image (place + 1) (next_of image j) (next.goes more (omega (arith, some, few)))) in
+          absurd (omega (arith, behind, some))
     ]
 
 -- Segment k, visited at a place, was split: a new segment with the next number stands behind it.
@@ -153,8 +153,8 @@ split-chain old new place k number sound is = record {
       | inr late ↦ elim (cases_eq j (place + 1)) [
         | inl same ↦ subst P (sym (ap (λ n. get_or (split_visited old place number) n 0) same ∙ middle)) new_one
         | inr apart ↦
-          let there : j - 1 + 1 ≡ j = omega (arith, late, apart) in
-          subst P (sym (ap (λ n. get_or (split_visited old place number) n 0) (sym there) ∙ behind (j - 1) (omega (arith, late, apart)))) (olds (j - 1) (omega (arith, within, size, late, apart)))
+            let there : j - 1 + 1 ≡ j = omega (arith, late, apart) in
+            subst P (sym (ap (λ n. get_or (split_visited old place number) n 0) (sym there) ∙ behind (j - 1) (omega (arith, late, apart)))) (olds (j - 1) (omega (arith, within, size, late, apart)))
       ]
     ]
 
@@ -163,55 +163,55 @@ split-chain old new place k number sound is = record {
     stood j apart within = elim (cases_lt j (place + 1)) [
       | inl early ↦ (j, omega (arith, early, inside_at), before j early, (λ e. sym (let s : j ≡ j = omega arith in s)), (λ l. absurd (omega (arith, early, l))))
       | inr late ↦
-        let there : j - 1 + 1 ≡ j = omega (arith, late, apart) in (
-          j - 1,
-          omega (arith, within, size, late, apart),
-          ap (λ n. get_or (split_visited old place number) n 0) (sym there) ∙ behind (j - 1) (omega (arith, late, apart)),
-          (λ e. absurd (omega (arith, e, late))),
-          (λ l. there),
-        )
+          let there : j - 1 + 1 ≡ j = omega (arith, late, apart) in (
+            j - 1,
+            omega (arith, within, size, late, apart),
+            ap (λ n. get_or (split_visited old place number) n 0) (sym there) ∙ behind (j - 1) (omega (arith, late, apart)),
+            (λ e. absurd (omega (arith, e, late))),
+            (λ l. there),
+          )
     ]
 
     all_apart : (i j : ℕ) → i < j → j < length (split_visited old place number) → get_or (split_visited old place number) i 0 ≢ get_or (split_visited old place number) j 0
     all_apart i j order within same = elim (cases_eq i (place + 1)) [
       | inl one ↦
-        let b = stood j (λ e. omega (arith, e, one, order)) within in
-        fresh b.0 b.1 (sym b.2 ∙ sym same ∙ ap (λ n. get_or (split_visited old place number) n 0) one ∙ middle)
+          let b = stood j (λ e. omega (arith, e, one, order)) within in
+          fresh b.0 b.1 (sym b.2 ∙ sym same ∙ ap (λ n. get_or (split_visited old place number) n 0) one ∙ middle)
       | inr other ↦
-        let a = stood i other (omega (arith, order, within)) in
-        elim (cases_eq j (place + 1)) [
-          | inl two ↦ fresh a.0 a.1 (sym a.2 ∙ same ∙ ap (λ n. get_or (split_visited old place number) n 0) two ∙ middle)
-          | inr more ↦
-            let b = stood j more within in
-            visited-distinct old a.0 b.0 (V b.0) sound (ordered i j a.0 b.0 order other more a.3 a.4 b.3 b.4) (here a.0 a.1 ∙ ap Some (sym a.2 ∙ same ∙ b.2)) (here b.0 b.1)
-        ]
+          let a = stood i other (omega (arith, order, within)) in
+          elim (cases_eq j (place + 1)) [
+            | inl two ↦ fresh a.0 a.1 (sym a.2 ∙ same ∙ ap (λ n. get_or (split_visited old place number) n 0) two ∙ middle)
+            | inr more ↦
+                let b = stood j more within in
+                visited-distinct old a.0 b.0 (V b.0) sound (ordered i j a.0 b.0 order other more a.3 a.4 b.3 b.4) (here a.0 a.1 ∙ ap Some (sym a.2 ∙ same ∙ b.2)) (here b.0 b.1)
+          ]
     ]
       where
         ordered : (i j a b : ℕ) → i < j → i ≢ place + 1 → j ≢ place + 1 → (i < place + 1 → a ≡ i) → (place + 1 < i → a + 1 ≡ i) → (j < place + 1 → b ≡ j) → (place + 1 < j → b + 1 ≡ j) → a < b
         ordered i j a b order one two ia ib ja jb = elim (cases_lt i (place + 1)) [
-          | inl early ↦ elim (cases_lt j (place + 1)) [ | inl e ↦ omega (arith, order, ia early, ja e) | inr l ↦ omega (arith, early, l, two, ia early, jb (omega (arith, l, two))) ]
+          | inl early ↦ elim (cases_lt j (place + 1)) [ inl e ↦ omega (arith, order, ia early, ja e) | inr l ↦ omega (arith, early, l, two, ia early, jb (omega (arith, l, two))) ]
           | inr late ↦ omega (arith, order, late, one, ib (omega (arith, late, one)), jb (omega (arith, order, late)))
         ]
 
     linked : (j : ℕ) → j + 1 < length (split_visited old place number) → next_of new (get_or (split_visited old place number) j 0) ≡ get_or (split_visited old place number) (j + 1) 0
     linked j more = elim (cases_lt j place) [
       | inl early ↦
-        ap (next_of new) (before j (omega (arith, early))) ∙ is.next (V j) (other_than_k j (omega (arith, early, inside_at)) (λ s. omega (arith, s, early))) (fresh j (omega (arith, early, inside_at)))
-        ∙ visited-next old j sound (omega (arith, early, inside_at)) ∙ sym (before (j + 1) (omega (arith, early)))
+          ap (next_of new) (before j (omega (arith, early))) ∙ is.next (V j) (other_than_k j (omega (arith, early, inside_at)) (λ s. omega (arith, s, early))) (fresh j (omega (arith, early, inside_at)))
+          ∙ visited-next old j sound (omega (arith, early, inside_at)) ∙ sym (before (j + 1) (omega (arith, early)))
       | inr late ↦ elim (cases_eq j place) [
         | inl same ↦
-          ap (next_of new) (before j (omega (arith, same)) ∙ ap V same ∙ k_is) ∙ is.next_front ∙ sym middle ∙ ap (λ n. get_or (split_visited old place number) n 0) (let p : place + 1 ≡ j + 1 = omega (arith, same) in p)
+            ap (next_of new) (before j (omega (arith, same)) ∙ ap V same ∙ k_is) ∙ is.next_front ∙ sym middle ∙ ap (λ n. get_or (split_visited old place number) n 0) (let p : place + 1 ≡ j + 1 = omega (arith, same) in p)
         | inr apart ↦ elim (cases_eq j (place + 1)) [
           | inl same ↦
-            ap (λ n. next_of new (get_or (split_visited old place number) n 0)) same ∙ ap (next_of new) middle ∙ is.next_back ∙ ap (next_of old) (sym k_is)
-            ∙ visited-next old place sound (omega (arith, more, size, same)) ∙ sym (behind (place + 1) (omega arith)) ∙ ap (λ n. get_or (split_visited old place number) n 0) (let p : place + 1 + 1 ≡ j + 1 = omega (arith, same) in p)
+              ap (λ n. next_of new (get_or (split_visited old place number) n 0)) same ∙ ap (next_of new) middle ∙ is.next_back ∙ ap (next_of old) (sym k_is)
+              ∙ visited-next old place sound (omega (arith, more, size, same)) ∙ sym (behind (place + 1) (omega arith)) ∙ ap (λ n. get_or (split_visited old place number) n 0) (let p : place + 1 + 1 ≡ j + 1 = omega (arith, same) in p)
           | inr far ↦
-            let i : ℕ = j - 1 in
-            let there : i + 1 ≡ j = omega (arith, late, apart) in
-            let inside : i < length (visited old) = omega (arith, more, size, there) in
-            ap (λ n. next_of new (get_or (split_visited old place number) n 0)) (sym there) ∙ ap (next_of new) (behind i (omega (arith, late, apart, far)))
-            ∙ is.next (V i) (other_than_k i inside (λ s. omega (arith, s, there, far, apart))) (fresh i inside) ∙ visited-next old i sound (omega (arith, more, size, there))
-            ∙ sym (behind (i + 1) (omega (arith, late, apart, far))) ∙ ap (λ n. get_or (split_visited old place number) (n + 1) 0) there
+              let i : ℕ = j - 1 in
+              let there : i + 1 ≡ j = omega (arith, late, apart) in
+              let inside : i < length (visited old) = omega (arith, more, size, there) in
+              ap (λ n. next_of new (get_or (split_visited old place number) n 0)) (sym there) ∙ ap (next_of new) (behind i (omega (arith, late, apart, far)))
+              ∙ is.next (V i) (other_than_k i inside (λ s. omega (arith, s, there, far, apart))) (fresh i inside) ∙ visited-next old i sound (omega (arith, more, size, there))
+              ∙ sym (behind (i + 1) (omega (arith, late, apart, far))) ∙ ap (λ n. get_or (split_visited old place number) (n + 1) 0) there
         ]
       ]
     ]
@@ -223,11 +223,11 @@ split-chain old new place k number sound is = record {
         let last = visited-last old sound (omega (arith, inside_at)) short in
         ap (λ m. next_of new (get_or (split_visited old place number) m 0)) last_place ∙ elim (cases_eq n (place + 1)) [
           | inl same ↦
-            ap (λ m. next_of new (get_or (split_visited old place number) m 0)) same ∙ ap (next_of new) middle ∙ is.next_back ∙ ap (next_of old) (sym k_is)
-            ∙ ap (λ m. next_of old (V m)) (let p : place ≡ n - 1 = omega (arith, same) in p) ∙ last
+              ap (λ m. next_of new (get_or (split_visited old place number) m 0)) same ∙ ap (next_of new) middle ∙ is.next_back ∙ ap (next_of old) (sym k_is)
+              ∙ ap (λ m. next_of old (V m)) (let p : place ≡ n - 1 = omega (arith, same) in p) ∙ last
           | inr apart ↦
-            let there : n - 1 + 1 ≡ n = omega (arith, inside_at) in
-            let inside : n - 1 < n = omega (arith, inside_at) in
-            ap (λ m. next_of new (get_or (split_visited old place number) m 0)) (sym there) ∙ ap (next_of new) (behind (n - 1) (omega (arith, inside_at, apart)))
-            ∙ is.next (V (n - 1)) (other_than_k (n - 1) inside (λ s. omega (arith, s, apart, inside_at))) (fresh (n - 1) inside) ∙ last
+              let there : n - 1 + 1 ≡ n = omega (arith, inside_at) in
+              let inside : n - 1 < n = omega (arith, inside_at) in
+              ap (λ m. next_of new (get_or (split_visited old place number) m 0)) (sym there) ∙ ap (next_of new) (behind (n - 1) (omega (arith, inside_at, apart)))
+              ∙ is.next (V (n - 1)) (other_than_k (n - 1) inside (λ s. omega (arith, s, apart, inside_at))) (fresh (n - 1) inside) ∙ last
         ]

@@ -14,7 +14,7 @@ use Rattle.rt11_volume.proofs.BlockLemmas.{map-agree}
 use Rattle.rt11_volume.proofs.RewriteLemmas.{areas-end-low}
 use Rattle.rt11_volume.proofs.SoundLemmas.{IsSoundImage, IsSoundAt}
 use Rattle.rt11_volume.proofs.SplitLemmas.{IsChain, SplitsLinks, chain-visited, split-chain, split_visited}
-use Rattle.rt11_volume.proofs.WalkLemmas.{visited-distinct, visited-first_one}
+use Rattle.rt11_volume.proofs.WalkLemmas.{visited-distinct}
 
 -- What holds of the areas of a segment, on an image of so many blocks.
 pub record AreSoundAreas (image : Image) (blocks high k : ℕ) : Type 0 where
@@ -186,18 +186,18 @@ split-sound old new place k number start front back sound is =
     olds : (i : ℕ) → i < length (visited old) → AreSoundAreas new (length new) (highest_segment (segment_words new 1)) (V i)
     olds i inside = elim (cases_eq (V i) k) [
       | inl same ↦
-        subst (AreSoundAreas new (length new) (highest_segment (segment_words new 1))) (sym same)
-        (row-areas new (length new) (highest_segment (segment_words new 1)) k k (segment_of old k).first (areas_end (segment_of old k)) front is.front_is is.ends_front
-        (omega (arith, (sound.each place k is.links.at).low, is.highest, is.links.number_is)) is.kinds_front (omega (arith, is.sum)) (omega (arith, whole, is.size)))
+          subst (AreSoundAreas new (length new) (highest_segment (segment_words new 1))) (sym same)
+          (row-areas new (length new) (highest_segment (segment_words new 1)) k k (segment_of old k).first (areas_end (segment_of old k)) front is.front_is is.ends_front
+          (omega (arith, (sound.each place k is.links.at).low, is.highest, is.links.number_is)) is.kinds_front (omega (arith, is.sum)) (omega (arith, whole, is.size)))
       | inr apart ↦
-        let at = sound.each i (V i) (here i inside) in
-        let seg = is.others (V i) apart (fresh i inside) in
-        record {
-          ends = is.ends (V i) apart (fresh i inside) at.ends;
-          low = omega (arith, at.low, is.highest, is.links.number_is);
-          one_kind = λ j e entry. at.one_kind j e (ap (λ (s : Segment). slice_get s.entries j) (sym seg) ∙ entry);
-          within = λ j e entry. omega (arith, at.within j e (ap (λ (s : Segment). slice_get s.entries j) (sym seg) ∙ entry), ap (λ (s : Segment). area_start s (j + 1)) seg, is.size);
-        }
+          let at = sound.each i (V i) (here i inside) in
+          let seg = is.others (V i) apart (fresh i inside) in
+          record {
+            ends = is.ends (V i) apart (fresh i inside) at.ends;
+            low = omega (arith, at.low, is.highest, is.links.number_is);
+            one_kind = λ j e entry. at.one_kind j e (ap (λ (s : Segment). slice_get s.entries j) (sym seg) ∙ entry);
+            within = λ j e entry. omega (arith, at.within j e (ap (λ (s : Segment). slice_get s.entries j) (sym seg) ∙ entry), ap (λ (s : Segment). area_start s (j + 1)) seg, is.size);
+          }
     ]
 
     areas : (j : ℕ) → j < length L → AreSoundAreas new (length new) (highest_segment (segment_words new 1)) (get_or L j 0)
@@ -205,39 +205,63 @@ split-sound old new place k number start front back sound is =
       | inl early ↦ subst (AreSoundAreas new (length new) (highest_segment (segment_words new 1))) (sym (before j early)) (olds j (omega (arith, early, inside_at)))
       | inr late ↦ elim (cases_eq j (place + 1)) [
         | inl same ↦
-          subst (AreSoundAreas new (length new) (highest_segment (segment_words new 1))) (sym (ap (λ n. get_or L n 0) same ∙ middle))
-          (row-areas new (length new) (highest_segment (segment_words new 1)) number number start (areas_end (segment_of old k)) back is.back_is is.ends_back (omega (arith, is.highest)) is.kinds_back
-          (omega (arith, is.start_is, is.sum)) (omega (arith, whole, is.size)))
+            subst (AreSoundAreas new (length new) (highest_segment (segment_words new 1))) (sym (ap (λ n. get_or L n 0) same ∙ middle))
+            (row-areas new (length new) (highest_segment (segment_words new 1)) number number start (areas_end (segment_of old k)) back is.back_is is.ends_back (omega (arith, is.highest)) is.kinds_back
+            (omega (arith, is.start_is, is.sum)) (omega (arith, whole, is.size)))
         | inr apart ↦
-          let there : j - 1 + 1 ≡ j = omega (arith, late, apart) in
-          subst (AreSoundAreas new (length new) (highest_segment (segment_words new 1))) (sym (ap (λ n. get_or L n 0) (sym there) ∙ behind (j - 1) (omega (arith, late, apart))))
-          (olds (j - 1) (omega (arith, within, size, late, apart)))
+            let there : j - 1 + 1 ≡ j = omega (arith, late, apart) in
+            subst (AreSoundAreas new (length new) (highest_segment (segment_words new 1))) (sym (ap (λ n. get_or L n 0) (sym there) ∙ behind (j - 1) (omega (arith, late, apart))))
+            (olds (j - 1) (omega (arith, within, size, late, apart)))
       ]
     ]
 
     then : (j : ℕ) → j + 1 < length L → areas_end (segment_of new (get_or L j 0)) ≤ (segment_of new (get_or L (j + 1) 0)).first
     then j more = elim (cases_lt j place) [
       | inl early ↦
-        let inside : j + 1 < length (visited old) = omega (arith, early, inside_at) in
-        omega (arith, row-behind old j sound inside, ap (λ n. areas_end (segment_of new n)) (before j (omega (arith, early))), ap (λ n. (segment_of new n).first) (before (j + 1) (omega (arith, early))),
-          end_same j (omega (arith, inside)) (λ s. omega (arith, s, early)), first_same (j + 1) inside)
+          let inside : j + 1 < length (visited old) = omega (arith, early, inside_at) in
+          omega (
+            arith,
+            row-behind old j sound inside,
+            ap (λ n. areas_end (segment_of new n)) (before j (omega (arith, early))),
+            ap (λ n. (segment_of new n).first) (before (j + 1) (omega (arith, early))),
+            end_same j (omega (arith, inside)) (λ s. omega (arith, s, early)),
+            first_same (j + 1) inside,
+          )
       | inr late ↦ elim (cases_eq j place) [
         | inl same ↦
-          let p : j + 1 ≡ place + 1 = omega (arith, same) in
-          omega (arith, ap (λ n. areas_end (segment_of new n)) (before j (omega (arith, same)) ∙ ap V same ∙ k_is), end_front, ap (λ n. (segment_of new n).first) (ap (λ n. get_or L n 0) p ∙ middle),
-            (let b : (segment_of new number).first ≡ start = λ t. (is.back_is t).first in b))
+            let p : j + 1 ≡ place + 1 = omega (arith, same) in
+            omega (
+              arith,
+              ap (λ n. areas_end (segment_of new n)) (before j (omega (arith, same)) ∙ ap V same ∙ k_is),
+              end_front,
+              ap (λ n. (segment_of new n).first) (ap (λ n. get_or L n 0) p ∙ middle),
+              (let b : (segment_of new number).first ≡ start = λ t. (is.back_is t).first in b),
+            )
         | inr apart ↦ elim (cases_eq j (place + 1)) [
           | inl same ↦
-            let inside : place + 1 < length (visited old) = omega (arith, more, size, same) in
-            let p : j + 1 ≡ place + 1 + 1 = omega (arith, same) in
-            omega (arith, ap (λ n. areas_end (segment_of new n)) (ap (λ n. get_or L n 0) same ∙ middle), end_back, ap (λ n. areas_end (segment_of old n)) k_is, row-behind old place sound inside,
-              ap (λ n. (segment_of new n).first) (ap (λ n. get_or L n 0) p ∙ behind (place + 1) (omega arith)), first_same (place + 1) inside)
+              let inside : place + 1 < length (visited old) = omega (arith, more, size, same) in
+              let p : j + 1 ≡ place + 1 + 1 = omega (arith, same) in
+              omega (
+                arith,
+                ap (λ n. areas_end (segment_of new n)) (ap (λ n. get_or L n 0) same ∙ middle),
+                end_back,
+                ap (λ n. areas_end (segment_of old n)) k_is,
+                row-behind old place sound inside,
+                ap (λ n. (segment_of new n).first) (ap (λ n. get_or L n 0) p ∙ behind (place + 1) (omega arith)),
+                first_same (place + 1) inside,
+              )
           | inr far ↦
-            let i : ℕ = j - 1 in
-            let there : i + 1 ≡ j = omega (arith, late, apart) in
-            let inside : i + 1 < length (visited old) = omega (arith, more, size, there) in
-            omega (arith, row-behind old i sound inside, ap (λ n. areas_end (segment_of new n)) (ap (λ n. get_or L n 0) (sym there) ∙ behind i (omega (arith, late, apart, far))),
-              ap (λ n. (segment_of new n).first) (ap (λ n. get_or L (n + 1) 0) (sym there) ∙ behind (i + 1) (omega (arith, late, apart, far))), end_same i (omega (arith, inside)) (λ s. omega (arith, s, there, far)), first_same (i + 1) inside)
+              let i : ℕ = j - 1 in
+              let there : i + 1 ≡ j = omega (arith, late, apart) in
+              let inside : i + 1 < length (visited old) = omega (arith, more, size, there) in
+              omega (
+                arith,
+                row-behind old i sound inside,
+                ap (λ n. areas_end (segment_of new n)) (ap (λ n. get_or L n 0) (sym there) ∙ behind i (omega (arith, late, apart, far))),
+                ap (λ n. (segment_of new n).first) (ap (λ n. get_or L (n + 1) 0) (sym there) ∙ behind (i + 1) (omega (arith, late, apart, far))),
+                end_same i (omega (arith, inside)) (λ s. omega (arith, s, there, far)),
+                first_same (i + 1) inside,
+              )
         ]
       ]
     ]

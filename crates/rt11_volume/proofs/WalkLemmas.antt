@@ -169,13 +169,13 @@ linked-walk image ks (suc most) j linked inside long =
     walked-step most image (take j ks) (get_or ks j 0) ∙ ap (λ seen. walk_on most image seen (get_or ks j 0)) here
     ∙ elim (cases_lt (j + 1) (length ks)) [
       | inl more ↦
-        walk_on-goes most image (take (j + 1) ks) (get_or ks j 0) (linked.leads j more) ∙ ap (walked most image (take (j + 1) ks)) (linked.next j more)
-        ∙ linked-walk image ks most (j + 1) linked more (omega (arith, long))
+          walk_on-goes most image (take (j + 1) ks) (get_or ks j 0) (linked.leads j more) ∙ ap (walked most image (take (j + 1) ks)) (linked.next j more)
+          ∙ linked-walk image ks most (j + 1) linked more (omega (arith, long))
       | inr end ↦
-        let all : take (j + 1) ks ≡ ks = take_all (j + 1) ks end in
-        let place : j ≡ length ks - 1 = omega (arith, inside, end) in
-        let stops : goes_on image (take (j + 1) ks) (get_or ks j 0) ≡ false = (λ t. goes_on image (all t) (get_or ks (place t) 0)) ∙ linked.last in
-        walk_on-ends most image (take (j + 1) ks) (get_or ks j 0) stops ∙ all
+          let all : take (j + 1) ks ≡ ks = take_all (j + 1) ks end in
+          let place : j ≡ length ks - 1 = omega (arith, inside, end) in
+          let stops : goes_on image (take (j + 1) ks) (get_or ks j 0) ≡ false = (λ t. goes_on image (all t) (get_or ks (place t) 0)) ∙ linked.last in
+          walk_on-ends most image (take (j + 1) ks) (get_or ks j 0) stops ∙ all
     ]
 
 -- is the list of those that are visited

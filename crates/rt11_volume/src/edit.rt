@@ -114,7 +114,15 @@ pub(crate) fn with_file(
         (i - range.start) file.name file.blocks file.date) result }
 {
     let [first, second, kind] = file.name;
-    let head = [PERMANENT_STATUS, first, second, kind, file.blocks, 0, file.date];
+    let head = [
+        PERMANENT_STATUS,
+        first,
+        second,
+        kind,
+        file.blocks,
+        0,
+        file.date,
+    ];
     let area = segment.entry(i).length;
     let before = range.start..i;
     let behind = i + 1..range.end;

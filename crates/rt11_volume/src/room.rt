@@ -11,12 +11,7 @@ use crate::segment::Segment;
 use f11_dev::Device;
 
 /// The area that was found already, or else the first one of a segment.
-fn keep_first(
-    area: Option<Found>,
-    number: u16,
-    segment: Segment,
-    wanted: &Wanted,
-) -> Option<Found>
+fn keep_first(area: Option<Found>, number: u16, segment: Segment, wanted: &Wanted) -> Option<Found>
     ensures { IsKept (is_wanted wanted.now) area number segment result }
 {
     if area.is_some() {

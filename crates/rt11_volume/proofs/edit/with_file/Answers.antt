@@ -1,4 +1,4 @@
-use Rattle.std.proofs.Common.{◌≡◌, ◌∙◌, ◌-◌, List, ℕ, length, ap, sym, arith, rules}
+use Rattle.std.proofs.Common.{◌≡◌, ◌∙◌, ◌-◌, List, ℕ, length, ap, sym, rules}
 use Rattle.rt11_volume.specs.Entry.{area_length}
 use Rattle.rt11_volume.specs.Operations.{entry_at}
 use Rattle.rt11_volume.specs.Segment.{entries, extra_bytes}

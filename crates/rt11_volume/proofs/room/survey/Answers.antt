@@ -1,5 +1,4 @@
-use Rattle.std.proofs.Common.{◌≡◌, ◌∙◌, ◌+◌, ◌<◌, ℕ, Some, None, List, length, ap, sym, subst, arith}
-use Rattle.f11_dev.specs.Disk.{Disk}
+use Rattle.std.proofs.Common.{◌≡◌, ◌∙◌, ◌+◌, ℕ, None, List, length, ap, sym, subst, arith}
 use Rattle.f11_dev.specs.Image.{Image}
 use Rattle.f11_dev.proofs.LookedLemmas.{looked_none, looked_more, looked_within}
 use Rattle.rt11_volume.specs.Entry.{is_file_named}
