@@ -146,7 +146,7 @@ halves-written old now new found first number file same sound is first_is next s
       (subst (λ n. IsRewritten (back_header (segment_words old.image k) number split.start) (half_with (extra_of old.image) es n split.count found.i file.name file.blocks file.date) split.back) kept
       (subst (λ x. IsRewritten (back_header (segment_words old.image k) number split.start) (half_with x es split.kept split.count found.i file.name file.blocks file.date) split.back) extra
       (subst (λ (s : List ℕ). IsRewritten (back_header s number split.start) (half_with (extra_bytes s) (entries (extra_bytes s) s) split.kept split.count found.i file.name file.blocks file.date) split.back) is.words_are split.back_is)))));
-  first_is = λ apart. words-kept split.two.image new.image k 1 split.wrote_front.kept apart ∙ split.wrote_first.words_are ∙ ap (λ (s : List ℕ). slice_set s 2 number) first_is;
+  first_is = λ apart. words-kept split.two.image new.image k 1 split.wrote_front.kept apart ∙ split.wrote_first.words_are apart ∙ ap (λ (s : List ℕ). slice_set s 2 number) first_is;
 }
   where
     k : ℕ

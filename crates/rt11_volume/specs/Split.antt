@@ -1,12 +1,14 @@
 -- A segment that is split: what is written of it.
-use Rattle.std.specs.Prelude.{◌≡◌, ◌≢◌, ◌≤◌, ◌<◌, ℕ, ◌+◌, ◌-◌, ◌/◌, ◌&&◌, nat_le, nat_lt, if◌then◌else◌, List, [], ◌∷◌, length, slice_index, slice_range, slice_set}
+use Rattle.std.specs.Prelude.{◌≡◌, ◌≢◌, ◌≤◌, ◌<◌, ℕ, ◌+◌, ◌-◌, ◌/◌, ◌&&◌, nat_le, nat_lt, if◌then◌else◌, IsTrue, List, [], ◌∷◌, length, slice_index, slice_range, slice_set}
 use Rattle.f11_dev.specs.Disk.{Disk}
 use Rattle.f11_dev.specs.Image.{Image, image_block}
+use Rattle.f11_dev.specs.Looked.{Looked}
+use Rattle.f11_dev.specs.Went.{Went}
 use Rattle.rt11_volume.specs.Draft.{IsRewritten}
-use Rattle.rt11_volume.specs.InHand.{WritesSegment}
+use Rattle.rt11_volume.specs.InHand.{KeepsOthers, WritesSegment}
 use Rattle.rt11_volume.specs.Looking.{found_segment}
 use Rattle.rt11_volume.specs.Operations.{with_file}
-use Rattle.rt11_volume.specs.Segment.{segment_lbn, segment_count, extra_bytes, highest_segment, area_start}
+use Rattle.rt11_volume.specs.Segment.{segment_lbn, segment_words, segment_count, extra_bytes, highest_segment, area_start}
 use Rattle.rt11_volume.specs.declared.edit.NewFile.{NewFile}
 use Rattle.rt11_volume.specs.declared.search.Found.{Found}
 
@@ -38,6 +40,17 @@ pub record HasNext (found : Found) (first : List ℕ) (blocks : ℕ) : Type 0 wh
   pub low : highest_segment first < 65535
   pub within : segment_lbn (highest_segment first + 1) + 1 < blocks
 
+-- Segment 1 is in hand, read or as the segment that was found.
+pub record HoldsFirst (found : Found) (words : List ℕ) (old new : Disk) : Type 0 where
+  pub words_are : IsTrue old.honest → found.segment ≡ segment_words old.image found.number → words ≡ segment_words old.image 1
+  pub looked : Looked old new 2 0
+
+-- Segment 1 was written with these words, unless it is segment k, which is yet to be written; and nothing else was.
+pub record WritesFirst (k : ℕ) (words : List ℕ) (old new : Disk) : Type 0 where
+  pub words_are : 1 ≢ k → segment_words new.image 1 ≡ words
+  pub kept : KeepsOthers 1 old.image new.image
+  pub went : Went (KeepsOthers 1 old.image) old new 2 0
+
 -- The segment in hand was split: the new segment was written, then segment 1 with the highest in use, and then what stays.
 pub record SplitsHere (found : Found) (first : List ℕ) (number : ℕ) (file : NewFile) (old new : Disk) : Type 0 where
   pub one : Disk
@@ -52,7 +65,7 @@ pub record SplitsHere (found : Found) (first : List ℕ) (number : ℕ) (file : 
   pub start_is : area_start (found_segment found) kept ≤ 65535 → start ≡ area_start (found_segment found) kept
   pub number_is : number ≡ highest_segment first + 1
   pub wrote_back : WritesSegment number back old one
-  pub wrote_first : WritesSegment 1 (slice_set first 2 number) one two
+  pub wrote_first : WritesFirst found.number (slice_set first 2 number) one two
   pub wrote_front : WritesSegment found.number front two new
   pub back_is : IsRewritten (back_header found.segment number start) (half_with (extra_bytes found.segment) (found_segment found).entries kept count found.i file.name file.blocks file.date) back
   pub front_is : IsRewritten (front_header found.segment number) (half_with (extra_bytes found.segment) (found_segment found).entries 0 kept found.i file.name file.blocks file.date) front

@@ -16,7 +16,7 @@ use crate::refusal::RtRefusal;
 use crate::room::find_room;
 use crate::search::Found;
 use crate::segment::Segment;
-use crate::split::split_here;
+use crate::split::{read_first, split_here};
 use f11_dev::{Device, DeviceFault};
 
 /// Whether a file in the front of an area needs one entry more than its segment has room for.
@@ -59,7 +59,8 @@ fn has_next(found: &Found, first: &Segment, blocks: u32) -> bool
 }
 
 /// Makes a file in the front of the first empty area that is as long. The blocks of its segment are written, in ascending order; where
-/// that is split, those of the new segment, then those of segment 1, which is read again, and then those of the segment itself.
+/// that is split, those of the new segment, then those of segment 1, if that is another one, which is read again for that, and then
+/// those of the segment itself.
 pub(crate) fn create_file<D: Device>(device: &mut D, file: NewFile) -> Result<(), RtRefusal>
     ensures went { Went (KeepsFiles (D.disk device.old)) (D.disk device.old) (D.disk device.new)
         70 (faults_in result) }
@@ -81,7 +82,7 @@ pub(crate) fn create_file<D: Device>(device: &mut D, file: NewFile) -> Result<()
         create_here(device, &found, file)?;
         return Ok(());
     }
-    let first = Segment::read(device, 1)?;
+    let first = read_first(device, &found)?;
     if !has_next(&found, &first, device.blocks()) {
         return Err(RtRefusal::DirectoryFull);
     }

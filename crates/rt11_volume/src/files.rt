@@ -174,7 +174,8 @@ impl<D: Device> RtAccepted<D> {
     /// area stays empty. Where the segment has no room for one more entry, half of its entries go to a new segment behind it.
     ///
     /// The two blocks of the segment alone are written, in ascending order. Where it is split, those of the new segment are written
-    /// first, then those of segment 1, which is read once more, and then those of the segment.
+    /// first, then those of segment 1, if that is another one, and then those of the segment. For that alone segment 1 is read a
+    /// second time.
     ///
     /// # Errors
     ///

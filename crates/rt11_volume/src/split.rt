@@ -1,12 +1,14 @@
 //! A segment is split.
-ghost use Rattle.std.specs.Prelude.{◌≡◌, ◌+◌, ◌-◌, ◌*◌, ◌<◌, ◌≤◌, length, OnErr, OnOk, slice_index};
+ghost use Rattle.std.specs.Prelude.{◌≡◌, ◌+◌, ◌-◌, ◌*◌, ◌<◌, ◌≤◌, length, IfOk, OnErr, OnOk, slice_index};
+ghost use Rattle.f11_dev.specs.Looked.{Looked};
 ghost use Rattle.f11_dev.specs.Went.{Went};
 ghost use Rattle.rt11_volume.specs.Draft.{IsRewritten};
 ghost use Rattle.rt11_volume.specs.Entry.{area_length, entry_size};
+ghost use Rattle.rt11_volume.specs.InHand.{KeepsOthers};
 ghost use Rattle.rt11_volume.specs.Looking.{found_entry, found_segment, IsOnDevice};
 ghost use Rattle.rt11_volume.specs.Operations.{entry_at};
-ghost use Rattle.rt11_volume.specs.Segment.{entries, extra_bytes, HasEnd, highest_segment};
-ghost use Rattle.rt11_volume.specs.Split.{back_header, front_header, half_with, KeepsSplit, SplitsHere};
+ghost use Rattle.rt11_volume.specs.Segment.{entries, extra_bytes, HasEnd, highest_segment, segment_lbn};
+ghost use Rattle.rt11_volume.specs.Split.{back_header, front_header, half_with, HoldsFirst, KeepsSplit, SplitsHere, WritesFirst};
 
 use crate::assembly::assemble;
 use crate::edit::{NewFile, with_file};
@@ -67,8 +69,37 @@ fn half(
     assemble(header, segment, range, &[], end..end)
 }
 
+/// Segment 1: the segment that was found, where it is that, and else it is read.
+pub(crate) fn read_first<D: Device>(device: &mut D, found: &Found) -> Result<Segment, DeviceFault>
+    requires { segment_lbn 1 + 1 < length (D.disk device.old).image }
+    ensures reads { IfOk result (λ first.
+        HoldsFirst found.now first (D.disk device.old) (D.disk device.new)) }
+    ensures failed { OnErr result (Looked (D.disk device.old) (D.disk device.new) 2 1) }
+{
+    if found.number == 1 {
+        return Ok(found.segment.copy());
+    }
+    let first = Segment::read(device, 1)?;
+    Ok(first)
+}
+
+/// Writes segment 1, unless it is segment `k`, which is yet to be written.
+fn write_first<D: Device>(device: &mut D, k: u16, first: &Segment) -> Result<(), DeviceFault>
+    requires { segment_lbn 1 + 1 < length (D.disk device.old).image }
+    ensures written { OnOk result
+        (WritesFirst k first.now (D.disk device.old) (D.disk device.new)) }
+    ensures failed { OnErr result (Went (KeepsOthers 1 (D.disk device.old).image)
+        (D.disk device.old) (D.disk device.new) 2 1) }
+{
+    if k == 1 {
+        return Ok(());
+    }
+    first.write(device, 1)?;
+    Ok(())
+}
+
 /// Splits the segment of an area, with a file in the front of that: the new segment is written, then segment 1, which is in hand and
-/// tells the highest in use, and then what stays, which links to the new one.
+/// tells the highest in use, unless it is the one that is split, and then what stays, which links to the new one.
 pub(crate) fn split_here<D: Device>(
     device: &mut D,
     found: &Found,
@@ -102,7 +133,7 @@ pub(crate) fn split_here<D: Device>(
     );
     back.write(device, number)?;
     first.set_word(2, number);
-    first.write(device, 1)?;
+    write_first(device, found.number, &first)?;
     let front = half(
         front_header(segment, number),
         segment,

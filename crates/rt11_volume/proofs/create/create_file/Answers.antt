@@ -81,7 +81,7 @@ pub returns-in_err-first-clause-went : goal.returns-in_err-first-clause-went
 returns-in_err-first-clause-went g c =
     let old = g.D.Device.disk c.args.device.now in
     let P = KeepsFiles old in
-    subst (λ n. Went P old (g.D.Device.disk c.read.new.device) 70 n) (sym (faults-handed_on c.from_residual-in_err-first.result DeviceFault c.from_residual-in_err-first.ensures.1))
+    subst (λ n. Went P old (g.D.Device.disk c.read_first.new.device) 70 n) (sym (faults-handed_on c.from_residual-in_err-first.result DeviceFault c.from_residual-in_err-first.ensures.1))
     (went_within P (went_looked P (looked_more c.in_ok-found.ensures.looked c.in_err-first.ensures.failed)) (omega arith))
 
 pub returns-then-not-has_next-clause-refused : goal.returns-then-not-has_next-clause-refused
@@ -90,7 +90,7 @@ returns-then-not-has_next-clause-refused g c = λ sound.
     let finds = c.in_ok-found.ensures.found in
     let looked = c.in_ok-found.ensures.looked in
     let reads = c.in_ok-first.ensures.reads in
-    let first_is = reads.words_are (looked.honest ∙ sound.honest) ∙ ap (λ (i : Image). segment_words i 1) looked.image in
+    let first_is = reads.words_are (looked.honest ∙ sound.honest) ((finds.is_first sound).words_are ∙ ap (λ (i : Image). segment_words i c.in_ok-found.found.number) (sym looked.image)) ∙ ap (λ (i : Image). segment_words i 1) looked.image in
     let needs = sym c.needs_split.ensures ∙ c.if-not-needs_split.false in
     let size = c.blocks-2.ensures.count ∙ ap (λ (i : Image). length i) (reads.looked.image ∙ looked.image) in
     directory-full c.args.file.name c.args.file.blocks old.image c.in_ok-found.found c.in_ok-first.first _ (sound_from old.image sound.accepted) (finds.is_first sound) (finds.no_file sound) needs first_is size (λ has.
@@ -103,7 +103,7 @@ split_here-requires-clause-low g c = (c.has_next.ensures.0 c.if-not-has_next.fal
 pub returns-in_err-split_here-clause-went : goal.returns-in_err-split_here-clause-went
 returns-in_err-split_here-clause-went g c =
     let old = g.D.Device.disk c.args.device.now in
-    let now = g.D.Device.disk c.read.new.device in
+    let now = g.D.Device.disk c.read_first.new.device in
     let finds = c.in_ok-found.ensures.found in
     let k = c.in_ok-found.found.number in
     let P = KeepsFiles old in
@@ -115,14 +115,14 @@ returns-in_err-split_here-clause-went g c =
     subst (λ n. Went P old (g.D.Device.disk c.split_here.new.device) 70 n) (sym (faults-handed_on c.from_residual-in_err-split_here.result DeviceFault c.from_residual-in_err-split_here.ensures.1))
     (went_more P (went_looked P both) (went_weaker (KeepsSplit k number now.image) P (λ image kept sound.
     let is = finds.is_first sound in
-    let first_is = reads.words_are (looked.honest ∙ sound.honest) ∙ ap (λ (i : Image). segment_words i 1) looked.image in
+    let first_is = reads.words_are (looked.honest ∙ sound.honest) ((finds.is_first sound).words_are ∙ ap (λ (i : Image). segment_words i c.in_ok-found.found.number) (sym looked.image)) ∙ ap (λ (i : Image). segment_words i 1) looked.image in
     split-data k number old.image image finds.on_device.some (visited-low old.image is.place k (sound_from old.image sound.accepted) is.visited_at) (omega arith)
     (omega (arith, next.room, ap (λ (s : List ℕ). segment_count s) first_is)) (subst (λ (i : Image). KeepsSplit k number i image) both.image kept)) c.in_err-split_here.ensures.failed))
 
 pub returns-clause-went : goal.returns-clause-went
 returns-clause-went g c =
     let old = g.D.Device.disk c.args.device.now in
-    let now = g.D.Device.disk c.read.new.device in
+    let now = g.D.Device.disk c.read_first.new.device in
     let finds = c.in_ok-found.ensures.found in
     let k = c.in_ok-found.found.number in
     let P = KeepsFiles old in
@@ -134,7 +134,7 @@ returns-clause-went g c =
     let split = c.in_ok-split_here.ensures.split in
     went_more P (went_looked P both) (went_weaker (KeepsSplit k number now.image) P (λ image kept sound.
     let is = finds.is_first sound in
-    let first_is = reads.words_are (looked.honest ∙ sound.honest) ∙ ap (λ (i : Image). segment_words i 1) looked.image in
+    let first_is = reads.words_are (looked.honest ∙ sound.honest) ((finds.is_first sound).words_are ∙ ap (λ (i : Image). segment_words i c.in_ok-found.found.number) (sym looked.image)) ∙ ap (λ (i : Image). segment_words i 1) looked.image in
     split-data k number old.image image finds.on_device.some (visited-low old.image is.place k (sound_from old.image sound.accepted) is.visited_at) (omega arith)
     (omega (arith, next.room, ap (λ (s : List ℕ). segment_count s) first_is)) (subst (λ (i : Image). KeepsSplit k number i image) both.image kept))
     (three-written k number 0 _ _ split.wrote_back split.wrote_first split.wrote_front.went))
@@ -142,13 +142,13 @@ returns-clause-went g c =
 pub returns-clause-created : goal.returns-clause-created
 returns-clause-created g c = λ sound.
     let old = g.D.Device.disk c.args.device.now in
-    let now = g.D.Device.disk c.read.new.device in
+    let now = g.D.Device.disk c.read_first.new.device in
     let new = g.D.Device.disk c.split_here.new.device in
     let finds = c.in_ok-found.ensures.found in
     let looked = c.in_ok-found.ensures.looked in
     let reads = c.in_ok-first.ensures.reads in
     let next = c.has_next.ensures.0 c.if-not-has_next.false in
-    let first_is = reads.words_are (looked.honest ∙ sound.honest) ∙ ap (λ (i : Image). segment_words i 1) looked.image in
+    let first_is = reads.words_are (looked.honest ∙ sound.honest) ((finds.is_first sound).words_are ∙ ap (λ (i : Image). segment_words i c.in_ok-found.found.number) (sym looked.image)) ∙ ap (λ (i : Image). segment_words i 1) looked.image in
     let needs = sym c.needs_split.ensures ∙ c.if-not-needs_split.false in
     let three : length c.args.file.name ≡ 3 = search rules in
     created-split old now new c.in_ok-found.found c.in_ok-first.first _ c.args.file (reads.looked.image ∙ looked.image) (sound_from old.image sound.accepted) three (finds.is_first sound) (finds.no_file sound) needs first_is next.room refl c.in_ok-split_here.ensures.split
