@@ -40,7 +40,7 @@ others-data k old image some low kept = λ lbn place.
     (λ same. ⊎_elim (λ (before : lbn < 6). omega (arith, before, same, some)) (λ (behind : 6 + 2 * count_of old ≤ lbn). omega (arith, behind, same, low)) place)
 
 -- each segment has the extra bytes of segment 1
-extra-first : (image : Image) (k : ℕ) → is_extra_wrong image k ≡ false → extra_bytes (segment_words image k) ≡ extra_of image
+pub extra-first : (image : Image) (k : ℕ) → is_extra_wrong image k ≡ false → extra_bytes (segment_words image k) ≡ extra_of image
 extra-first image k right =
     let extra : ℕ = extra_bytes (segment_words image k) in
     let one = or_parts (extra % 2 == 1) (nat_lt 128 extra || not (extra == extra_of image)) right in

@@ -1,15 +1,16 @@
 -- The entries of a segment without a file.
-use Rattle.std.proofs.Common.{◌≡◌, inl, inr, ℕ, zero, suc, ◌+◌, ◌-◌, ◌*◌, ◌<◌, ◌≤◌, Bool, true, false, nat_lt, if◌then◌else◌, List, [], ◌∷◌, ◌++◌, length, get_or, take, drop, slice_index, slice_range, sum_by, refl, sym, ◌∙◌, ap, arith}
+use Rattle.std.proofs.Common.{◌≡◌, ◌≢◌, inl, inr, ℕ, zero, suc, ◌+◌, ◌-◌, ◌*◌, ◌<◌, ◌≤◌, ◌==◌, Bool, true, false, nat_lt, if◌then◌else◌, List, [], ◌∷◌, ◌++◌, length, get_or, take, drop, slice_index, slice_range, sum_by, refl, sym, ◌∙◌, ap, arith}
 use Rattle.std.specs.List.{All}
 use Rattle.std.proofs.Math.Nat.{mul-le-mul_right}
-use Rattle.std.proofs.lemmas.Bool.{cases_lt, and_parts, ltb-true}
-use Rattle.std.proofs.lemmas.List.{length-drop, take_all}
+use Rattle.std.proofs.lemmas.Bool.{cases_lt, and_parts, ltb-true, eq-eqb, eqb-true, ne_eqb}
+use Rattle.std.proofs.lemmas.List.Edits.{get_or-between}
+use Rattle.std.proofs.lemmas.List.{length-drop, take_all, take-take, drop-drop}
 use Rattle.std.proofs.lemmas.List.Elements.{All-append, All-take, All-drop}
 use Rattle.std.proofs.lemmas.List.Sums.{sum_by_more, sum_by-take-drop, sum_by-cons, sum_by-append}
-use Rattle.std.proofs.lemmas.Slice.{between_from_start}
-use Rattle.rt11_volume.specs.Draft.{assembled}
-use Rattle.rt11_volume.specs.Entry.{entry_size, is_end, is_empty, is_one_kind, status, area_length, empty_entry}
-use Rattle.rt11_volume.specs.Operations.{entry_at, joined_length, joins_before, joins_behind, without_file}
+use Rattle.std.proofs.lemmas.Slice.{between_from_start, between_is}
+use Rattle.rt11_volume.specs.Draft.{assembled, made_entry}
+use Rattle.rt11_volume.specs.Entry.{entry_size, is_end, is_empty, is_one_kind, status, area_length, empty_entry, file_entry}
+use Rattle.rt11_volume.specs.Operations.{entry_at, joined_length, joins_before, joins_behind, rest_of, with_file, without_file}
 use Rattle.rt11_volume.specs.Segment.{entries, entry_place, HasEnd}
 use Rattle.rt11_volume.proofs.EntryLemmas.{entries-no_end, entries-at, entry_words-at}
 
@@ -104,6 +105,10 @@ without-sum extra es i inside =
     let one : sum_by area_length (empty_entry extra blocks ∷ rest) ≡ blocks + sum_by area_length rest = sum_by-cons area_length (empty_entry extra blocks) rest in
     omega (arith, all, parts, one)
 
+All-more : (e : List ℕ) (xs : List (List ℕ)) → is_one_kind (status e) ≡ true → All (λ x. is_one_kind (status x) ≡ true) xs → All (λ x. is_one_kind (status x) ≡ true) (e ∷ xs)
+All-more e xs one more zero d within = one
+All-more e xs one more (suc k) d within = more k d (omega (arith, within))
+
 pub without-kinds : (extra : ℕ) (es : List (List ℕ)) (i : ℕ) → All (λ e. is_one_kind (status e) ≡ true) es → All (λ e. is_one_kind (status e) ≡ true) (without_file extra es i)
 unfolding without_file
 without-kinds extra es i are =
@@ -113,8 +118,84 @@ without-kinds extra es i are =
     let blocks : ℕ = joined_length before es (i - 1) + area_length (entry_at es i) + joined_length behind es (i + 1) in
     All-append P (take (if before then i - 1 else i) es) (empty_entry extra blocks ∷ drop (if behind then i + 2 else i + 1) es)
     (All-take P (if before then i - 1 else i) es are)
-    (All-cons_of (empty_entry extra blocks) (drop (if behind then i + 2 else i + 1) es) refl (All-drop P (if behind then i + 2 else i + 1) es are))
+    (All-more (empty_entry extra blocks) (drop (if behind then i + 2 else i + 1) es) refl (All-drop P (if behind then i + 2 else i + 1) es are))
+
+-- a part of some entries
+take-part : (es : List (List ℕ)) (a i b : ℕ) → a ≤ i → i ≤ b → take (i - a) (slice_range es a b) ≡ slice_range es a i
+take-part es a i b low high = take-take (i - a) (b - a) (drop a es) (omega (arith, low, high))
+
+pub at-part : (es : List (List ℕ)) (a i b : ℕ) → a ≤ i → i < b → entry_at (slice_range es a b) (i - a) ≡ entry_at es i
+at-part es a i b low high =
+    get_or-between es a b (i - a) [] (omega (arith, low, high)) ∙ ap (λ n. get_or es n []) (let p : a + (i - a) ≡ i = omega (arith, low) in p)
+
+drop-part : (es : List (List ℕ)) (a i b : ℕ) → a ≤ i → i < b → drop (i - a + 1) (slice_range es a b) ≡ slice_range es (i + 1) b
+drop-part es a i b low high =
+    ap (drop (i - a + 1)) (between_is es a b) ∙ drop-drop (i - a + 1) a (take b es) ∙ ap (λ n. drop n (take b es)) (let p : a + (i - a + 1) ≡ i + 1 = omega (arith, low) in p)
+    ∙ sym (between_is es (i + 1) b)
+
+-- what is assembled is what is meant: the area fits exactly, or something is left of it
+with-parts : (extra : ℕ) (es : List (List ℕ)) (a i b : ℕ) (name : List ℕ) (n0 n1 n2 blocks day : ℕ) (rest : List (List ℕ)) → a ≤ i → i < b → name ≡ n0 ∷ n1 ∷ n2 ∷ []
+    → rest ≡ rest_of extra (area_length (entry_at es i)) blocks
+    → slice_range es a i ++ (made_entry extra (1024 ∷ n0 ∷ n1 ∷ n2 ∷ blocks ∷ 0 ∷ day ∷ []) ∷ (rest ++ slice_range es (i + 1) b)) ≡ with_file extra (slice_range es a b) (i - a) name blocks day
+with-parts extra es a i b name n0 n1 n2 blocks day rest low high name_is rest_is =
+    let one = sym (take-part es a i b low (omega (arith, high))) in
+    let two = rest_is ∙ ap (λ (e : List ℕ). rest_of extra (area_length e) blocks) (sym (at-part es a i b low high)) in
+    let three = sym (drop-part es a i b low high) in
+    let words = sym name_is in
+    λ t. one t ++ (file_entry extra (words t) blocks day ∷ (two t ++ three t))
+
+pub with-exact : (extra : ℕ) (es : List (List ℕ)) (a i b : ℕ) (name : List ℕ) (n0 n1 n2 blocks day : ℕ) → a ≤ i → i < b → name ≡ n0 ∷ n1 ∷ n2 ∷ [] → blocks ≡ area_length (entry_at es i)
+    → assembled extra es a i ((1024 ∷ n0 ∷ n1 ∷ n2 ∷ blocks ∷ 0 ∷ day ∷ []) ∷ []) (i + 1) b ≡ with_file extra (slice_range es a b) (i - a) name blocks day
+with-exact extra es a i b name n0 n1 n2 blocks day low high name_is exact =
+    with-parts extra es a i b name n0 n1 n2 blocks day [] low high name_is
+    (sym (ap (λ (c : Bool). if c then [] else empty_entry extra (area_length (entry_at es i) - blocks) ∷ []) (eq-eqb blocks (area_length (entry_at es i)) exact)))
+
+pub with-rest : (extra : ℕ) (es : List (List ℕ)) (a i b : ℕ) (name : List ℕ) (n0 n1 n2 blocks left day : ℕ) → a ≤ i → i < b → name ≡ n0 ∷ n1 ∷ n2 ∷ [] → blocks ≢ area_length (entry_at es i)
+    → left ≡ area_length (entry_at es i) - blocks
+    → assembled extra es a i ((1024 ∷ n0 ∷ n1 ∷ n2 ∷ blocks ∷ 0 ∷ day ∷ []) ∷ (512 ∷ 0 ∷ 0 ∷ 0 ∷ left ∷ 0 ∷ 0 ∷ []) ∷ []) (i + 1) b ≡ with_file extra (slice_range es a b) (i - a) name blocks day
+with-rest extra es a i b name n0 n1 n2 blocks left day low high name_is more left_is =
+    with-parts extra es a i b name n0 n1 n2 blocks day (empty_entry extra left ∷ []) low high name_is
+    (ap (λ n. empty_entry extra n ∷ []) left_is ∙ sym (ap (λ (c : Bool). if c then [] else empty_entry extra (area_length (entry_at es i) - blocks) ∷ []) (ne_eqb blocks (area_length (entry_at es i)) more)))
+
+-- the name's three words
+pub three_words : (name : List ℕ) → length name ≡ 3 → name ≡ slice_index name 0 ∷ slice_index name 1 ∷ slice_index name 2 ∷ []
+three_words (a ∷ b ∷ c ∷ []) size = refl
+three_words [] size = absurd (omega arith)
+three_words (a ∷ []) size = absurd (omega arith)
+three_words (a ∷ b ∷ []) size = absurd (omega arith)
+three_words (a ∷ b ∷ c ∷ d ∷ more) size = absurd (omega arith)
+
+-- the areas of the entries with a new file are as long as those without it, and each is of one kind
+pub with-sum : (extra : ℕ) (es : List (List ℕ)) (i : ℕ) (name : List ℕ) (blocks day : ℕ) → i < length es → length name ≡ 3 → blocks ≤ area_length (entry_at es i)
+    → sum_by area_length (with_file extra es i name blocks day) ≡ sum_by area_length es
+with-sum extra es i name blocks day inside three fits =
+    let area : ℕ = area_length (entry_at es i) in
+    let file : List ℕ = file_entry extra name blocks day in
+    let rest : List (List ℕ) = rest_of extra area blocks in
+    let more = sum_by_more area_length es i [] inside in
+    let all = sum_by-take-drop area_length es (i + 1) in
+    let one = sum_by-append area_length (take i es) (file ∷ (rest ++ drop (i + 1) es)) in
+    let two = sum_by-cons area_length file (rest ++ drop (i + 1) es) in
+    let four = sum_by-append area_length rest (drop (i + 1) es) in
+    let long : area_length file ≡ blocks = ap (λ (n : List ℕ). area_length (file_entry extra n blocks day)) (three_words name three) in
+    omega (arith, more, all, one, two, four, long, rest-sum (blocks == area) refl, fits)
   where
-    All-cons_of : (e : List ℕ) (xs : List (List ℕ)) → is_one_kind (status e) ≡ true → All (λ x. is_one_kind (status x) ≡ true) xs → All (λ x. is_one_kind (status x) ≡ true) (e ∷ xs)
-    All-cons_of e xs one more zero d within = one
-    All-cons_of e xs one more (suc k) d within = more k d (omega (arith, within))
+    rest-sum : (b : Bool) → b ≡ (blocks == area_length (entry_at es i)) → sum_by area_length (rest_of extra (area_length (entry_at es i)) blocks) ≡ area_length (entry_at es i) - blocks
+    rest-sum true is =
+        let same : blocks ≡ area_length (entry_at es i) = eqb-true blocks (area_length (entry_at es i)) (sym is) in
+        ap (λ (c : Bool). sum_by area_length (if c then [] else empty_entry extra (area_length (entry_at es i) - blocks) ∷ [])) (sym is) ∙ omega (arith, same)
+    rest-sum false is =
+        ap (λ (c : Bool). sum_by area_length (if c then [] else empty_entry extra (area_length (entry_at es i) - blocks) ∷ [])) (sym is)
+        ∙ sum_by-cons area_length (empty_entry extra (area_length (entry_at es i) - blocks)) [] ∙ omega arith
+
+pub with-kinds : (extra : ℕ) (es : List (List ℕ)) (i : ℕ) (name : List ℕ) (blocks day : ℕ) → All (λ e. is_one_kind (status e) ≡ true) es → All (λ e. is_one_kind (status e) ≡ true) (with_file extra es i name blocks day)
+with-kinds extra es i name blocks day are =
+    let P = λ (e : List ℕ). is_one_kind (status e) ≡ true in
+    All-append P (take i es) (file_entry extra name blocks day ∷ (rest_of extra (area_length (entry_at es i)) blocks ++ drop (i + 1) es)) (All-take P i es are)
+    (All-more (file_entry extra name blocks day) (rest_of extra (area_length (entry_at es i)) blocks ++ drop (i + 1) es) refl
+    (All-append P (rest_of extra (area_length (entry_at es i)) blocks) (drop (i + 1) es) (rest-kinds (blocks == area_length (entry_at es i))) (All-drop P (i + 1) es are)))
+  where
+    rest-kinds : (b : Bool) → All (λ e. is_one_kind (status e) ≡ true) (if b then [] else empty_entry extra (area_length (entry_at es i) - blocks) ∷ [])
+    rest-kinds true k d within = absurd (omega (arith, within))
+    rest-kinds false zero d within = refl
+    rest-kinds false (suc k) d within = absurd (omega (arith, within))

@@ -21,4 +21,13 @@ pub mod AssemblyLemmas
 pub mod EditLemmas
 pub mod RewriteLemmas
 pub mod DeleteLemmas
+pub mod CreateLemmas
+pub mod CountLemmas
+pub mod SplitLemmas
+pub mod SplitSoundLemmas
+pub mod SplitStoreLemmas
+pub mod SplitWriteLemmas
+pub mod SplitFileLemmas
+pub mod SplitDiskLemmas
+pub mod SplitCreateLemmas
 pub mod TextLemmas

@@ -31,7 +31,7 @@ pub record IsAsLong (image : Image) (k : ℕ) (es : List (List ℕ)) : Type 0 wh
   pub some : 0 < length (segment_of image k).entries
   pub one_kind : All (λ e. is_one_kind (status e) ≡ true) es
 
-words-kept : (old new : Image) (k j : ℕ) → KeepsOthers k old new → j ≢ k → segment_words new j ≡ segment_words old j
+pub words-kept : (old new : Image) (k j : ℕ) → KeepsOthers k old new → j ≢ k → segment_words new j ≡ segment_words old j
 unfolding segment_words
 words-kept old new k j kept apart =
     let one = kept (4 + 2 * j) (λ same. apart (omega (arith, same))) (λ same. omega (arith, same)) in

@@ -1,11 +1,11 @@
 -- The walk over an accepted volume, a segment at a time.
-use Rattle.std.proofs.Common.{◌≡◌, ◌≢◌, ℕ, zero, suc, ◌+◌, ◌-◌, ◌*◌, ◌<◌, ◌≤◌, ◌==◌, ◌&&◌, Bool, true, false, not, nat_le, if◌then◌else◌, List, [], ◌∷◌, ◌++◌, length, get_or, Some, refl, sym, ◌∙◌, ap, subst, append_assoc, append-nil, arith}
+use Rattle.std.proofs.Common.{◌≡◌, ◌≢◌, ℕ, zero, suc, ◌+◌, ◌-◌, ◌*◌, ◌<◌, ◌≤◌, ◌==◌, ◌&&◌, Bool, true, false, not, nat_le, if◌then◌else◌, List, [], ◌∷◌, ◌++◌, length, get_or, take, Some, inl, inr, refl, sym, ◌∙◌, ap, subst, append_assoc, append-nil, arith}
 use Rattle.std.specs.List.{list_any, slice_get}
 use Rattle.std.proofs.Math.Seq.{get_or-append_seam}
-use Rattle.std.proofs.lemmas.Bool.{ne_eqb, le-leb, and_from, not_from_false}
-use Rattle.std.proofs.lemmas.List.{length-append, get_or_append_left}
+use Rattle.std.proofs.lemmas.Bool.{cases_lt, ne_eqb, le-leb, and_from, not_from_false}
+use Rattle.std.proofs.lemmas.List.{take_more, take_all, length-append, get_or_append_left}
 use Rattle.std.proofs.lemmas.List.Folds.{list_any_none}
-use Rattle.std.proofs.lemmas.Option.{slice_get_within, slice_get-get_or}
+use Rattle.std.proofs.lemmas.Option.{slice_get_within, slice_get-get_or, get_or_from_slice_get}
 use Rattle.f11_dev.specs.Image.{Image}
 use Rattle.rt11_volume.specs.Directory.{is_extra_wrong, goes_on, next_of, walked, visited, is_link_on, count_of}
 use Rattle.rt11_volume.proofs.SoundLemmas.{IsSoundImage, IsSoundAt}
@@ -91,7 +91,7 @@ link_on image place k on sound some =
     (and_from (not (next == 0)) (nat_le next (count_of image) && not (list_any (λ j. j == next) seen)) (not_from_false _ (ne_eqb next 0 some))
     (and_from (nat_le next (count_of image)) (not (list_any (λ j. j == next) seen)) (le-leb _ _ sound.link_in) (not_from_false _ none)))
 
-link_ends : (image : Image) (seen : List ℕ) (k : ℕ) → next_of image k ≡ 0 → goes_on image seen k ≡ false
+pub link_ends : (image : Image) (seen : List ℕ) (k : ℕ) → next_of image k ≡ 0 → goes_on image seen k ≡ false
 link_ends image seen k none =
     ap (λ n. not (is_extra_wrong image k) && is_link_on (count_of image) seen n) none ∙ and_false (not (is_extra_wrong image k))
   where
@@ -151,3 +151,56 @@ visited-distinct image earlier (suc place) k sound before first again =
     let place_is : place + 1 ≡ suc place = omega arith in
     let same : slice_get (visited image) (suc place) ≡ Some (next_of image j) = ap (slice_get (visited image)) (sym place_is) ∙ visited-on image (place + 1) (next_of image j) there in
     (sound.each place j at).link_on earlier (omega (arith, before)) (first ∙ sym again ∙ same)
+
+-- A list of segments that links make: it begins at segment 1, each but the last leads on to the next, and the last leads nowhere.
+pub record IsLinked (image : Image) (ks : List ℕ) : Type 0 where
+  pub some : 0 < length ks
+  pub few : length ks ≤ 31
+  pub first : get_or ks 0 0 ≡ 1
+  pub leads : (j : ℕ) → j + 1 < length ks → goes_on image (take (j + 1) ks) (get_or ks j 0) ≡ true
+  pub next : (j : ℕ) → j + 1 < length ks → next_of image (get_or ks j 0) ≡ get_or ks (j + 1) 0
+  pub last : goes_on image ks (get_or ks (length ks - 1) 0) ≡ false
+
+-- the walk from one of them on
+linked-walk : (image : Image) (ks : List ℕ) (most j : ℕ) → IsLinked image ks → j < length ks → length ks ≤ j + most → walked most image (take j ks) (get_or ks j 0) ≡ ks
+linked-walk image ks zero j linked inside long = absurd (omega (arith, inside, long))
+linked-walk image ks (suc most) j linked inside long =
+    let here : take j ks ++ get_or ks j 0 ∷ [] ≡ take (j + 1) ks = sym (take_more ks j 0 inside) in
+    walked-step most image (take j ks) (get_or ks j 0) ∙ ap (λ seen. walk_on most image seen (get_or ks j 0)) here
+    ∙ elim (cases_lt (j + 1) (length ks)) [
+      | inl more ↦
+          walk_on-goes most image (take (j + 1) ks) (get_or ks j 0) (linked.leads j more) ∙ ap (walked most image (take (j + 1) ks)) (linked.next j more)
+          ∙ linked-walk image ks most (j + 1) linked more (omega (arith, long))
+      | inr end ↦
+          let all : take (j + 1) ks ≡ ks = take_all (j + 1) ks end in
+          let place : j ≡ length ks - 1 = omega (arith, inside, end) in
+          let stops : goes_on image (take (j + 1) ks) (get_or ks j 0) ≡ false = (λ t. goes_on image (all t) (get_or ks (place t) 0)) ∙ linked.last in
+          walk_on-ends most image (take (j + 1) ks) (get_or ks j 0) stops ∙ all
+    ]
+
+-- is the list of those that are visited
+pub linked-visited : (image : Image) (ks : List ℕ) → IsLinked image ks → visited image ≡ ks
+linked-visited image ks linked = ap (walked 31 image []) (sym linked.first) ∙ linked-walk image ks 31 0 linked linked.some (omega (arith, linked.few))
+
+-- no segment 0 is visited
+pub visited-some : (image : Image) (place k : ℕ) → IsSoundImage image → slice_get (visited image) place ≡ Some k → 0 < k
+visited-some image zero k sound at =
+    let first = (IsNext-first image).goes (λ none. omega (arith, none)) (omega arith) in
+    let same : Some k ≡ Some 1 = sym at ∙ visited-on image 0 1 first in
+    let is : k ≡ 1 = cc in
+    omega (arith, is)
+visited-some image (suc place) k sound at =
+    let long : suc place < length (visited image) = slice_get_within (visited image) (suc place) k at in
+    let j : ℕ = get_or (visited image) place 0 in
+    let there : slice_get (visited image) place ≡ Some j = slice_get-get_or (visited image) place 0 (omega (arith, long)) in
+    let next = IsNext-step image place j sound (omega (arith, long, visited-few image)) (on-visited image place j sound there) in
+    let some : next_of image j ≢ 0 = λ none. omega (arith, next.ends none, long) in
+    let place_is : place + 1 ≡ suc place = omega arith in
+    let same : Some k ≡ Some (next_of image j) =
+    sym at ∙ ap (slice_get (visited image)) (sym place_is) ∙ visited-on image (place + 1) (next_of image j) (next.goes some (omega (arith, long, visited-few image))) in
+    let is : k ≡ next_of image j = cc in
+    omega (arith, is, some)
+
+-- segment 1 is visited first
+pub visited-first_one : (image : Image) → IsSoundImage image → get_or (visited image) 0 0 ≡ 1
+visited-first_one image sound = get_or_from_slice_get (visited image) 0 1 0 (visited-on image 0 1 ((IsNext-first image).goes (λ none. omega (arith, none)) (omega arith)))

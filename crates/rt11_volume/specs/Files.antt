@@ -9,8 +9,8 @@ use Rattle.rt11_volume.specs.Entry.{is_file_named}
 use Rattle.rt11_volume.specs.Looking.{IsSoundDisk}
 use Rattle.rt11_volume.specs.Directory.{count_of}
 use Rattle.rt11_volume.specs.Fresh.{KeepsData}
-use Rattle.rt11_volume.specs.Operations.{with_area_emptied, with_block}
-use Rattle.rt11_volume.specs.Search.{IsFirst, HasNone}
+use Rattle.rt11_volume.specs.Operations.{needs_split, with_area_emptied, with_block, with_new_file}
+use Rattle.rt11_volume.specs.Search.{IsFirst, HasNone, is_empty_for}
 use Rattle.rt11_volume.specs.Segment.{Segment}
 use Rattle.rt11_volume.specs.Store.{RtStore, rt_store_of, Area, area_at}
 use Rattle.rt11_volume.specs.Verdict.{IsRtAccepted}
@@ -145,3 +145,47 @@ FailsToDelete NoSpace name disk = ⊥
 FailsToDelete DirectoryFull name disk = ⊥
 FailsToDelete NoMemory name disk = ⊥
 FailsToDelete DeviceFault name disk = ⊤
+
+-- The first empty area of at least so many blocks, in link order.
+pub record HasArea (blocks : ℕ) (store : RtStore) : Type 0 where
+  pub place : ℕ
+  pub i : ℕ
+  pub segment : Segment
+  pub entry : List ℕ
+  pub first : IsFirst (is_empty_for blocks) store.segments place i segment entry
+
+-- no area is so long
+abbrev pub HasNoArea : ℕ → RtStore → Type 0
+HasNoArea blocks store = HasNone (is_empty_for blocks) store.segments
+
+-- There is no file of the name, and no area is so long.
+pub record IsWithoutSpace (name : List ℕ) (blocks : ℕ) (store : RtStore) : Type 0 where
+  pub no_file : HasNoFile name store
+  pub no_area : HasNoArea blocks store
+
+-- There is no file of the name, and an area, but no room for one more entry in its segment, and every segment is in use.
+pub record IsDirectoryFull (name : List ℕ) (blocks : ℕ) (store : RtStore) : Type 0 where
+  pub no_file : HasNoFile name store
+  pub area : HasArea blocks store
+  pub needs : needs_split store.extra area.segment area.i blocks ≡ true
+  pub full : store.highest ≡ store.count
+
+-- why no file is made
+abbrev pub FailsToCreate : RtRefusal → List ℕ → ℕ → Disk → Type 0
+FailsToCreate Failed name blocks disk = ⊤
+FailsToCreate NoSuchFile name blocks disk = ⊥
+FailsToCreate EndOfFile name blocks disk = ⊥
+FailsToCreate Protected name blocks disk = ⊥
+FailsToCreate DuplicateName name blocks disk = IsSoundDisk disk → HasFile name (rt_store_of disk.image)
+FailsToCreate NoSpace name blocks disk = IsSoundDisk disk → IsWithoutSpace name blocks (rt_store_of disk.image)
+FailsToCreate DirectoryFull name blocks disk = IsSoundDisk disk → IsDirectoryFull name blocks (rt_store_of disk.image)
+FailsToCreate NoMemory name blocks disk = ⊥
+FailsToCreate DeviceFault name blocks disk = ⊤
+
+-- The file was made in the front of the first empty area that is as long; the image is accepted as it was.
+pub record CreatesFile (name : List ℕ) (blocks day : ℕ) (old new : Image) : Type 0 where
+  pub no_file : HasNoFile name (rt_store_of old)
+  pub area : HasArea blocks (rt_store_of old)
+  pub fits : needs_split (rt_store_of old).extra area.segment area.i blocks ≡ true → (rt_store_of old).highest < (rt_store_of old).count
+  pub store_is : rt_store_of new ≡ with_new_file (rt_store_of old) area.place area.i area.segment name blocks day
+  pub accepted : IsRtAccepted new

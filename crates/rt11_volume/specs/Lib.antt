@@ -17,3 +17,4 @@ pub mod Looking
 pub mod Files
 pub mod Listing
 pub mod Draft
+pub mod Split

@@ -1,14 +1,17 @@
 -- What is looked for in a directory, and what was found.
-use Rattle.std.specs.Prelude.{◌≡◌, ℕ, ◌+◌, ◌<◌, Bool, true, false, IsTrue, List, [], length, map, Option, Some, None, slice_index_or}
+use Rattle.std.specs.Prelude.{◌≡◌, ℕ, ◌+◌, ◌-◌, ◌<◌, take, slice_range, Bool, true, false, IsTrue, List, [], length, map, Option, Some, None, slice_index_or}
 use Rattle.std.specs.List.{slice_get}
 use Rattle.f11_dev.specs.Disk.{Disk}
 use Rattle.f11_dev.specs.Image.{Image}
 use Rattle.f11_dev.specs.Looked.{Looked}
 use Rattle.rt11_volume.specs.Directory.{segment_of, visited}
 use Rattle.rt11_volume.specs.Entry.{is_file_named, area_length}
-use Rattle.rt11_volume.specs.InHand.{ReadsSegment}
+use Rattle.rt11_volume.specs.InHand.{ReadsSegment, WritesSegment}
+use Rattle.rt11_volume.specs.Draft.{IsRewritten}
+use Rattle.rt11_volume.specs.Operations.{with_file}
+use Rattle.rt11_volume.specs.declared.edit.NewFile.{NewFile}
 use Rattle.rt11_volume.specs.Search.{is_empty_for, HasNone}
-use Rattle.rt11_volume.specs.Segment.{Segment, segment_lbn, segment_words, segment_with, area_start}
+use Rattle.rt11_volume.specs.Segment.{Segment, segment_lbn, segment_words, segment_with, area_start, extra_bytes}
 use Rattle.rt11_volume.specs.Verdict.{IsRtAccepted}
 use Rattle.rt11_volume.specs.declared.search.Found.{Found}
 use Rattle.rt11_volume.specs.declared.search.Wanted.{Wanted}
@@ -87,3 +90,34 @@ pub record FindsNone (wanted : Wanted) (old new : Disk) : Type 0 where
 abbrev pub Searches : Wanted → Option Found → Disk → Disk → Type 0
 Searches wanted (Some found) old new = FindsFirst wanted found old new
 Searches wanted None old new = FindsNone wanted old new
+
+-- the first that was found of those so far, if there is one, or that of a segment behind them
+abbrev pub IsKept : (List ℕ → Bool) → Option Found → ℕ → List ℕ → Option Found → Type 0
+IsKept test (Some found) number words kept = kept ≡ Some found
+IsKept test None number words None = IsPlaceIn test (segment_with number words).entries None
+IsKept test None number words (Some found) = (found.number ≡ number) × (found.segment ≡ words) × IsFirstIn test (segment_with number words).entries found.i
+
+-- The first empty area of at least so many blocks was found, and no file of the name.
+pub record FindsRoom (name : List ℕ) (blocks : ℕ) (found : Found) (disk : Disk) : Type 0 where
+  pub inside : found.i < length (found_segment found).entries
+  pub on_device : IsOnDevice found.number (length disk.image)
+  pub is_first : IsSoundDisk disk → IsFirstFound (is_empty_for blocks) disk.image found
+  pub no_file : IsSoundDisk disk → HasNone (is_file_named name) (segments_of disk.image)
+
+-- No such area, and no file of the name.
+pub record FindsNoRoom (name : List ℕ) (blocks : ℕ) (disk : Disk) : Type 0 where
+  pub no_area : IsSoundDisk disk → HasNone (is_empty_for blocks) (segments_of disk.image)
+  pub no_file : IsSoundDisk disk → HasNone (is_file_named name) (segments_of disk.image)
+
+-- what was found, where there is no file of the name
+abbrev pub Surveys : List ℕ → ℕ → Option Found → Disk → Type 0
+Surveys name blocks (Some found) disk = FindsRoom name blocks found disk
+Surveys name blocks None disk = FindsNoRoom name blocks disk
+
+-- The segment in hand was written with a file in the front of an area, and nothing else.
+pub record CreatesHere (found : Found) (file : NewFile) (old new : Disk) : Type 0 where
+  pub segment : List ℕ
+  pub written : WritesSegment found.number segment old new
+  pub count : ℕ
+  pub count_is : count ≡ length (found_segment found).entries
+  pub rewritten : IsRewritten (take 5 found.segment) (with_file (extra_bytes found.segment) (slice_range (found_segment found).entries 0 count) (found.i - 0) file.name file.blocks file.date) segment

@@ -1,14 +1,30 @@
 //! A segment without a file, or with one more.
-ghost use Rattle.std.specs.Prelude.{◌≡◌, ◌+◌, ◌-◌, ◌<◌, ◌≤◌, ◌^◌, true, if◌then◌else◌, length, take};
+ghost use Rattle.std.specs.Prelude.{◌≡◌, ◌==◌, ◌+◌, ◌-◌, ◌*◌, ◌<◌, ◌≤◌, ◌^◌, true, if◌then◌else◌, length, take, slice_index, slice_range};
 ghost use Rattle.rt11_volume.specs.Draft.{IsRewritten};
-ghost use Rattle.rt11_volume.specs.Operations.{entry_at, joined_length, joins_before, joins_behind, without_file};
+ghost use Rattle.rt11_volume.specs.Entry.{area_length, entry_size};
+ghost use Rattle.rt11_volume.specs.Operations.{entry_at, joined_length, joins_before, joins_behind, with_file, without_file};
 ghost use Rattle.rt11_volume.specs.Segment.{entries, extra_bytes, HasEnd, segment_with, areas_end};
 
 use crate::assembly::{assemble, header_of};
 use crate::segment::Segment;
+use std::ops::Range;
 
 /// The status of an empty area: octal 1000.
 const EMPTY_STATUS: u16 = 512;
+
+/// The status of a file: octal 2000.
+const PERMANENT_STATUS: u16 = 1024;
+
+/// A file that is made.
+#[derive(Clone, Copy)]
+pub(crate) struct NewFile {
+    /// The two words of its name and the one of its type.
+    pub(crate) name: [u16; 3],
+    /// Its length in blocks.
+    pub(crate) blocks: u16,
+    /// Its date.
+    pub(crate) date: u16,
+}
 
 /// Whether the entry before `i` is that of an empty area.
 fn joins_before(segment: &Segment, i: usize) -> bool
@@ -74,4 +90,45 @@ pub(crate) fn without_file(segment: &Segment, i: usize) -> Segment
     let end = end_joined(behind, i);
     let head = [EMPTY_STATUS, 0, 0, 0, blocks.min(65535) as u16, 0, 0];
     assemble(header_of(segment), segment, 0..first, &[head], end..count)
+}
+
+/// The segment from entry `a` to before `b`, behind a header, with a file in the front of area `i`, which is as long at least.
+pub(crate) fn with_file(
+    header: [u16; 5],
+    segment: &Segment,
+    range: Range<usize>,
+    i: usize,
+    file: NewFile,
+) -> Segment
+    requires extra { slice_index header 3 ≡ extra_bytes segment.now }
+    requires low { range.start ≤ i }
+    requires high { i < range.end }
+    requires entries { range.end ≤ length (entries (extra_bytes segment.now) segment.now) }
+    requires fits { file.blocks ≤ area_length (entry_at
+        (entries (extra_bytes segment.now) segment.now) i) }
+    requires room { 5 + (range.end - range.start + (if file.blocks == area_length (entry_at
+        (entries (extra_bytes segment.now) segment.now) i) then 0 else 1))
+        * entry_size (extra_bytes segment.now) < 512 }
+    ensures { IsRewritten header (with_file (extra_bytes segment.now)
+        (slice_range (entries (extra_bytes segment.now) segment.now) range.start range.end)
+        (i - range.start) file.name file.blocks file.date) result }
+{
+    let [first, second, kind] = file.name;
+    let head = [
+        PERMANENT_STATUS,
+        first,
+        second,
+        kind,
+        file.blocks,
+        0,
+        file.date,
+    ];
+    let area = segment.entry(i).length;
+    let before = range.start..i;
+    let behind = i + 1..range.end;
+    if file.blocks == area {
+        return assemble(header, segment, before, &[head], behind);
+    }
+    let rest = [EMPTY_STATUS, 0, 0, 0, area - file.blocks, 0, 0];
+    assemble(header, segment, before, &[head, rest], behind)
 }

@@ -2,13 +2,15 @@
 ghost use Rattle.std.specs.Prelude.{◌≡◌, false, IfOk, IfErr, OnOk, OnErr, IsErrOf};
 ghost use Rattle.f11_dev.specs.Looked.{Looked};
 ghost use Rattle.f11_dev.specs.Went.{Went};
-ghost use Rattle.rt11_volume.specs.Files.{is_device_fault, faults_in, FailsToReach, HasBlock, WritesBlock, HasBlockWritten, KeepsFiles, DeletesFile, FailsToDelete};
+ghost use Rattle.rt11_volume.specs.Files.{is_device_fault, faults_in, FailsToReach, HasBlock, WritesBlock, HasBlockWritten, KeepsFiles, DeletesFile, FailsToDelete, CreatesFile, FailsToCreate};
 ghost use Rattle.rt11_volume.specs.Listing.{ListsAreas, FailsToList};
 ghost use Rattle.rt11_volume.specs.Looking.{IsSoundDisk};
 ghost use Rattle.rt11_volume.specs.Store.{rt_store_of};
 
 use crate::area::RtArea;
+use crate::create::create_file;
 use crate::delete::delete_file;
+use crate::edit::NewFile;
 use crate::list::list_areas;
 use crate::lookup::{locate, reach};
 use crate::name::RtName;
@@ -164,6 +166,44 @@ impl<D: Device> RtAccepted<D> {
             return Err(RtRefusal::Failed);
         }
         let answer = write_block(&mut self.device, name.words(), place, block);
+        self.failed = is_device_fault(&answer);
+        answer
+    }
+
+    /// Makes a file of so many blocks in the front of the first empty area, in link order, that is as long (profile); what is left of the
+    /// area stays empty. Where the segment has no room for one more entry, half of its entries go to a new segment behind it.
+    ///
+    /// The two blocks of the segment alone are written, in ascending order. Where it is split, those of the new segment are written
+    /// first, then those of segment 1, if that is another one, and then those of the segment. For that alone segment 1 is read a
+    /// second time.
+    ///
+    /// # Errors
+    ///
+    /// `Failed` where an earlier call answered `DeviceFault`, `DuplicateName` where there is a file with that name, `NoSpace` where no
+    /// empty area is so long, `DirectoryFull` where the segment has no room and each one is in use, `DeviceFault` where a transfer
+    /// failed.
+    pub fn create(&mut self, name: &RtName, length: u16, date: u16) -> Result<(), RtRefusal>
+        ensures answers { Answers D.disk result self.old self.new }
+        ensures went { Went (KeepsFiles (D.disk (volume_device self.old)))
+            (D.disk (volume_device self.old)) (D.disk (volume_device self.new))
+            70 (faults_in result) }
+        ensures created { OnOk result (IsSoundDisk (D.disk (volume_device self.old))
+            → CreatesFile name.now length date (D.disk (volume_device self.old)).image
+            (D.disk (volume_device self.new)).image) }
+        ensures refused { IfErr result (λ refusal. FailsToCreate refusal name.now length
+            (D.disk (volume_device self.old))) }
+        ensures kept { is_device_fault result ≡ false → OnErr result
+            (Looked (D.disk (volume_device self.old)) (D.disk (volume_device self.new)) 64 0) }
+    {
+        if self.failed {
+            return Err(RtRefusal::Failed);
+        }
+        let file = NewFile {
+            name: name.words(),
+            blocks: length,
+            date,
+        };
+        let answer = create_file(&mut self.device, file);
         self.failed = is_device_fault(&answer);
         answer
     }

@@ -1,13 +1,15 @@
 //! RT-11 volumes (RT-11 Volume and File Formats Manual): verified, made, and their files read and written.
 //!
 //! [`verify`] answers exactly the faults and notes of an image, and [`init`] makes a fresh volume. An [`RtAccepted`] is a volume
-//! without faults, which owns its device: [`RtAccepted::list`] gives its areas, [`RtAccepted::find`] a file, and
-//! [`RtAccepted::read`] and [`RtAccepted::write`] a file's blocks, and [`RtAccepted::delete`] deletes one. What these mean stands in specs/ (`Store`, `Search`,
-//! `Operations`, `Files`). The crate stands on [`f11_dev`], [`f11_findings`] and [`f11_rad50`].
+//! without faults, which owns its device: [`RtAccepted::list`] gives its areas, [`RtAccepted::find`] a file, [`RtAccepted::read`]
+//! and [`RtAccepted::write`] read and write a file's blocks, [`RtAccepted::create`] makes a file, and [`RtAccepted::delete`]
+//! deletes one. What these mean stands in specs/ (`Store`, `Search`, `Operations`, `Files`). The crate stands on [`f11_dev`],
+//! [`f11_findings`] and [`f11_rad50`].
 #![tactic(auto)]
 
 mod area;
 mod assembly;
+mod create;
 mod delete;
 mod directory;
 mod draft;
@@ -21,8 +23,10 @@ mod lookup;
 mod name;
 mod notes;
 mod refusal;
+mod room;
 mod search;
 mod segment;
+mod split;
 mod verifier;
 mod volume;
 

@@ -44,7 +44,7 @@ impl Wanted {
 }
 
 /// The first entry of a segment that is wanted.
-fn first_in(segment: &Segment, wanted: &Wanted) -> Option<usize>
+pub(crate) fn first_in(segment: &Segment, wanted: &Wanted) -> Option<usize>
     ensures { IsPlaceIn (is_wanted wanted.now)
         (entries (extra_bytes segment.now) segment.now) result }
 {

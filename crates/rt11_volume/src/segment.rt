@@ -47,6 +47,16 @@ impl Segment {
         }
     }
 
+    /// The same words once more.
+    pub(crate) fn copy(&self) -> Segment
+        ensures { result ≡ self.now }
+    {
+        Segment {
+            low: self.low,
+            high: self.high,
+        }
+    }
+
     /// Reads segment `k`, each of its blocks once.
     ///
     /// # Errors
