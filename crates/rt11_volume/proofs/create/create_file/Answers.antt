@@ -1,5 +1,7 @@
 use Rattle.std.proofs.Common.{rules, refl, ◌≡◌, ◌∙◌, ◌+◌, ◌≤◌, true, false, ap, sym, subst, length, List, ℕ, arith}
+use Rattle.f11_dev.specs.Disk.{Disk}
 use Rattle.f11_dev.specs.Image.{Image}
+use Rattle.f11_dev.specs.Looked.{Looked}
 use Rattle.f11_dev.specs.Went.{Went}
 use Rattle.f11_dev.proofs.LookedLemmas.{looked_more}
 use Rattle.f11_dev.proofs.WentLemmas.{went_looked, went_more, went_weaker, went_within}
@@ -7,10 +9,11 @@ use Rattle.rt11_volume.specs.Directory.{segment_of}
 use Rattle.rt11_volume.specs.Entry.{area_length}
 use Rattle.rt11_volume.specs.Files.{KeepsFiles}
 use Rattle.rt11_volume.specs.InHand.{KeepsOthers}
-use Rattle.rt11_volume.specs.Looking.{found_entry}
+use Rattle.rt11_volume.specs.Looking.{IsSoundDisk, FindsRoom, found_entry}
 use Rattle.rt11_volume.specs.Search.{is_empty_for}
 use Rattle.rt11_volume.specs.Segment.{segment_words, segment_count, highest_segment}
-use Rattle.rt11_volume.specs.Split.{KeepsSplit}
+use Rattle.rt11_volume.specs.Split.{HasNext, HoldsFirst, KeepsSplit}
+use Rattle.rt11_volume.specs.declared.search.Found.{Found}
 use Rattle.rt11_volume.specs.declared.refusal.RtRefusal.TheVariants.{DeviceFault}
 use Rattle.rt11_volume.proofs.AnswerLemmas.{faults-handed_on}
 use Rattle.rt11_volume.proofs.CreateLemmas.{area-fits, created-here}
@@ -21,6 +24,31 @@ use Rattle.rt11_volume.proofs.SplitCreateLemmas.{created-split, directory-full, 
 use Rattle.rt11_volume.proofs.SplitDiskLemmas.{three-written}
 use Rattle.rt11_volume.proofs.create.create_file.Goals as goal
 use Rattle.rt11_volume.proofs.create.create_file.Goals.{then-not-has_end-via-then-not-has_end, then-not-has_end-via-else-not-has_end+then-entry-file}
+
+-- segment 1 is in hand
+first-words : (name : List ℕ) (blocks : ℕ) (old mid now : Disk) (found : Found) (first : List ℕ) → FindsRoom name blocks found old → Looked old mid 62 0 → HoldsFirst found first mid now → IsSoundDisk old → first ≡ segment_words old.image 1
+first-words name blocks old mid now found first finds looked holds sound =
+    holds.words_are (looked.honest ∙ sound.honest) ((finds.is_first sound).words_are ∙ ap (λ (i : Image). segment_words i found.number) (sym looked.image)) ∙ ap (λ (i : Image). segment_words i 1) looked.image
+
+-- what went on where the segment in hand was written, and where it was split
+here-went : (name : List ℕ) (blocks faults : ℕ) (old now new : Disk) (found : Found) → FindsRoom name blocks found old → Looked old now 62 0 → Went (KeepsOthers found.number now.image) now new 2 faults → Went (KeepsFiles old) old new 70 faults
+here-went name blocks faults old now new found finds looked went =
+    let P = KeepsFiles old in
+    went_within P (went_more P (went_looked P looked) (went_weaker (KeepsOthers found.number now.image) P (λ image kept sound.
+    let is = finds.is_first sound in
+    others-data found.number old.image image finds.on_device.some (visited-low old.image is.place found.number (sound_from old.image sound.accepted) is.visited_at) (subst (λ (i : Image). KeepsOthers found.number i image) looked.image kept)) went)) (omega arith)
+
+split-went : (name : List ℕ) (blocks faults size : ℕ) (old mid now new : Disk) (found : Found) (first : List ℕ) → FindsRoom name blocks found old → Looked old mid 62 0 → HoldsFirst found first mid now → HasNext found first size
+    → Went (KeepsSplit found.number (highest_segment first + 1) now.image) now new 6 faults → Went (KeepsFiles old) old new 70 faults
+split-went name blocks faults size old mid now new found first finds looked holds next went =
+    let P = KeepsFiles old in
+    let number : ℕ = highest_segment first + 1 in
+    let both = looked_more looked holds.looked in
+    went_more P (went_looked P both) (went_weaker (KeepsSplit found.number number now.image) P (λ image kept sound.
+    let is = finds.is_first sound in
+    let first_is = first-words name blocks old mid now found first finds looked holds sound in
+    split-data found.number number old.image image finds.on_device.some (visited-low old.image is.place found.number (sound_from old.image sound.accepted) is.visited_at) (omega arith)
+    (omega (arith, next.room, ap (λ (s : List ℕ). segment_count s) first_is)) (subst (λ (i : Image). KeepsSplit found.number number i image) both.image kept)) went)
 
 pub returns-then-not-has_end-clause-refused : goal.returns-then-not-has_end-clause-refused
 returns-then-not-has_end-clause-refused g c = λ sound.
@@ -42,27 +70,12 @@ returns-then-not-has_end-clause-refused g c = λ sound.
 pub returns-in_err-create_here-clause-went : goal.returns-in_err-create_here-clause-went
 returns-in_err-create_here-clause-went g c =
     let old = g.D.Device.disk c.args.device.now in
-    let now = g.D.Device.disk c.find_room.new.device in
-    let finds = c.in_ok-found.ensures.found in
-    let k = c.in_ok-found.found.number in
-    let P = KeepsFiles old in
-    let looked = c.in_ok-found.ensures.looked in
-    subst (λ n. Went P old (g.D.Device.disk c.create_here.new.device) 70 n) (sym (faults-handed_on c.from_residual-in_err-create_here.result DeviceFault c.from_residual-in_err-create_here.ensures.1))
-    (went_within P (went_more P (went_looked P looked) (went_weaker (KeepsOthers k now.image) P (λ image kept sound.
-    let is = finds.is_first sound in
-    others-data k old.image image finds.on_device.some (visited-low old.image is.place k (sound_from old.image sound.accepted) is.visited_at) (subst (λ (i : Image). KeepsOthers k i image) looked.image kept)) c.in_err-create_here.ensures.failed)) (omega arith))
+    subst (λ n. Went (KeepsFiles old) old (g.D.Device.disk c.create_here.new.device) 70 n) (sym (faults-handed_on c.from_residual-in_err-create_here.result DeviceFault c.from_residual-in_err-create_here.ensures.1))
+    (here-went _ _ 1 old _ _ c.in_ok-found.found c.in_ok-found.ensures.found c.in_ok-found.ensures.looked c.in_err-create_here.ensures.failed)
 
 pub returns-then-not-needs_split-clause-went : goal.returns-then-not-needs_split-clause-went
 returns-then-not-needs_split-clause-went g c =
-    let old = g.D.Device.disk c.args.device.now in
-    let now = g.D.Device.disk c.find_room.new.device in
-    let finds = c.in_ok-found.ensures.found in
-    let k = c.in_ok-found.found.number in
-    let P = KeepsFiles old in
-    let looked = c.in_ok-found.ensures.looked in
-    went_within P (went_more P (went_looked P looked) (went_weaker (KeepsOthers k now.image) P (λ image kept sound.
-    let is = finds.is_first sound in
-    others-data k old.image image finds.on_device.some (visited-low old.image is.place k (sound_from old.image sound.accepted) is.visited_at) (subst (λ (i : Image). KeepsOthers k i image) looked.image kept)) c.in_ok-create_here.ensures.created.written.went)) (omega arith)
+    here-went _ _ 0 _ _ _ c.in_ok-found.found c.in_ok-found.ensures.found c.in_ok-found.ensures.looked c.in_ok-create_here.ensures.created.written.went
 
 pub returns-then-not-needs_split-clause-created : goal.returns-then-not-needs_split-clause-created
 returns-then-not-needs_split-clause-created g c = λ sound.
@@ -90,7 +103,7 @@ returns-then-not-has_next-clause-refused g c = λ sound.
     let finds = c.in_ok-found.ensures.found in
     let looked = c.in_ok-found.ensures.looked in
     let reads = c.in_ok-first.ensures.reads in
-    let first_is = reads.words_are (looked.honest ∙ sound.honest) ((finds.is_first sound).words_are ∙ ap (λ (i : Image). segment_words i c.in_ok-found.found.number) (sym looked.image)) ∙ ap (λ (i : Image). segment_words i 1) looked.image in
+    let first_is = first-words _ _ old _ _ c.in_ok-found.found c.in_ok-first.first finds looked reads sound in
     let needs = sym c.needs_split.ensures ∙ c.if-not-needs_split.false in
     let size = c.blocks-2.ensures.count ∙ ap (λ (i : Image). length i) (reads.looked.image ∙ looked.image) in
     directory-full c.args.file.name c.args.file.blocks old.image c.in_ok-found.found c.in_ok-first.first _ (sound_from old.image sound.accepted) (finds.is_first sound) (finds.no_file sound) needs first_is size (λ has.
@@ -103,41 +116,15 @@ split_here-requires-clause-low g c = (c.has_next.ensures.0 c.if-not-has_next.fal
 pub returns-in_err-split_here-clause-went : goal.returns-in_err-split_here-clause-went
 returns-in_err-split_here-clause-went g c =
     let old = g.D.Device.disk c.args.device.now in
-    let now = g.D.Device.disk c.read_first.new.device in
-    let finds = c.in_ok-found.ensures.found in
-    let k = c.in_ok-found.found.number in
-    let P = KeepsFiles old in
-    let looked = c.in_ok-found.ensures.looked in
-    let reads = c.in_ok-first.ensures.reads in
-    let next = c.has_next.ensures.0 c.if-not-has_next.false in
-    let number = highest_segment c.in_ok-first.first + 1 in
-    let both = looked_more looked reads.looked in
-    subst (λ n. Went P old (g.D.Device.disk c.split_here.new.device) 70 n) (sym (faults-handed_on c.from_residual-in_err-split_here.result DeviceFault c.from_residual-in_err-split_here.ensures.1))
-    (went_more P (went_looked P both) (went_weaker (KeepsSplit k number now.image) P (λ image kept sound.
-    let is = finds.is_first sound in
-    let first_is = reads.words_are (looked.honest ∙ sound.honest) ((finds.is_first sound).words_are ∙ ap (λ (i : Image). segment_words i c.in_ok-found.found.number) (sym looked.image)) ∙ ap (λ (i : Image). segment_words i 1) looked.image in
-    split-data k number old.image image finds.on_device.some (visited-low old.image is.place k (sound_from old.image sound.accepted) is.visited_at) (omega arith)
-    (omega (arith, next.room, ap (λ (s : List ℕ). segment_count s) first_is)) (subst (λ (i : Image). KeepsSplit k number i image) both.image kept)) c.in_err-split_here.ensures.failed))
+    subst (λ n. Went (KeepsFiles old) old (g.D.Device.disk c.split_here.new.device) 70 n) (sym (faults-handed_on c.from_residual-in_err-split_here.result DeviceFault c.from_residual-in_err-split_here.ensures.1))
+    (split-went _ _ 1 _ old _ _ _ c.in_ok-found.found c.in_ok-first.first c.in_ok-found.ensures.found c.in_ok-found.ensures.looked c.in_ok-first.ensures.reads (c.has_next.ensures.0 c.if-not-has_next.false) c.in_err-split_here.ensures.failed)
 
 pub returns-clause-went : goal.returns-clause-went
 returns-clause-went g c =
-    let old = g.D.Device.disk c.args.device.now in
-    let now = g.D.Device.disk c.read_first.new.device in
-    let finds = c.in_ok-found.ensures.found in
-    let k = c.in_ok-found.found.number in
-    let P = KeepsFiles old in
-    let looked = c.in_ok-found.ensures.looked in
-    let reads = c.in_ok-first.ensures.reads in
-    let next = c.has_next.ensures.0 c.if-not-has_next.false in
-    let number = highest_segment c.in_ok-first.first + 1 in
-    let both = looked_more looked reads.looked in
+    let f = c.in_ok-found.found in
     let split = c.in_ok-split_here.ensures.split in
-    went_more P (went_looked P both) (went_weaker (KeepsSplit k number now.image) P (λ image kept sound.
-    let is = finds.is_first sound in
-    let first_is = reads.words_are (looked.honest ∙ sound.honest) ((finds.is_first sound).words_are ∙ ap (λ (i : Image). segment_words i c.in_ok-found.found.number) (sym looked.image)) ∙ ap (λ (i : Image). segment_words i 1) looked.image in
-    split-data k number old.image image finds.on_device.some (visited-low old.image is.place k (sound_from old.image sound.accepted) is.visited_at) (omega arith)
-    (omega (arith, next.room, ap (λ (s : List ℕ). segment_count s) first_is)) (subst (λ (i : Image). KeepsSplit k number i image) both.image kept))
-    (three-written k number 0 _ _ split.wrote_back split.wrote_first split.wrote_front.went))
+    split-went _ _ 0 _ _ _ _ _ f c.in_ok-first.first c.in_ok-found.ensures.found c.in_ok-found.ensures.looked c.in_ok-first.ensures.reads (c.has_next.ensures.0 c.if-not-has_next.false)
+    (three-written f.number (highest_segment c.in_ok-first.first + 1) 0 _ _ split.wrote_back split.wrote_first split.wrote_front.went)
 
 pub returns-clause-created : goal.returns-clause-created
 returns-clause-created g c = λ sound.
@@ -148,7 +135,7 @@ returns-clause-created g c = λ sound.
     let looked = c.in_ok-found.ensures.looked in
     let reads = c.in_ok-first.ensures.reads in
     let next = c.has_next.ensures.0 c.if-not-has_next.false in
-    let first_is = reads.words_are (looked.honest ∙ sound.honest) ((finds.is_first sound).words_are ∙ ap (λ (i : Image). segment_words i c.in_ok-found.found.number) (sym looked.image)) ∙ ap (λ (i : Image). segment_words i 1) looked.image in
+    let first_is = first-words _ _ old _ _ c.in_ok-found.found c.in_ok-first.first finds looked reads sound in
     let needs = sym c.needs_split.ensures ∙ c.if-not-needs_split.false in
     let three : length c.args.file.name ≡ 3 = search rules in
     created-split old now new c.in_ok-found.found c.in_ok-first.first _ c.args.file (reads.looked.image ∙ looked.image) (sound_from old.image sound.accepted) three (finds.is_first sound) (finds.no_file sound) needs first_is next.room refl c.in_ok-split_here.ensures.split
