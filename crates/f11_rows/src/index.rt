@@ -422,7 +422,10 @@ fn a_liar_over_the_second_header(rt: HostRuntime) -> Result<(), Fail> {
 
 #[test]
 fn a_transfer_along_headers_fails(rt: HostRuntime) -> Result<(), Fail> {
+    // the first is the home block's, the next two the index file's
     for (transfer, lbn) in [
+        (1, Err(ChainFault::DeviceFault)),
+        (2, Err(ChainFault::DeviceFault)),
         (3, Err(ChainFault::DeviceFault)),
         (4, Err(ChainFault::DeviceFault)),
         (5, Err(ChainFault::DeviceFault)),

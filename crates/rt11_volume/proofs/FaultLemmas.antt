@@ -20,7 +20,7 @@ use Rattle.rt11_volume.specs.Judging.{segment_at, entry_of, entry_faults, link_f
 use Rattle.rt11_volume.specs.Segment.{Segment, segment_words, segment_count, next_segment, highest_segment, extra_bytes, area_start, HasEnd}
 use Rattle.rt11_volume.specs.declared.directory.Visited.{Visited}
 use Rattle.rt11_volume.proofs.EntryLemmas.{has_end-HasEnd}
-use Rattle.rt11_volume.proofs.JudgingLemmas.{visit_faults-wrong, visit_faults-right, list_any-below, list_any-none_below}
+use Rattle.rt11_volume.proofs.JudgingLemmas.{visit_faults-is, list_any-below, list_any-none_below}
 use Rattle.rt11_volume.proofs.PlaceLemmas.{IsAt, IsAt-visited, visited-at, visits-first, wrong-at, segment-at, ahead-at}
 
 -- a finding that is one of the image's faults
@@ -108,11 +108,11 @@ visit_found image j f inside has = by_test (is_extra_wrong image k) refl
     by_test : (b : Bool) → is_extra_wrong image k ≡ b → IsFound image f
     by_test true wrong =
         let same : finding 4 k 0 ≡ f =
-        (λ i. finding 4 (sym is.at i).number 0) ∙ one_is f (subst (λ (fs : List Finding). Contains fs f) (visit_faults-wrong (length image) (visits image) j (wrong-at image j k is ∙ wrong)) has) in
+        (λ i. finding 4 (sym is.at i).number 0) ∙ one_is f (subst (λ (fs : List Finding). Contains fs f) (visit_faults-is (length image) (visits image) j (wrong-at image j k is ∙ wrong)) has) in
         subst (IsFound image) same (extra_wrong k record { place = j; visited_at = place; wrong = wrong })
     by_test false right =
         let judged : IsJudged image j k = record { visited_at = place; right = right } in
-        elim (Contains-append_cases _ _ f (subst (λ (fs : List Finding). Contains fs f) (visit_faults-right (length image) (visits image) j (wrong-at image j k is ∙ right)) has)) [
+        elim (Contains-append_cases _ _ f (subst (λ (fs : List Finding). Contains fs f) (visit_faults-is (length image) (visits image) j (wrong-at image j k is ∙ right)) has)) [
           | inl link ↦ link_found image j k f judged is link
           | inr area ↦ area_found image j k f judged is area
         ]
@@ -170,7 +170,7 @@ if_holds holds f g is same = subst (Contains (if_so holds f)) same (Contains-if_
 in_right : (image : Image) (j k : ℕ) (f : Finding) → IsJudged image j k → Contains (link_faults (visits image) j ++ area_faults (length image) (visits image) j) f → Contains (faults_of (length image) (visits image)) f
 in_right image j k f judged has =
     let is : IsAt image j k = IsAt-visited image j k judged.visited_at in
-    in_visit image j f is.inside (subst (λ (fs : List Finding). Contains fs f) (sym (visit_faults-right (length image) (visits image) j (wrong-at image j k is ∙ judged.right))) has)
+    in_visit image j f is.inside (subst (λ (fs : List Finding). Contains fs f) (sym (visit_faults-is (length image) (visits image) j (wrong-at image j k is ∙ judged.right))) has)
 
 in_link : (image : Image) (j k : ℕ) (f : Finding) → IsJudged image j k → Contains (link_faults (visits image) j) f → Contains (faults_of (length image) (visits image)) f
 in_link image j k f judged has = in_right image j k f judged (Contains-append_left _ _ f has)
@@ -223,7 +223,7 @@ wrong_listed : (image : Image) (k : ℕ) → IsWrong image k → Contains (fault
 wrong_listed image k wrong =
     let is : IsAt image wrong.place k = IsAt-visited image wrong.place k wrong.visited_at in
     let one : Contains (finding 4 (visit_at (visits image) wrong.place).number 0 ∷ []) (finding 4 k 0) = (0, omega arith, λ i. finding 4 (is.at i).number 0) in
-    in_visit image wrong.place (finding 4 k 0) is.inside (subst (λ (fs : List Finding). Contains fs (finding 4 k 0)) (sym (visit_faults-wrong (length image) (visits image) wrong.place (wrong-at image wrong.place k is ∙ wrong.wrong))) one)
+    in_visit image wrong.place (finding 4 k 0) is.inside (subst (λ (fs : List Finding). Contains fs (finding 4 k 0)) (sym (visit_faults-is (length image) (visits image) wrong.place (wrong-at image wrong.place k is ∙ wrong.wrong))) one)
 
 high_listed : (image : Image) → ((k : ℕ) → ¬ IsWrong image k) → IsHighestBelow image ⊎ IsHighestAbove image → is_highest_wrong (visits image) ≡ true
 unfolding is_highest_wrong

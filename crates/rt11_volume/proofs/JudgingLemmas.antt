@@ -32,14 +32,11 @@ list_any-none_below test n none =
     let place : get_or (range_with_len 0 n) k d ≡ k = get_or-range_with_len 0 n k d inside ∙ omega arith in
     ap test place ∙ none k inside)
 
--- the faults of a segment with wrong extra bytes, and with right ones
-pub visit_faults-wrong : (blocks : ℕ) (vs : List Visited) (j : ℕ) → is_wrong_at vs j ≡ true → visit_faults blocks vs j ≡ finding 4 (visit_at vs j).number 0 ∷ []
+-- the faults of a segment, by whether its extra bytes are wrong
+pub visit_faults-is : (blocks : ℕ) (vs : List Visited) (j : ℕ) {wrong : Bool} → is_wrong_at vs j ≡ wrong
+    → visit_faults blocks vs j ≡ (if wrong then finding 4 (visit_at vs j).number 0 ∷ [] else link_faults vs j ++ area_faults blocks vs j)
 unfolding visit_faults
-visit_faults-wrong blocks vs j wrong = ap (λ b. if b then finding 4 (visit_at vs j).number 0 ∷ [] else link_faults vs j ++ area_faults blocks vs j) wrong
-
-pub visit_faults-right : (blocks : ℕ) (vs : List Visited) (j : ℕ) → is_wrong_at vs j ≡ false → visit_faults blocks vs j ≡ link_faults vs j ++ area_faults blocks vs j
-unfolding visit_faults
-visit_faults-right blocks vs j right = ap (λ b. if b then finding 4 (visit_at vs j).number 0 ∷ [] else link_faults vs j ++ area_faults blocks vs j) right
+visit_faults-is blocks vs j is = ap (λ b. if b then finding 4 (visit_at vs j).number 0 ∷ [] else link_faults vs j ++ area_faults blocks vs j) is
 
 -- a test of the first entries of a list
 pub list_any-found : (test : List ℕ → Bool) (es : List (List ℕ)) (n k : ℕ) → k < n → n ≤ length es → test (get_or es k []) ≡ true → list_any test (take n es) ≡ true
@@ -66,12 +63,8 @@ unfolding has_name_before
 has_name_before-here vs j i name none =
     ap (λ b. b || list_any (is_file_named name) (take i (segment_at vs j).entries)) (list_any-none_below (λ k. list_any (is_file_named name) (segment_at vs k).entries) j none)
 
--- the notes of a segment with wrong extra bytes, and with right ones
-pub visit_notes-wrong : (vs : List Visited) (j : ℕ) → is_wrong_at vs j ≡ true → visit_notes vs j ≡ []
+-- its notes
+pub visit_notes-is : (vs : List Visited) (j : ℕ) {wrong : Bool} → is_wrong_at vs j ≡ wrong
+    → visit_notes vs j ≡ (if wrong then [] else if_so (nat_lt (end_ahead vs j) (segment_at vs j).first) (finding 4 (visit_at vs j).number 0) ++ gather (entry_notes vs j) (length (segment_at vs j).entries))
 unfolding visit_notes
-visit_notes-wrong vs j wrong = ap (λ b. if b then [] else if_so (nat_lt (end_ahead vs j) (segment_at vs j).first) (finding 4 (visit_at vs j).number 0) ++ gather (entry_notes vs j) (length (segment_at vs j).entries)) wrong
-
-pub visit_notes-right : (vs : List Visited) (j : ℕ) → is_wrong_at vs j ≡ false
-    → visit_notes vs j ≡ if_so (nat_lt (end_ahead vs j) (segment_at vs j).first) (finding 4 (visit_at vs j).number 0) ++ gather (entry_notes vs j) (length (segment_at vs j).entries)
-unfolding visit_notes
-visit_notes-right vs j right = ap (λ b. if b then [] else if_so (nat_lt (end_ahead vs j) (segment_at vs j).first) (finding 4 (visit_at vs j).number 0) ++ gather (entry_notes vs j) (length (segment_at vs j).entries)) right
+visit_notes-is vs j is = ap (λ b. if b then [] else if_so (nat_lt (end_ahead vs j) (segment_at vs j).first) (finding 4 (visit_at vs j).number 0) ++ gather (entry_notes vs j) (length (segment_at vs j).entries)) is

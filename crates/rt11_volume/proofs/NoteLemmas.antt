@@ -21,7 +21,7 @@ use Rattle.rt11_volume.specs.Notes.IsDirectoryNote.{tentative, no_name, name_rep
 use Rattle.rt11_volume.specs.RtName.{is_rt_name}
 use Rattle.rt11_volume.specs.Segment.{Segment}
 use Rattle.rt11_volume.specs.declared.directory.Visited.{Visited}
-use Rattle.rt11_volume.proofs.JudgingLemmas.{visit_notes-wrong, visit_notes-right, list_any-below}
+use Rattle.rt11_volume.proofs.JudgingLemmas.{visit_notes-is, list_any-below}
 use Rattle.rt11_volume.proofs.NameLemmas.{is_rt_name-IsRtName}
 use Rattle.rt11_volume.proofs.PlaceLemmas.{IsAt, IsAt-visited, visited-at, wrong-at, segment-at, ahead-at}
 
@@ -179,11 +179,11 @@ visit_noted image j f inside has = by_test (is_extra_wrong image k) refl
 
     by_test : (b : Bool) → is_extra_wrong image k ≡ b → IsNoted image f
     by_test true wrong =
-        let none : Contains [] f = subst (λ (fs : List Finding). Contains fs f) (visit_notes-wrong (visits image) j (wrong-at image j k is ∙ wrong)) has in
+        let none : Contains [] f = subst (λ (fs : List Finding). Contains fs f) (visit_notes-is (visits image) j (wrong-at image j k is ∙ wrong)) has in
         absurd (omega (arith, none.1))
     by_test false right =
         let judged : IsJudged image j k = record { visited_at = place; right = right } in
-        elim (Contains-append_cases _ _ f (subst (λ (fs : List Finding). Contains fs f) (visit_notes-right (visits image) j (wrong-at image j k is ∙ right)) has)) [
+        elim (Contains-append_cases _ _ f (subst (λ (fs : List Finding). Contains fs f) (visit_notes-is (visits image) j (wrong-at image j k is ∙ right)) has)) [
           | inl late ↦ noted-if image _ _ f late (λ holds.
               let less : nat_lt (end_before image j) (segment_of image k).first ≡ true = sym (λ i. nat_lt (ahead-at image j inside i) (segment-at image j k is i).first) ∙ holds in
               subst (λ (v : Visited). IsDirectoryNote image 4 v.number 0) (sym is.at) (begins_late j k judged (ltb-true (end_before image j) (segment_of image k).first less)))
@@ -205,7 +205,7 @@ in_right : (image : Image) (j k : ℕ) (f : Finding) → IsJudged image j k
 in_right image j k f judged has =
     let is : IsAt image j k = IsAt-visited image j k judged.visited_at in
     Contains-gather (visit_notes (visits image)) (length (visits image)) j f is.inside
-    (subst (λ (fs : List Finding). Contains fs f) (sym (visit_notes-right (visits image) j (wrong-at image j k is ∙ judged.right))) has)
+    (subst (λ (fs : List Finding). Contains fs f) (sym (visit_notes-is (visits image) j (wrong-at image j k is ∙ judged.right))) has)
 
 in_entry : (image : Image) (j k i : ℕ) (f : Finding) → IsJudged image j k → i < length (segment_of image k).entries → Contains (entry_notes (visits image) j i) f → Contains (notes_of (visits image)) f
 in_entry image j k i f judged inside has =

@@ -38,13 +38,10 @@ pub walked-step : (most : ℕ) (image : Image) (seen : List ℕ) (k : ℕ) → w
 unfolding walked walk_on
 walked-step most image seen k = refl
 
-pub walk_on-goes : (most : ℕ) (image : Image) (seen : List ℕ) (last : ℕ) → goes_on image seen last ≡ true → walk_on most image seen last ≡ walked most image seen (next_of image last)
+pub walk_on-is : (most : ℕ) (image : Image) (seen : List ℕ) (last : ℕ) {goes : Bool} → goes_on image seen last ≡ goes
+    → walk_on most image seen last ≡ (if goes then walked most image seen (next_of image last) else seen)
 unfolding walk_on
-walk_on-goes most image seen last goes = ap (λ b. if b then walked most image seen (next_of image last) else seen) goes
-
-pub walk_on-ends : (most : ℕ) (image : Image) (seen : List ℕ) (last : ℕ) → goes_on image seen last ≡ false → walk_on most image seen last ≡ seen
-unfolding walk_on
-walk_on-ends most image seen last ends = ap (λ b. if b then walked most image seen (next_of image last) else seen) ends
+walk_on-is most image seen last is = ap (λ b. if b then walked most image seen (next_of image last) else seen) is
 
 walk_on-none : (image : Image) (seen : List ℕ) (last : ℕ) → walk_on 0 image seen last ≡ seen
 unfolding walk_on walked
@@ -127,7 +124,7 @@ IsWalked-more image most less found now next words fewer first link is now_is wa
       ends = refl;
       found_is = now_is ∙ ap (λ (vs : List Visited). vs ++ record { number = next; segment = words } ∷ []) walk.found_is
           ∙ ap (λ (s : List ℕ). map (visit_of image) walk.seen ++ record { number = next; segment = s } ∷ []) is ∙ sym (map-append (visit_of image) walk.seen (next ∷ []));
-      walk = walk.walk ∙ walk_on-goes most image walk.seen walk.last test.0 ∙ ap (walked most image walk.seen) test.1
+      walk = walk.walk ∙ walk_on-is most image walk.seen walk.last test.0 ∙ ap (walked most image walk.seen) test.1
           ∙ ap (λ n. walked n image walk.seen next) fewer ∙ walked-step less image walk.seen next;
     }
 
@@ -135,7 +132,7 @@ IsWalked-more image most less found now next words fewer first link is now_is wa
 pub IsWalked-ends : (image : Image) (most : ℕ) (found : List Visited) → (visit_at found 0).segment ≡ segment_words image 1 → link_from found ≡ None → IsWalked image most found → found ≡ visits image
 IsWalked-ends image most found first link walk =
     let ends = none_if (goes_on image walk.seen walk.last) (next_of image walk.last) (sym (link_is image most found walk first) ∙ link) in
-    walk.found_is ∙ sym (ap (map (visit_of image)) (walk.walk ∙ walk_on-ends most image walk.seen walk.last ends))
+    walk.found_is ∙ sym (ap (map (visit_of image)) (walk.walk ∙ walk_on-is most image walk.seen walk.last ends))
 
 -- there were as many steps as there may be
 pub IsWalked-all : (image : Image) (most : ℕ) (found : List Visited) → most ≡ 0 → IsWalked image most found → found ≡ visits image
@@ -150,7 +147,7 @@ visit_at-push found v some = get_or_append_left found (v ∷ []) no_visit 0 some
 pub visited-one : (image : Image) → next_of image 1 ≡ 0 → visited image ≡ 1 ∷ []
 visited-one image none =
     let ends : goes_on image (1 ∷ []) 1 ≡ false = ap (λ n. not (is_extra_wrong image 1) && is_link_on (count_of image) (1 ∷ []) n) none ∙ and_false (not (is_extra_wrong image 1)) in
-    walked-step 30 image [] 1 ∙ walk_on-ends 30 image (1 ∷ []) 1 ends
+    walked-step 30 image [] 1 ∙ walk_on-is 30 image (1 ∷ []) 1 ends
   where
     and_false : (b : Bool) → (b && false) ≡ false
     and_false true = refl

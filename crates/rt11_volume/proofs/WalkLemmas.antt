@@ -9,7 +9,7 @@ use Rattle.std.proofs.lemmas.Option.{slice_get_within, slice_get-get_or, get_or_
 use Rattle.f11_dev.specs.Image.{Image}
 use Rattle.rt11_volume.specs.Directory.{is_extra_wrong, goes_on, next_of, walked, visited, is_link_on, count_of}
 use Rattle.rt11_volume.proofs.SoundLemmas.{IsSoundImage, IsSoundAt}
-use Rattle.rt11_volume.proofs.VisitLemmas.{walk_on, walked-step, walk_on-goes, walk_on-ends}
+use Rattle.rt11_volume.proofs.VisitLemmas.{walk_on, walked-step, walk_on-is}
 
 -- Segment k is visited at this place, and the walk is at it.
 pub record IsOn (image : Image) (place k : ℕ) : Type 0 where
@@ -105,11 +105,11 @@ IsNext-step image place k sound within on =
     let seen : List ℕ = on.before ++ k ∷ [] in
     let size : length seen ≡ place + 1 = length-append on.before (k ∷ []) ∙ omega (arith, on.size) in
     record {
-      ends = λ none. omega (arith, size, ap (λ (ks : List ℕ). length ks) (on.walk ∙ walk_on-ends (30 - place) image seen k (link_ends image seen k none)));
+      ends = λ none. omega (arith, size, ap (λ (ks : List ℕ). length ks) (on.walk ∙ walk_on-is (30 - place) image seen k (link_ends image seen k none)));
       goes = λ some below. record {
         before = seen;
         size = size;
-        walk = on.walk ∙ walk_on-goes (30 - place) image seen k (link_on image place k on (sound.each place k (visited-on image place k on)) some)
+        walk = on.walk ∙ walk_on-is (30 - place) image seen k (link_on image place k on (sound.each place k (visited-on image place k on)) some)
             ∙ ap (λ n. walked n image seen (next_of image k)) (let steps : 30 - place ≡ suc (30 - (place + 1)) = omega (arith, below) in steps)
             ∙ walked-step (30 - (place + 1)) image seen (next_of image k);
       };
@@ -169,13 +169,13 @@ linked-walk image ks (suc most) j linked inside long =
     walked-step most image (take j ks) (get_or ks j 0) ∙ ap (λ seen. walk_on most image seen (get_or ks j 0)) here
     ∙ elim (cases_lt (j + 1) (length ks)) [
       | inl more ↦
-          walk_on-goes most image (take (j + 1) ks) (get_or ks j 0) (linked.leads j more) ∙ ap (walked most image (take (j + 1) ks)) (linked.next j more)
+          walk_on-is most image (take (j + 1) ks) (get_or ks j 0) (linked.leads j more) ∙ ap (walked most image (take (j + 1) ks)) (linked.next j more)
           ∙ linked-walk image ks most (j + 1) linked more (omega (arith, long))
       | inr end ↦
           let all : take (j + 1) ks ≡ ks = take_all (j + 1) ks end in
           let place : j ≡ length ks - 1 = omega (arith, inside, end) in
           let stops : goes_on image (take (j + 1) ks) (get_or ks j 0) ≡ false = (λ t. goes_on image (all t) (get_or ks (place t) 0)) ∙ linked.last in
-          walk_on-ends most image (take (j + 1) ks) (get_or ks j 0) stops ∙ all
+          walk_on-is most image (take (j + 1) ks) (get_or ks j 0) stops ∙ all
     ]
 
 -- is the list of those that are visited

@@ -3,17 +3,17 @@ use Rattle.f11_findings.specs.Finding.{finding}
 use Rattle.f11_findings.specs.declared.finding.Finding.{Finding}
 use Rattle.f11_findings.proofs.FindingLemmas.{Adds-more, Adds-same}
 use Rattle.rt11_volume.specs.declared.directory.Visited.{Visited}
-use Rattle.rt11_volume.proofs.JudgingLemmas.{visit_faults-wrong, visit_faults-right}
+use Rattle.rt11_volume.proofs.JudgingLemmas.{visit_faults-is}
 use Rattle.rt11_volume.proofs.faults.add_visit_faults.Goals as goal
 
 pub returns-then-is_wrong_at : goal.returns-then-is_wrong_at
 returns-then-is_wrong_at c =
     let vs = c.args.visited.now in
     let found = c.finding.ensures ∙ ap (λ (v : Visited). finding 4 v.number 0) c.visit_at.ensures in
-    Adds-same (ap (λ (f : Finding). f ∷ []) found ∙ sym (visit_faults-wrong c.args.blocks vs c.args.j (sym c.is_wrong_at.ensures ∙ c.if-is_wrong_at.true))) c.in_ok-add.ensures.adds
+    Adds-same (ap (λ (f : Finding). f ∷ []) found ∙ sym (visit_faults-is c.args.blocks vs c.args.j (sym c.is_wrong_at.ensures ∙ c.if-is_wrong_at.true))) c.in_ok-add.ensures.adds
 
 pub returns : goal.returns
 returns c =
     let vs = c.args.visited.now in
-    Adds-same (sym (visit_faults-right c.args.blocks vs c.args.j (sym c.is_wrong_at.ensures ∙ c.if-is_wrong_at.false)))
+    Adds-same (sym (visit_faults-is c.args.blocks vs c.args.j (sym c.is_wrong_at.ensures ∙ c.if-is_wrong_at.false)))
     (Adds-more c.in_ok-add_link_faults.ensures c.in_ok-add_area_faults.ensures)
