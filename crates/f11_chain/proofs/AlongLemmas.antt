@@ -1,37 +1,44 @@
 -- What holds of a device while the headers of a file are read one after another.
-use Rattle.std.proofs.Common.{◌≡◌, ◌≢◌, ℕ, zero, suc, ◌+◌, ◌-◌, ◌<◌, ◌≤◌, IsTrue, List, [], ◌∷◌, ◌++◌, length, Some, None, Err, refl, sym, ap, subst, ◌∙◌, inl, inr, arith}
+use Rattle.std.proofs.Common.{◌≡◌, ◌≢◌, ℕ, ◌+◌, ◌-◌, ◌*◌, ◌<◌, ◌≤◌, IsTrue, List, [], ◌∷◌, ◌++◌, length, Some, None, Err, sym, ap, subst, ◌∙◌, inl, inr, arith}
 use Rattle.std.specs.Prelude.{Result, Ok, IsErrAnd, IsErrOf}
 use Rattle.std.proofs.lemmas.Bool.{cases_lt}
 use Rattle.std.specs.List.{slice_get}
 use Rattle.std.proofs.lemmas.List.{length-append}
-use Rattle.std.proofs.lemmas.Option.{slice_get_within, get_or_from_slice_get}
+use Rattle.std.proofs.lemmas.Option.{none-some, slice_get-get_or, slice_get_within, get_or_from_slice_get}
 use Rattle.std.proofs.lemmas.Grind.{flat_map-append}
 use Rattle.f11_dev.specs.Disk.{Disk}
 use Rattle.f11_dev.specs.Image.{Image}
 use Rattle.f11_dev.specs.Looked.{Looked}
-use Rattle.f11_dev.proofs.LookedLemmas.{looked_more}
+use Rattle.f11_dev.proofs.LookedLemmas.{looked_none, looked_more}
 use Rattle.f11_header.specs.Fields.{file_sequence}
 use Rattle.f11_header.specs.Header.{IsHeader}
-use Rattle.f11_map.proofs.MapLemmas.{slice_get-append_back}
 use Rattle.f11_index.specs.HeaderBlock.{segment_number, link_of, blocks_named}
-use Rattle.f11_index.specs.Headers.{headers_from, IsLastOf}
+use Rattle.f11_index.specs.Headers.{headers_of, IsLastOf}
 use Rattle.f11_index.specs.IndexFile.{Index}
-use Rattle.f11_index.specs.Table.{Table, table_in, IsLive, IsNext, LinksRightly}
+use Rattle.f11_index.specs.Table.{Table, table_in, IsLive, IsNext, IsHeaderOf, IsWholeFile, LinksRightly}
 use Rattle.f11_index.proofs.InUseLemmas.{in_use-some}
-use Rattle.f11_index.proofs.HeadersLemmas.{link_number, Comes-first, Comes-count, Comes-count-next, last-ends, last-whole}
-use Rattle.f11_index.proofs.PlaceLemmas.{slice_get-append_front}
+use Rattle.f11_index.proofs.HeadersLemmas.{Comes-first, Comes-count, Comes-count-next, last-ends, last-whole}
 use Rattle.f11_chain.specs.FileHeaders.{blocks_by, file_blocks, block_by_vbn}
-use Rattle.f11_chain.specs.Calls.{table, HoldsHeader, ReadsFirst, FindsNoFile, ReadsNext, FindsLast, FindsWrongLink, IsNextOf, FailsToReadNext, next_reads, LooksAlong, FindsBreak, FindsDamage, ReadsLast, Locates, FindsEnd}
+use Rattle.f11_chain.specs.Calls.{table, HoldsHeader, HoldsFirst, ReadsFirst, FindsNoFile, ReadsNext, FindsLast, FindsWrongLink, IsNextOf, FailsToReadNext, next_reads, LooksAlong, FailsAlong, FindsBreak, FindsDamage, ReadsLast, Locates, Seeks, FindsEnd}
+use Rattle.f11_chain.specs.declared.blocks.FileEnd.{FileEnd}
+use Rattle.f11_chain.specs.declared.blocks.Place.{Place}
 use Rattle.f11_chain.proofs.StepLemmas.{table-in_use, wrong-link}
-use Rattle.f11_chain.proofs.ReachedLemmas.{Reached, Reached-first, Reached-next, blocks-last, blocks-split}
+use Rattle.f11_chain.proofs.ReachedLemmas.{Reached, Reached-first, Reached-next, blocks-last, blocks-behind, block-behind}
 
--- The block is header m, that of segment k of file n, and each header up to it was read once. These are the headers before it.
-pub record Along (index : Index) (n m k : ℕ) (behind : List ℕ) (block : List ℕ) (old now : Disk) : Type 0 where
+-- The block is header m, that of segment k of file n, and each header up to it was read once but those in hand, 0 or 1 of them. These are
+-- the headers before it.
+pub record AlongFrom (in_hand : ℕ) (index : Index) (n m k : ℕ) (behind : List ℕ) (block : List ℕ) (old now : Disk) : Type 0 where
   pub header : HoldsHeader index m block old
   pub segment : segment_number block ≡ k
   pub few : k < 256
   pub reached : IsTrue old.honest → Reached (table index old) n m k behind
-  pub looked : Looked old now (k + 1) 0
+  pub reads : ℕ
+  pub count : reads + in_hand ≡ k + 1
+  pub looked : Looked old now reads 0
+
+-- each was read
+abbrev pub Along : Index → ℕ → ℕ → ℕ → List ℕ → List ℕ → Disk → Disk → Type 0
+Along = AlongFrom 0
 
 -- a header in hand is live where the device is honest
 pub HoldsHeader-live : (index : Index) (m : ℕ) (block : List ℕ) (disk : Disk) → HoldsHeader index m block disk → IsTrue disk.honest → IsLive (table index disk) m
@@ -56,20 +63,38 @@ module _ (index : Index) (old now : Disk) (most : ℕ) (looked : Looked old now 
   }
 
 -- the first header was read
+reached-first : (index : Index) (n : ℕ) (block : List ℕ) (disk : Disk) → HoldsHeader index n block disk → segment_number block ≡ 0
+    → IsTrue disk.honest → Reached (table index disk) n n 0 []
+reached-first index n block disk holds is honest = Reached-first (table index disk) n (record {
+  live = HoldsHeader-live index n block disk holds honest;
+  first = ap segment_number (sym (holds.block_is honest)) ∙ is;
+})
+
 pub Along-first : (index : Index) (n : ℕ) (block : List ℕ) (old now : Disk) → ReadsFirst index n block old now → Along index n n 0 [] block old now
 Along-first index n block old now reads = record {
   header = reads.header;
   segment = reads.first;
   few = omega arith;
-  reached = λ honest. Reached-first (table index old) n (record {
-    live = HoldsHeader-live index n block old reads.header honest;
-    first = ap segment_number (sym (reads.header.block_is honest)) ∙ reads.first;
-  });
+  reached = reached-first index n block old reads.header reads.first;
+  reads = 1;
+  count = omega arith;
   looked = reads.looked;
 }
 
+-- or was in hand
+pub Along-in-hand : (index : Index) (n : ℕ) (block : List ℕ) (disk : Disk) → HoldsFirst index n block disk → AlongFrom 1 index n n 0 [] block disk disk
+Along-in-hand index n block disk holds = record {
+  header = holds.header;
+  segment = holds.first;
+  few = omega arith;
+  reached = reached-first index n block disk holds.header holds.first;
+  reads = 0;
+  count = omega arith;
+  looked = looked_none disk;
+}
+
 -- it wasn't one of a file, or couldn't be read
-first-looked : (index : Index) (n : ℕ) (old new : Disk) (faults : ℕ) → 0 < n → Looked old new 1 faults → LooksAlong index n old new faults
+first-looked : (index : Index) (n : ℕ) (old new : Disk) (faults : ℕ) → 0 < n → Looked old new 1 faults → LooksAlong index n 0 old new faults
 first-looked index n old new faults some looked = record {
   headers = 1;
   few = omega arith;
@@ -77,24 +102,103 @@ first-looked index n old new faults some looked = record {
   looked = looked;
 }
 
--- a file that isn't whole is damaged
-pub damage-break : (index : Index) (n : ℕ) (old new : Disk) → FindsBreak index n old new → FindsDamage index n old new
-damage-break index n old new finds = record { damaged = λ honest sound. finds.broken honest sound.whole; looked = finds.looked }
-
-pub break-first : (index : Index) (n : ℕ) (old new : Disk) → 0 < n → FindsNoFile index n old new → FindsBreak index n old new
+pub break-first : (index : Index) (n : ℕ) (old new : Disk) → 0 < n → FindsNoFile index n old new → FindsBreak index n 0 old new
 break-first index n old new some finds = record {
   broken = λ honest whole. finds.no_file honest whole.file;
   looked = first-looked index n old new 0 some finds.looked;
 }
 
-pub failed-first : (index : Index) (n : ℕ) (old new : Disk) → 0 < n → Looked old new 1 1 → LooksAlong index n old new 1
+pub failed-first : (index : Index) (n : ℕ) (old new : Disk) → 0 < n → Looked old new 1 1 → FailsAlong index n 0 old new
 failed-first index n old new some looked = first-looked index n old new 1 some looked
 
--- a place past its end
-pub past-none : (xs : List ℕ) (i : ℕ) → None ≡ slice_get xs i → length xs ≤ i
-past-none [] i is = omega arith
-past-none (x ∷ xs) zero is = cc
-past-none (x ∷ xs) (suc i) is = let rest = past-none xs i is in omega (arith, rest)
+-- a file that isn't whole is damaged
+pub damage-break : (index : Index) (n : ℕ) (old new : Disk) → FindsBreak index n 0 old new → FindsDamage index n old new
+damage-break index n old new finds = record { damaged = λ honest sound. finds.broken honest sound.whole; looked = finds.looked }
+
+-- a call went on from a first header that was read before it
+module _ (index : Index) (n : ℕ) (block : List ℕ) (old now : Disk) (reads : ReadsFirst index n block old now) where
+  pub same : table index now ≡ table index old
+  same = table-stays index old now 1 reads.looked
+
+  pub honest-now : IsTrue old.honest → IsTrue now.honest
+  honest-now = honest-stays index old now 1 reads.looked
+
+  abbrev pub along-behind : (new : Disk) (faults : ℕ) → LooksAlong index n 1 now new faults → LooksAlong index n 0 old new faults
+  along-behind new faults looks = record {
+    headers = 1 + looks.headers;
+    few = omega (arith, looks.few);
+    each_once = λ honest. let once = subst (λ (t : Table). looks.headers + 1 ≤ length (headers_of t n)) same (looks.each_once (honest-now honest)) in omega (arith, once);
+    looked = looked_more reads.looked looks.looked;
+  }
+
+  pub end-behind : (vbn : ℕ) (new : Disk) → FindsEnd index n 1 vbn now new → FindsEnd index n 0 vbn old new
+  end-behind vbn new finds = record {
+    whole = λ honest. subst (λ (t : Table). IsWholeFile t n) same (finds.whole (honest-now honest));
+    fewer = λ honest. subst (λ (t : Table). length (file_blocks t n) < vbn) same (finds.fewer (honest-now honest));
+    looked = along-behind new 0 finds.looked;
+  }
+
+  pub break-behind : (new : Disk) → FindsBreak index n 1 now new → FindsBreak index n 0 old new
+  break-behind new finds = record {
+    broken = λ honest. subst (λ (t : Table). ¬ IsWholeFile t n) same (finds.broken (honest-now honest));
+    looked = along-behind new 0 finds.looked;
+  }
+
+  pub last-behind : (last : FileEnd) (after : List ℕ) (new : Disk) → ReadsLast index n 1 last after now new → ReadsLast index n 0 last after old new
+  last-behind last after new goes = record {
+    header = holds-stays index old now 1 reads.looked last.number after goes.header;
+    no_link = goes.no_link;
+    segment = goes.segment;
+    few = goes.few;
+    few_blocks = goes.few_blocks;
+    is_last = λ honest. subst (λ (t : Table). IsLastOf t n last.number) same (goes.is_last (honest-now honest));
+    whole = λ honest. subst (λ (t : Table). IsWholeFile t n) same (goes.whole (honest-now honest));
+    headers_are = λ honest. subst (λ (t : Table). last.headers ≡ length (headers_of t n)) same (goes.headers_are (honest-now honest));
+    blocks_are = λ honest. subst (λ (t : Table). last.blocks ≡ length (file_blocks t n)) same (goes.blocks_are (honest-now honest));
+    looked = along-behind new 0 goes.looked;
+    no_further = omega (arith, goes.no_further);
+  }
+
+  -- a place of the file was found
+  module _ (vbn : ℕ) (place : Place) (after : List ℕ) (new : Disk) (goes : Seeks index n 1 (vbn - 1) place after now new) where
+    found : (lbn : ℕ) → Some lbn ≡ slice_get (blocks_named after) place.left → IsTrue old.honest → block_by_vbn (table index old) n vbn ≡ Some lbn
+    found lbn is honest = subst (λ (t : Table). slice_get (file_blocks t n) (vbn - 1) ≡ Some lbn) same (goes.block_is (honest-now honest) ∙ sym is)
+
+    pub locates : (lbn : ℕ) → Some lbn ≡ slice_get (blocks_named after) place.left → lbn < length new.image → Locates index n vbn lbn old new
+    locates lbn is within = record {
+      header = place.number;
+      of_file = λ honest. subst (λ (t : Table). IsHeaderOf t n place.number) same (goes.of_file (honest-now honest));
+      named = λ honest.
+          let here : List ℕ = blocks_named ((table index old).header place.number) in
+          let at : slice_get here place.left ≡ Some lbn = ap (λ (b : List ℕ). slice_get (blocks_named b) place.left) (sym (there honest)) ∙ sym is in
+          (place.left, slice_get_within here place.left lbn at, get_or_from_slice_get here place.left lbn lbn at);
+      block_is = found lbn is;
+      within = rw sizes at within;
+      looked = along-behind new 0 goes.looked;
+      no_further = λ honest. let segment = ap segment_number (there honest) in omega (arith, goes.no_further, goes.segment, segment);
+    }
+      where
+        there : IsTrue old.honest → after ≡ (table index old).header place.number
+        there honest = (holds-stays index old now 1 reads.looked place.number after goes.header).block_is honest
+
+        sizes : length new.image ≡ length old.image
+        sizes = ap (λ (i : Image). length i) (goes.looked.looked.image ∙ reads.looked.image)
+
+    -- it is there
+    pub no-block : ¬ (None ≡ slice_get (blocks_named after) place.left)
+    no-block none = none-some _ (none ∙ slice_get-get_or (blocks_named after) place.left 0 goes.left_within)
+
+    -- but it isn't on the device
+    pub damage-outside : (lbn : ℕ) → Some lbn ≡ slice_get (blocks_named after) place.left → length new.image ≤ lbn → FindsDamage index n old new
+    damage-outside lbn is past = record {
+      damaged = λ honest sound.
+          let at : slice_get (file_blocks (table index old) n) (vbn - 1) ≡ Some lbn = found lbn is honest in
+          let within = sound.within (vbn - 1) 0 (slice_get_within _ _ _ at) in
+          let here = get_or_from_slice_get (file_blocks (table index old) n) (vbn - 1) lbn 0 at in
+          let size = ap (λ (i : Image). length i) (goes.looked.looked.image ∙ reads.looked.image) in
+          absurd (omega (arith, within, here, past, size));
+      looked = along-behind new 0 goes.looked;
+    }
 
 -- an error handed on is the one that came
 same_error : {T E : Type 0} (e f : E) → IsErrOf {T = T} (Err e) f → e ≡ f
@@ -104,7 +208,7 @@ pub handed-on : {T U E : Type 0} (r : Result T E) (e f : E) → IsErrAnd r (λ x
 handed-on (Ok x) e f is of = absurd is
 handed-on (Err x) e f is of = ap Err (sym is ∙ same_error x f of)
 
-module _ (index : Index) (n m k : ℕ) (behind : List ℕ) (block : List ℕ) (old now : Disk) (along : Along index n m k behind block old now) where
+module _ {in_hand : ℕ} (index : Index) (n m k : ℕ) (behind : List ℕ) (block : List ℕ) (old now : Disk) (along : AlongFrom in_hand index n m k behind block old now) where
   pub header-some : 0 < m
   header-some = in_use-some index m along.header.in_use
 
@@ -113,43 +217,45 @@ module _ (index : Index) (n m k : ℕ) (behind : List ℕ) (block : List ℕ) (o
   block-is honest = along.header.block_is honest
 
   -- the headers read so far
-  abbrev pub along-looked : LooksAlong index n old now 0
+  abbrev pub along-looked : LooksAlong index n in_hand old now 0
   along-looked = record {
-    headers = k + 1;
-    few = omega (arith, along.few);
-    each_once = λ honest. Comes-count (table index old) n m k behind (along.reached honest).comes header-some along.few;
+    headers = along.reads;
+    few = omega (arith, along.few, along.count);
+    each_once = λ honest. let here = Comes-count (table index old) n m k behind (along.reached honest).comes header-some along.few in omega (arith, here, along.count);
     looked = along.looked;
   }
 
   -- and those read for the next one, where there is a link
-  pub along-more : (new : Disk) (faults : ℕ) → (IsTrue old.honest → (link_of block).number ≢ 0) → Looked now new (next_reads block) faults → LooksAlong index n old new faults
+  pub along-more : (new : Disk) (faults : ℕ) → (IsTrue old.honest → (link_of block).number ≢ 0) → Looked now new (next_reads block) faults → LooksAlong index n in_hand old new faults
   along-more new faults link looked = record {
-    headers = k + 1 + next_reads block;
-    few = omega (arith, along.few, along.segment);
+    headers = along.reads + next_reads block;
+    few = omega (arith, along.few, along.segment, along.count);
     each_once = λ honest. elim (cases_lt k 255) [
       | inl below ↦
           let here = Comes-count-next (table index old) n m k behind (along.reached honest).comes header-some below
           (λ none. link honest (ap (λ (b : List ℕ). (link_of b).number) (block-is honest) ∙ none)) in
-          omega (arith, here)
+          omega (arith, here, along.count)
       | inr last ↦
           let here = Comes-count (table index old) n m k behind (along.reached honest).comes header-some along.few in
-          omega (arith, here, last, along.segment)
+          omega (arith, here, last, along.segment, along.count)
     ];
     looked = looked_more along.looked looked;
   }
 
   -- the next one was read
-  pub Along-next : (to : ℕ) (after : List ℕ) (new : Disk) → ReadsNext index to block after now new → Along index n to (k + 1) (behind ++ m ∷ []) after old new
+  pub Along-next : (to : ℕ) (after : List ℕ) (new : Disk) → ReadsNext index to block after now new → AlongFrom in_hand index n to (k + 1) (behind ++ m ∷ []) after old new
   Along-next to after new reads = record {
     header = header;
     segment = reads.segment ∙ ap (λ (s : ℕ). s + 1) along.segment;
     few = omega (arith, reads.not_last, along.segment);
     reached = λ honest. Reached-next (table index old) n m k behind (along.reached honest) header-some along.few to (is_next honest);
+    reads = along.reads + 1;
+    count = omega (arith, along.count);
     looked = looked_more along.looked reads.looked;
   }
     where
       header : HoldsHeader index to after old
-      header = holds-stays index old now (k + 1) along.looked to after reads.header
+      header = holds-stays index old now along.reads along.looked to after reads.header
 
       is_next : IsTrue old.honest → IsNext (table index old) m to
       is_next honest =
@@ -164,7 +270,7 @@ module _ (index : Index) (n m k : ℕ) (behind : List ℕ) (block : List ℕ) (o
           }
 
   -- its link is wrong
-  pub break-next : (new : Disk) → FindsWrongLink index block now new → FindsBreak index n old new
+  pub break-next : (new : Disk) → FindsWrongLink index block now new → FindsBreak index n in_hand old new
   break-next new finds = record {
     broken = λ honest whole. wrong honest (whole.links m (along.reached honest).of);
     looked = along-more new 0 (λ honest. finds.some_link) finds.looked;
@@ -172,13 +278,13 @@ module _ (index : Index) (n m k : ℕ) (behind : List ℕ) (block : List ℕ) (o
     where
       wrong : IsTrue old.honest → ¬ LinksRightly (table index old) m
       wrong honest =
-          let same : table index now ≡ table index old = table-stays index old now (k + 1) along.looked in
+          let same : table index now ≡ table index old = table-stays index old now along.reads along.looked in
           let none : (m : ℕ) → ¬ IsNextOf (table index old) block m =
-          subst (λ (t : Table). (m : ℕ) → ¬ IsNextOf t block m) same (finds.wrong (honest-stays index old now (k + 1) along.looked honest)) in
+          subst (λ (t : Table). (m : ℕ) → ¬ IsNextOf t block m) same (finds.wrong (honest-stays index old now along.reads along.looked honest)) in
           wrong-link (table index old) m block (block-is honest) finds.some_link none
 
   -- it couldn't be read
-  pub failed-next : (new : Disk) → FailsToReadNext block now new → LooksAlong index n old new 1
+  pub failed-next : (new : Disk) → FailsToReadNext block now new → FailsAlong index n in_hand old new
   failed-next new fails = along-more new 1 (λ honest. fails.some_link) fails.looked
 
   -- the blocks named up to this header
@@ -200,12 +306,13 @@ module _ (index : Index) (n m k : ℕ) (behind : List ℕ) (block : List ℕ) (o
 
   -- and the file's headers and blocks were counted
   pub reads-last : (blocks here : ℕ) (after : List ℕ) (new : Disk) → (IsTrue old.honest → blocks ≡ length (blocks_by (table index old) behind)) → here ≡ length (blocks_named block)
-      → FindsLast block after now new → ReadsLast index n (record { number = m; headers = k + 1; blocks = blocks + here }) after old new
-  reads-last blocks here after new so_far is finds = rw (finds.block_stays, finds.disk_stays) (record {
+      → blocks ≤ 32512 * k → here ≤ 32512 → FindsLast block after now new → ReadsLast index n in_hand (record { number = m; headers = k + 1; blocks = blocks + here }) after old new
+  reads-last blocks here after new so_far is fewer few finds = rw (finds.block_stays, finds.disk_stays) (record {
     header = along.header;
     no_link = finds.no_link;
     segment = ap (λ (s : ℕ). s + 1) (sym along.segment);
     few = omega (arith, along.few);
+    few_blocks = omega (arith, fewer, few);
     is_last = ends-file finds.no_link;
     whole = λ honest. last-whole (table index old) n m (ends-file finds.no_link honest);
     headers_are = λ honest.
@@ -218,56 +325,33 @@ module _ (index : Index) (n m k : ℕ) (behind : List ℕ) (block : List ℕ) (o
         let named = ap (λ (b : List ℕ). length (blocks_named b)) (block-is honest) in
         omega (arith, all, named, is, so_far honest);
     looked = along-looked;
+    no_further = omega (arith, along.count);
   })
 
   -- it names the block
-  pub block-located : (vbn left lbn : ℕ) → (IsTrue old.honest → vbn ≡ length (blocks_by (table index old) behind) + left + 1) → Some lbn ≡ slice_get (blocks_named block) left
-      → IsTrue old.honest → block_by_vbn (table index old) n vbn ≡ Some lbn
-  block-located vbn left lbn behind-is is honest =
-      let t : Table = table index old in
-      let front : List ℕ = blocks_by t behind in
-      let here : List ℕ = blocks_named (t.header m) in
-      let rest : List ℕ = blocks_by t (headers_from (255 - k) t (link_number t m)) in
-      let place : vbn - 1 ≡ length front + left = omega (arith, behind-is honest) in
-      let named : slice_get here left ≡ Some lbn = ap (λ (b : List ℕ). slice_get (blocks_named b) left) (sym (block-is honest)) ∙ sym is in
-      ap (λ (bs : List ℕ). slice_get bs (vbn - 1)) (blocks-split t n m k behind (along.reached honest) header-some along.few)
-      ∙ ap (slice_get (front ++ (here ++ rest))) place
-      ∙ slice_get-append_back front (here ++ rest) (length front + left) (length front) refl (omega arith)
-      ∙ ap (slice_get (here ++ rest)) (omega arith)
-      ∙ slice_get-append_front here rest left lbn named
-
-  pub locates : (vbn left lbn : ℕ) → (IsTrue old.honest → vbn ≡ length (blocks_by (table index old) behind) + left + 1) → Some lbn ≡ slice_get (blocks_named block) left
-      → lbn < length now.image → Locates index n vbn lbn old now
-  locates vbn left lbn behind-is is within = record {
-    header = m;
+  pub seeks : (at left segment : ℕ) → (IsTrue old.honest → at ≡ length (blocks_by (table index old) behind) + left) → left < length (blocks_named block) → segment ≡ segment_number block
+      → Seeks index n in_hand at (record { number = m; segment = segment; left = left }) block old now
+  seeks at left segment behind-is within is = record {
+    header = along.header;
+    segment = is;
+    left_within = within;
     of_file = λ honest. (along.reached honest).of;
-    named = λ honest.
-        let here : List ℕ = blocks_named ((table index old).header m) in
-        let at : slice_get here left ≡ Some lbn = ap (λ (b : List ℕ). slice_get (blocks_named b) left) (sym (block-is honest)) ∙ sym is in
-        (left, slice_get_within here left lbn at, get_or_from_slice_get here left lbn lbn at);
-    block_is = block-located vbn left lbn behind-is is;
-    within = rw (ap (λ (i : Image). length i) along.looked.image) at within;
+    at_is = λ honest. let before = blocks-behind (table index old) n m k behind (along.reached honest) in omega (arith, before, behind-is honest);
+    block_is = λ honest.
+        let t : Table = table index old in
+        let here : List ℕ = blocks_named (t.header m) in
+        let same : blocks_named block ≡ here = ap blocks_named (block-is honest) in
+        ap (slice_get (file_blocks t n)) (behind-is honest)
+        ∙ block-behind t n m k behind (along.reached honest) header-some along.few left (subst (λ (bs : List ℕ). left < length bs) same within)
+        ∙ ap (λ (bs : List ℕ). slice_get bs left) (sym same);
     looked = along-looked;
-    no_further = λ honest. let segment = (along.reached honest).segment in omega (arith, segment);
-  }
-
-  -- but it isn't on the device
-  pub damage-outside : (vbn left lbn : ℕ) → (IsTrue old.honest → vbn ≡ length (blocks_by (table index old) behind) + left + 1) → Some lbn ≡ slice_get (blocks_named block) left
-      → length now.image ≤ lbn → FindsDamage index n old now
-  damage-outside vbn left lbn behind-is is past = record {
-    damaged = λ honest sound.
-        let at : slice_get (file_blocks (table index old) n) (vbn - 1) ≡ Some lbn = block-located vbn left lbn behind-is is honest in
-        let within = sound.within (vbn - 1) 0 (slice_get_within _ _ _ at) in
-        let here = get_or_from_slice_get (file_blocks (table index old) n) (vbn - 1) lbn 0 at in
-        let size = ap (λ (i : Image). length i) along.looked.image in
-        absurd (omega (arith, within, here, past, size));
-    looked = along-looked;
+    no_further = omega (arith, is, along.segment, along.count);
   }
 
   -- it is the last, and names fewer blocks
-  pub finds-end : (vbn left : ℕ) (after : List ℕ) (new : Disk) → (IsTrue old.honest → vbn ≡ length (blocks_by (table index old) behind) + left + 1) → length (blocks_named block) ≤ left
-      → FindsLast block after now new → FindsEnd index n vbn old new
-  finds-end vbn left after new behind-is few finds = rw finds.disk_stays (record {
+  pub finds-end : (at left : ℕ) (after : List ℕ) (new : Disk) → (IsTrue old.honest → at ≡ length (blocks_by (table index old) behind) + left) → length (blocks_named block) ≤ left
+      → FindsLast block after now new → FindsEnd index n in_hand (at + 1) old new
+  finds-end at left after new behind-is few finds = rw finds.disk_stays (record {
     whole = λ honest. last-whole (table index old) n m (ends-file finds.no_link honest);
     fewer = λ honest.
         let t : Table = table index old in

@@ -1,12 +1,17 @@
 -- The headers of a file were gone along.
-use Rattle.std.proofs.Common.{◌≡◌, ℕ, ◌+◌, ◌-◌, ◌<◌, List, [], ◌∷◌, ◌++◌, ap, ◌∙◌, append_assoc}
+use Rattle.std.proofs.Common.{◌≡◌, ℕ, ◌+◌, ◌-◌, ◌<◌, List, [], ◌∷◌, ◌++◌, length, take, get_or, refl, sym, ap, ◌∙◌, arith, append_assoc}
+use Rattle.std.specs.List.{slice_get}
+use Rattle.std.proofs.Math.Seq.{take-append_seam}
 use Rattle.std.proofs.lemmas.List.{append-nil}
+use Rattle.std.proofs.lemmas.Option.{slice_get-get_or}
 use Rattle.std.proofs.lemmas.Grind.{flat_map-append}
+use Rattle.f11_map.proofs.MapLemmas.{slice_get-append_back}
 use Rattle.f11_index.specs.HeaderBlock.{segment_number, blocks_named}
-use Rattle.f11_index.specs.Headers.{headers_from}
+use Rattle.f11_index.specs.Headers.{headers_from, headers_of}
 use Rattle.f11_index.specs.Table.{Table, IsFile, IsNext, IsHeaderOf, first, next}
 use Rattle.f11_index.proofs.HeadersLemmas.{link_number, Comes, Comes-first, Comes-next, Comes-split, Comes-last}
-use Rattle.f11_chain.specs.FileHeaders.{blocks_by, file_blocks}
+use Rattle.f11_index.proofs.PlaceLemmas.{slice_get-append_front}
+use Rattle.f11_chain.specs.FileHeaders.{blocks_by, file_blocks, blocks_before}
 
 -- Header m is that of segment k of file n, behind these, and each of those links rightly.
 pub record Reached (t : Table) (n m k : ℕ) (behind : List ℕ) : Type 0 where
@@ -45,3 +50,23 @@ module _ (t : Table) (n m k : ℕ) (behind : List ℕ) (at : Reached t n m k beh
       let here : blocks_by t (m ∷ []) ≡ blocks_named (t.header m) = append-nil (blocks_named (t.header m)) in
       ap (blocks_by t) (Comes-last t n m k behind at.comes some few none)
       ∙ flat_map-append named behind (m ∷ []) ∙ ap (λ (b : List ℕ). blocks_by t behind ++ b) here
+
+  -- the block at a place among its own, among the file's
+  pub block-behind : (left : ℕ) → left < length (blocks_named (t.header m)) → slice_get (file_blocks t n) (length (blocks_by t behind) + left) ≡ slice_get (blocks_named (t.header m)) left
+  block-behind left within =
+      let front : List ℕ = blocks_by t behind in
+      let here : List ℕ = blocks_named (t.header m) in
+      let rest : List ℕ = blocks_by t (headers_from (255 - k) t (link_number t m)) in
+      let named = slice_get-get_or here left 0 within in
+      ap (λ (bs : List ℕ). slice_get bs (length front + left)) blocks-split
+      ∙ slice_get-append_back front (here ++ rest) (length front + left) (length front) refl (omega arith)
+      ∙ ap (slice_get (here ++ rest)) (omega arith)
+      ∙ slice_get-append_front here rest left (get_or here left 0) named ∙ sym named
+
+-- how many blocks the headers before it name
+pub blocks-behind : (t : Table) (n m k : ℕ) (behind : List ℕ) → Reached t n m k behind → blocks_before t n m ≡ length (blocks_by t behind)
+blocks-behind t n m k behind at =
+    let rest : List ℕ = headers_from (256 - k) t m in
+    let taken : take (segment_number (t.header m)) (headers_of t n) ≡ behind =
+    ap (take (segment_number (t.header m))) at.comes.list ∙ ap (λ (c : ℕ). take c (behind ++ rest)) (at.segment ∙ sym at.comes.count) ∙ take-append_seam behind rest in
+    ap (λ (hs : List ℕ). length (blocks_by t hs)) taken

@@ -1,5 +1,6 @@
 -- What each call along a file's headers does, by its outcome. The headers are those of an index file that was loaded.
-use Rattle.std.specs.Prelude.{◌≡◌, ◌≢◌, ℕ, ◌+◌, ◌-◌, ◌<◌, ◌≤◌, min, Bool, true, false, IsTrue, List, length, Contains, Some}
+use Rattle.std.specs.Prelude.{◌≡◌, ◌≢◌, ℕ, ◌+◌, ◌-◌, ◌*◌, ◌<◌, ◌≤◌, min, Bool, true, false, IsTrue, List, length, Contains, Some}
+use Rattle.std.specs.List.{slice_get}
 use Rattle.f11_dev.specs.Disk.{Disk}
 use Rattle.f11_dev.specs.Looked.{Looked}
 use Rattle.f11_header.specs.Fields.{file_sequence}
@@ -8,8 +9,9 @@ use Rattle.f11_index.specs.HeaderBlock.{segment_number, link_of, blocks_named}
 use Rattle.f11_index.specs.Headers.{headers_of, IsLastOf}
 use Rattle.f11_index.specs.IndexFile.{Index, is_in_use}
 use Rattle.f11_index.specs.Table.{Table, table_in, IsLive, IsFile, IsHeaderOf, IsWholeFile}
-use Rattle.f11_chain.specs.FileHeaders.{file_blocks, block_by_vbn, IsSoundFile}
+use Rattle.f11_chain.specs.FileHeaders.{file_blocks, blocks_before, block_by_vbn, IsSoundFile}
 use Rattle.f11_chain.specs.declared.blocks.FileEnd.{FileEnd}
+use Rattle.f11_chain.specs.declared.blocks.Place.{Place}
 
 -- the headers that a disk has by this index
 abbrev pub table : Index → Disk → Table
@@ -75,11 +77,16 @@ pub record FailsToReadNext (before : List ℕ) (old new : Disk) : Type 0 where
   pub some_link : (link_of before).number ≢ 0
   pub looked : Looked old new (next_reads before) 1
 
--- Headers of file n were read, each once at most; so many transfers failed.
-pub record LooksAlong (index : Index) (n : ℕ) (old new : Disk) (faults : ℕ) : Type 0 where
+-- The block holds the first header of file n.
+pub record HoldsFirst (index : Index) (n : ℕ) (block : List ℕ) (disk : Disk) : Type 0 where
+  pub header : HoldsHeader index n block disk
+  pub first : segment_number block ≡ 0
+
+-- Headers of file n were read beside those in hand, 0 or 1 of them, each once at most; so many transfers failed.
+pub record LooksAlong (index : Index) (n in_hand : ℕ) (old new : Disk) (faults : ℕ) : Type 0 where
   pub headers : ℕ
-  pub few : headers ≤ 256
-  pub each_once : IsTrue old.honest → headers ≤ length (headers_of (table index old) n)
+  pub few : headers + in_hand ≤ 256
+  pub each_once : IsTrue old.honest → headers + in_hand ≤ length (headers_of (table index old) n)
   pub looked : Looked old new headers faults
 
 -- Block `vbn` of file n was found, which a header of the file names: that header was read, and those before it.
@@ -89,37 +96,50 @@ pub record Locates (index : Index) (n vbn lbn : ℕ) (old new : Disk) : Type 0 w
   pub named : IsTrue old.honest → Contains (blocks_named ((table index old).header header)) lbn
   pub block_is : IsTrue old.honest → block_by_vbn (table index old) n vbn ≡ Some lbn
   pub within : lbn < length old.image
-  pub looked : LooksAlong index n old new 0
+  pub looked : LooksAlong index n 0 old new 0
   pub no_further : IsTrue old.honest → looked.headers ≤ segment_number ((table index old).header header) + 1
 
+-- The header of file n that names block number `at` of the file, from 0, is in hand; no header was read behind it.
+pub record Seeks (index : Index) (n in_hand at : ℕ) (place : Place) (block : List ℕ) (old new : Disk) : Type 0 where
+  pub header : HoldsHeader index place.number block old
+  pub segment : place.segment ≡ segment_number block
+  pub left_within : place.left < length (blocks_named block)
+  pub of_file : IsTrue old.honest → IsHeaderOf (table index old) n place.number
+  pub at_is : IsTrue old.honest → at ≡ blocks_before (table index old) n place.number + place.left
+  pub block_is : IsTrue old.honest → slice_get (file_blocks (table index old) n) at ≡ slice_get (blocks_named block) place.left
+  pub looked : LooksAlong index n in_hand old new 0
+  pub no_further : looked.headers + in_hand ≤ place.segment + 1
+
 -- File n is whole and has fewer blocks.
-pub record FindsEnd (index : Index) (n vbn : ℕ) (old new : Disk) : Type 0 where
+pub record FindsEnd (index : Index) (n in_hand vbn : ℕ) (old new : Disk) : Type 0 where
   pub whole : IsTrue old.honest → IsWholeFile (table index old) n
   pub fewer : IsTrue old.honest → length (file_blocks (table index old) n) < vbn
-  pub looked : LooksAlong index n old new 0
+  pub looked : LooksAlong index n in_hand old new 0
 
 -- File n isn't whole.
-pub record FindsBreak (index : Index) (n : ℕ) (old new : Disk) : Type 0 where
+pub record FindsBreak (index : Index) (n in_hand : ℕ) (old new : Disk) : Type 0 where
   pub broken : IsTrue old.honest → ¬ IsWholeFile (table index old) n
-  pub looked : LooksAlong index n old new 0
+  pub looked : LooksAlong index n in_hand old new 0
 
 -- File n isn't whole, or has a block off the device.
 pub record FindsDamage (index : Index) (n : ℕ) (old new : Disk) : Type 0 where
   pub damaged : IsTrue old.honest → ¬ IsSoundFile (table index old) n (length old.image)
-  pub looked : LooksAlong index n old new 0
+  pub looked : LooksAlong index n 0 old new 0
 
--- The last header of file n was read, and the file's headers and blocks were counted.
-pub record ReadsLast (index : Index) (n : ℕ) (last : FileEnd) (block : List ℕ) (old new : Disk) : Type 0 where
+-- The last header of file n is in hand, and the file's headers and blocks were counted; no header was read behind the last.
+pub record ReadsLast (index : Index) (n in_hand : ℕ) (last : FileEnd) (block : List ℕ) (old new : Disk) : Type 0 where
   pub header : HoldsHeader index last.number block old
   pub no_link : (link_of block).number ≡ 0
   pub segment : last.headers ≡ segment_number block + 1
   pub few : last.headers ≤ 256
+  pub few_blocks : last.blocks ≤ 32512 * last.headers
   pub is_last : IsTrue old.honest → IsLastOf (table index old) n last.number
   pub whole : IsTrue old.honest → IsWholeFile (table index old) n
   pub headers_are : IsTrue old.honest → last.headers ≡ length (headers_of (table index old) n)
   pub blocks_are : IsTrue old.honest → last.blocks ≡ length (file_blocks (table index old) n)
-  pub looked : LooksAlong index n old new 0
+  pub looked : LooksAlong index n in_hand old new 0
+  pub no_further : looked.headers + in_hand ≤ last.headers
 
 -- A transfer failed.
-abbrev pub FailsAlong : Index → ℕ → Disk → Disk → Type 0
-FailsAlong index n old new = LooksAlong index n old new 1
+abbrev pub FailsAlong : Index → ℕ → ℕ → Disk → Disk → Type 0
+FailsAlong index n in_hand old new = LooksAlong index n in_hand old new 1

@@ -1,7 +1,7 @@
 -- The blocks of a file laid end to end (Files-11 On-Disk Structure Level 1, "File Header" and "Map Area").
-use Rattle.std.specs.Prelude.{ℕ, ◌-◌, ◌<◌, List, flat_map, Option, All}
+use Rattle.std.specs.Prelude.{ℕ, ◌-◌, ◌<◌, List, length, take, flat_map, Option, All}
 use Rattle.std.specs.List.{slice_get}
-use Rattle.f11_index.specs.HeaderBlock.{blocks_named}
+use Rattle.f11_index.specs.HeaderBlock.{segment_number, blocks_named}
 use Rattle.f11_index.specs.Headers.{headers_of}
 use Rattle.f11_index.specs.Table.{Table, IsWholeFile}
 
@@ -12,6 +12,10 @@ blocks_by t headers = flat_map (λ n. blocks_named (t.header n)) headers
 -- the LBNs of the blocks of file f, from VBN 1 on
 unfoldable pub file_blocks : Table → ℕ → List ℕ
 file_blocks t f = blocks_by t (headers_of t f)
+
+-- how many blocks the headers of file f before header n name
+abbrev pub blocks_before : Table → ℕ → ℕ → ℕ
+blocks_before t f n = length (blocks_by t (take (segment_number (t.header n)) (headers_of t f)))
 
 -- the LBN of block `vbn` of file f, from 1, where the file has so many
 abbrev pub block_by_vbn : Table → ℕ → ℕ → Option ℕ

@@ -1,11 +1,11 @@
 //! A file's blocks by virtual block number (VBN), and its last header.
-ghost use Rattle.std.specs.Prelude.{◌≡◌, ◌<◌, ◌≤◌, length, IfOk, IsErrOf};
-ghost use Rattle.f11_chain.specs.Calls.{Locates, FindsEnd, FindsDamage, FindsBreak, FailsAlong, ReadsLast};
+ghost use Rattle.std.specs.Prelude.{◌≡◌, ◌<◌, ◌≤◌, ◌+◌, length, IfOk, IsErrOf};
+ghost use Rattle.f11_chain.specs.Calls.{HoldsFirst, Locates, Seeks, FindsEnd, FindsDamage, FindsBreak, FailsAlong, ReadsLast};
 ghost use Rattle.f11_index.specs.IndexFile.{slots};
 ghost use Rattle.f11_index.specs.Kept.{index_kept, LiesWithin};
 
 use crate::fault::ChainFault;
-use crate::header::{lbn_of, len_blocks};
+use crate::header::{lbn_of, len_blocks, segment};
 use crate::step::{first, next};
 use f11_bytes::{BLOCK_SIZE, Block};
 use f11_dev::Device;
@@ -33,27 +33,76 @@ pub fn locate<D: Device>(
     ensures locates { IfOk result (λ lbn.
         Locates (index_kept index.now) n vbn lbn (D.disk device.old) (D.disk device.new)) }
     ensures end { IsErrOf result ChainFault.EndOfFile
-        → FindsEnd (index_kept index.now) n vbn (D.disk device.old) (D.disk device.new) }
+        → FindsEnd (index_kept index.now) n 0 vbn (D.disk device.old) (D.disk device.new) }
     ensures damaged { IsErrOf result ChainFault.Damaged
         → FindsDamage (index_kept index.now) n (D.disk device.old) (D.disk device.new) }
     ensures failed { IsErrOf result ChainFault.DeviceFault
-        → FailsAlong (index_kept index.now) n (D.disk device.old) (D.disk device.new) }
+        → FailsAlong (index_kept index.now) n 0 (D.disk device.old) (D.disk device.new) }
 {
     let mut block = [0; BLOCK_SIZE];
-    let mut left = vbn - 1;
     first(device, index, n, &mut block)?;
+    let place = seek(device, index, n, vbn - 1, &mut block)?;
+    let Some(lbn) = lbn_of(&block, place.left) else {
+        return Err(ChainFault::Damaged);
+    };
+    if lbn < device.blocks() {
+        Ok(lbn)
+    } else {
+        Err(ChainFault::Damaged)
+    }
+}
+
+/// Where a block of a file is named.
+#[derive(Clone, Copy, Debug, PartialEq, Eq)]
+pub struct Place {
+    /// The number of the header that names it.
+    pub number: u16,
+    /// That header's segment number: so many headers of the file are before it.
+    pub segment: u8,
+    /// Which of the blocks that it names it is, from 0.
+    pub left: u32,
+}
+
+/// Goes from the first header of file `n`, which the block holds, to the one that names block number `at` of the file, from 0: that
+/// header is in the block then. It reads the headers behind the first up to that one, each once.
+///
+/// # Errors
+///
+/// `EndOfFile` where the file has no more than `at` blocks; `Damaged` where one of its headers or links isn't as it should be;
+/// `DeviceFault` where a transfer failed. What the block holds then is open.
+pub fn seek<D: Device>(
+    device: &mut D,
+    index: &IndexFile,
+    n: u16,
+    at: u32,
+    block: &mut Block,
+) -> Result<Place, ChainFault>
+    requires first { HoldsFirst (index_kept index.now) n block.old (D.disk device.old) }
+    requires within { LiesWithin (index_kept index.now) (length (D.disk device.old).image) }
+    ensures seeks { IfOk result (λ place. Seeks (index_kept index.now) n 1 at place block.new
+        (D.disk device.old) (D.disk device.new)) }
+    ensures end { IsErrOf result ChainFault.EndOfFile
+        → FindsEnd (index_kept index.now) n 1 (at + 1) (D.disk device.old) (D.disk device.new) }
+    ensures damaged { IsErrOf result ChainFault.Damaged
+        → FindsBreak (index_kept index.now) n 1 (D.disk device.old) (D.disk device.new) }
+    ensures failed { IsErrOf result ChainFault.DeviceFault
+        → FailsAlong (index_kept index.now) n 1 (D.disk device.old) (D.disk device.new) }
+{
+    let (mut number, mut left) = (n, at);
     for _ in 0..MOST_HEADERS {
-        if let Some(lbn) = lbn_of(&block, left) {
-            return if lbn < device.blocks() {
-                Ok(lbn)
-            } else {
-                Err(ChainFault::Damaged)
-            };
+        let named = len_blocks(block);
+        if left < named {
+            return Ok(Place {
+                number,
+                segment: segment(block),
+                left,
+            });
         }
-        left -= len_blocks(&block);
-        let Some(_) = next(device, index, &mut block)? else {
+        left -= named;
+        let Some(to) = next(device, index, block)? else {
             return Err(ChainFault::EndOfFile);
         };
+        number = to;
     }
     Err(ChainFault::Damaged)
 }
@@ -84,16 +133,41 @@ pub fn last<D: Device>(
 ) -> Result<FileEnd, ChainFault>
     requires slot { (0 < n) × (n ≤ slots (index_kept index.now)) }
     requires within { LiesWithin (index_kept index.now) (length (D.disk device.old).image) }
-    ensures reads { IfOk result (λ last. ReadsLast (index_kept index.now) n last block.new
+    ensures reads { IfOk result (λ last. ReadsLast (index_kept index.now) n 0 last block.new
         (D.disk device.old) (D.disk device.new)) }
     ensures damaged { IsErrOf result ChainFault.Damaged
-        → FindsBreak (index_kept index.now) n (D.disk device.old) (D.disk device.new) }
+        → FindsBreak (index_kept index.now) n 0 (D.disk device.old) (D.disk device.new) }
     ensures failed { IsErrOf result ChainFault.DeviceFault
-        → FailsAlong (index_kept index.now) n (D.disk device.old) (D.disk device.new) }
+        → FailsAlong (index_kept index.now) n 0 (D.disk device.old) (D.disk device.new) }
+    ensures no_end { ¬ IsErrOf result ChainFault.EndOfFile }
+{
+    first(device, index, n, block)?;
+    last_from(device, index, n, block)
+}
+
+/// Goes from the first header of file `n`, which the block holds, to its last one, as [`last`] does: it reads the headers behind the
+/// first, each once.
+///
+/// # Errors
+///
+/// As those of [`last`].
+pub fn last_from<D: Device>(
+    device: &mut D,
+    index: &IndexFile,
+    n: u16,
+    block: &mut Block,
+) -> Result<FileEnd, ChainFault>
+    requires first { HoldsFirst (index_kept index.now) n block.old (D.disk device.old) }
+    requires within { LiesWithin (index_kept index.now) (length (D.disk device.old).image) }
+    ensures reads { IfOk result (λ last. ReadsLast (index_kept index.now) n 1 last block.new
+        (D.disk device.old) (D.disk device.new)) }
+    ensures damaged { IsErrOf result ChainFault.Damaged
+        → FindsBreak (index_kept index.now) n 1 (D.disk device.old) (D.disk device.new) }
+    ensures failed { IsErrOf result ChainFault.DeviceFault
+        → FailsAlong (index_kept index.now) n 1 (D.disk device.old) (D.disk device.new) }
     ensures no_end { ¬ IsErrOf result ChainFault.EndOfFile }
 {
     let (mut number, mut blocks) = (n, 0);
-    first(device, index, n, block)?;
     for earlier in 0..MOST_HEADERS {
         blocks += len_blocks(block);
         let Some(m) = next(device, index, block)? else {

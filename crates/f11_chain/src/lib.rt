@@ -11,6 +11,6 @@ mod header;
 pub mod laws;
 mod step;
 
-pub use blocks::{FileEnd, last, locate};
+pub use blocks::{FileEnd, Place, last, last_from, locate, seek};
 pub use fault::ChainFault;
 pub use step::{first, next};

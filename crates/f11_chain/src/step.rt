@@ -1,6 +1,6 @@
 //! One header of a file, and the next.
 ghost use Rattle.std.specs.Prelude.{◌≡◌, ◌<◌, ◌≤◌, length, IsTrue, IfOk, IfSome, IfNone, IsOk, IsErrOf, OnOk, OnErr};
-ghost use Rattle.f11_chain.specs.Calls.{ReadsHeader, ReadsFirst, FindsNoFile, ReadsNext, FindsLast, FindsWrongLink, FailsToReadNext};
+ghost use Rattle.f11_chain.specs.Calls.{HoldsFirst, ReadsHeader, ReadsFirst, FindsNoFile, ReadsNext, FindsLast, FindsWrongLink, FailsToReadNext};
 ghost use Rattle.f11_dev.specs.Looked.{Looked};
 ghost use Rattle.f11_header.specs.Header.{holds_header};
 ghost use Rattle.f11_index.specs.IndexFile.{slots};
@@ -32,6 +32,7 @@ pub fn first<D: Device>(
     requires within { LiesWithin (index_kept index.now) (length (D.disk device.old).image) }
     ensures reads { OnOk result (ReadsFirst (index_kept index.now) n block.new
         (D.disk device.old) (D.disk device.new)) }
+    ensures in_hand { OnOk result (HoldsFirst (index_kept index.now) n block.new (D.disk device.new)) }
     ensures damaged { IsErrOf result ChainFault.Damaged
         → FindsNoFile (index_kept index.now) n (D.disk device.old) (D.disk device.new) }
     ensures failed { IsErrOf result ChainFault.DeviceFault

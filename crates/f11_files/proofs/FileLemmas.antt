@@ -20,7 +20,7 @@ use Rattle.f11_index.proofs.HeadersLemmas.{Comes, Comes-header, Comes-last, Come
 use Rattle.f11_index.proofs.PlaceLemmas.{slice_get-append_front}
 use Rattle.f11_map.proofs.MapLemmas.{slice_get-append_back}
 use Rattle.f11_index.proofs.UpLemmas.{header-up}
-use Rattle.f11_chain.specs.FileHeaders.{file_blocks}
+use Rattle.f11_chain.specs.FileHeaders.{file_blocks, blocks_before}
 use Rattle.f11_chain.specs.Laws.{HasMore, HasHeaderMore}
 use Rattle.f11_chain.proofs.ChangeLemmas.{has-more, has-header, ends-with, is-cut}
 use Rattle.f11_store.specs.Changes.{with_change, with_file}
@@ -30,7 +30,7 @@ use Rattle.f11_vfy.proofs.FileLemmas.{image-files, reached-are, file-blocks-are}
 use Rattle.f11_vfy.specs.Sound.{HasSoundVolume}
 use Rattle.f11_writes.specs.Kept.{file_in, WritesHeader}
 use Rattle.f11_writes.proofs.OtherSlotLemmas.{stay-before, stay-up-to}
-use Rattle.f11_files.specs.FileLaws.{SaysAlike, MayStand, NamesMoreOf, LinksOnTo, EndsThere, with_more_blocks, with_header_more, with_first_headers, held_from, blocks_before, pointers_before, pointers_in, room_in}
+use Rattle.f11_files.specs.FileLaws.{SaysAlike, MayStand, NamesMoreOf, LinksOnTo, EndsThere, with_more_blocks, with_header_more, with_first_headers, held_from, pointers_before, pointers_in, room_in}
 use Rattle.f11_files.specs.StoreOf.{store_of}
 use Rattle.f11_files.proofs.StoreLemmas.{file-at, seen-own}
 use Rattle.f11_files.proofs.InstanceLemmas.{file-rewritten}

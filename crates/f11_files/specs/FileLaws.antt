@@ -10,7 +10,7 @@ use Rattle.f11_index.specs.Growth.{IsGoodFor}
 use Rattle.f11_index.specs.HeaderBlock.{segment_number, link_of, blocks_named}
 use Rattle.f11_index.specs.Headers.{headers_of}
 use Rattle.f11_index.specs.Table.{Table, table_of, IsLive, IsHeaderOf}
-use Rattle.f11_chain.specs.FileHeaders.{blocks_by}
+use Rattle.f11_chain.specs.FileHeaders.{blocks_before}
 use Rattle.f11_store.specs.Changes.{with_change}
 use Rattle.f11_store.specs.File.{File}
 use Rattle.f11_vfy.specs.Contents.{block_or_zeros, pointer_count}
@@ -88,11 +88,7 @@ with_header_more image t m f = record f {
 abbrev pub with_first_headers : ℕ → ℕ → ℕ → ℕ → File → File
 with_first_headers headers pointers room blocks f = record f { held = take headers f.held; pointers = pointers; room = room; blocks = take blocks f.blocks }
 
--- how many blocks the headers of file f before header n name
-abbrev pub blocks_before : Table → ℕ → ℕ → ℕ
-blocks_before t f n = length (blocks_by t (take (segment_number (t.header n)) (headers_of t f)))
-
--- how many pointers they have
+-- how many pointers the headers of file f before header n have
 abbrev pub pointers_before : Table → ℕ → ℕ → ℕ
 pointers_before t f n = sum_by (pointer_count t) (take (segment_number (t.header n)) (headers_of t f))
 

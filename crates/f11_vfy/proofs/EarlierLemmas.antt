@@ -193,10 +193,10 @@ module _ (index : Index) (n m k : ℕ) (behind : List ℕ) (block : List ℕ) (o
 
   no-next : (new : Disk) → FindsWrongLink index block now new → IsTrue old.honest → (to : ℕ) → ¬ IsNext (table index old) m to
   no-next new finds honest to next =
-      let same : table index now ≡ table index old = table-stays index old now (k + 1) along.looked in
+      let same : table index now ≡ table index old = table-stays index old now along.reads along.looked in
       let here : block ≡ (table index old).header m = block-is index n m k behind block old now along honest in
       let none : (x : ℕ) → ¬ IsNextOf (table index old) block x =
-      subst (λ (t : Table). (x : ℕ) → ¬ IsNextOf t block x) same (finds.wrong (honest-stays index old now (k + 1) along.looked honest)) in
+      subst (λ (t : Table). (x : ℕ) → ¬ IsNextOf t block x) same (finds.wrong (honest-stays index old now along.reads along.looked honest)) in
       none to record {
         to = next.to;
         number = ap (λ (b : List ℕ). (link_of b).number) here ∙ next.number;

@@ -163,7 +163,7 @@ module _ (index : Index) (m k : ℕ) (behind : List ℕ) (block : List ℕ) (old
       let break = break-next index 2 m k behind block old now along new finds in
       record {
         not = λ honest sound. break.broken honest sound.whole;
-        looked = looked_within break.looked.looked break.looked.few;
+        looked = looked_within break.looked.looked (omega (arith, break.looked.few));
       }
 
   -- it is the last
