@@ -1,3 +1,8 @@
+pub mod OpenLemmas
+pub mod FilesLemmas
+pub mod AnswerLemmas
+pub mod FirstLemmas
+pub mod NamedLemmas
 pub mod StoreLemmas
 pub mod SlotLemmas
 pub mod InstanceLemmas

@@ -2,3 +2,9 @@ pub mod StoreOf
 pub mod StoreLaws
 pub mod SlotLaws
 pub mod FileLaws
+pub mod Structure
+pub mod Open
+pub mod Answers
+pub mod First
+pub mod Operations
+pub mod Calls

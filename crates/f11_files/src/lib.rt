@@ -5,4 +5,11 @@
 //! stands on [`f11_vfy`], which says when an image is sound, and on `f11_writes`, which says what each kind of write leaves of it.
 #![tactic(auto)]
 
+mod answer;
+mod attributes;
+mod files;
+mod first;
 pub mod laws;
+mod structure;
+
+pub use files::Files;

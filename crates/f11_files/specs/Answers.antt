@@ -1,0 +1,74 @@
+-- What the answer of a call on files tells, whatever the call (profile).
+use Rattle.std.specs.Prelude.{◌≡◌, ◌≢◌, ℕ, ◌≤◌, ◌==◌, ◌&&◌, Bool, true, false, nat_lt, IsTrue, if◌then◌else◌, List, Some, Result, Ok, Err}
+use Rattle.f11_dev.specs.Disk.{Disk}
+use Rattle.f11_dev.specs.Image.{Image}
+use Rattle.f11_dev.specs.Looked.{Looked}
+use Rattle.f11_dev.specs.Went.{Went}
+use Rattle.f11_home.specs.Home.{HomeFields}
+use Rattle.f11_store.specs.Causes.{Cause, first_of}
+use Rattle.f11_store.specs.Lags.{Work, LagsBy}
+use Rattle.f11_store.specs.Refusal.{refusal_number}
+use Rattle.f11_store.specs.declared.refusals.Refusal.{Refusal}
+use Rattle.f11_store.specs.declared.refusals.Refusal.TheVariants.{VolumeFailed, Damaged}
+use Rattle.f11_vfy.specs.Sound.{HasSoundVolume}
+use Rattle.f11_files.specs.StoreOf.{store_of}
+
+-- DeviceFault and Damaged fail the volume
+abbrev pub is_grave : Refusal → Bool
+is_grave refusal = nat_lt 18 (refusal_number refusal)
+
+-- a transfer failed
+abbrev pub is_fault : Refusal → Bool
+is_fault refusal = refusal_number refusal == 19
+
+-- a cause of the store was met: neither did an earlier call fail the volume, nor was there no memory
+abbrev pub is_cause : Refusal → Bool
+is_cause refusal = nat_lt 1 (refusal_number refusal) && nat_lt (refusal_number refusal) 18
+
+-- what a test says of an answer's refusal, if it has one
+abbrev pub is_refused : {T : Type 0} → (Refusal → Bool) → Result T Refusal → Bool
+is_refused test (Ok x) = false
+is_refused test (Err refusal) = test refusal
+
+-- how many transfers failed where this is answered
+abbrev pub faults_of : Refusal → ℕ
+faults_of refusal = if is_fault refusal then 1 else 0
+
+-- Blocks were read: no more than so many where the disk is honest. So many transfers failed.
+pub record Reads (most : ℕ) (old new : Disk) (faults : ℕ) : Type 0 where
+  pub reads : ℕ
+  pub looked : Looked old new reads faults
+  pub few : IsTrue old.honest → reads ≤ most
+
+-- Blocks were read and written: no more than so many where the disk is honest. So many transfers failed.
+pub record Writes (P : Image → Type 0) (most : ℕ) (old new : Disk) (faults : ℕ) : Type 0 where
+  pub transfers : ℕ
+  pub went : Went P old new transfers faults
+  pub few : IsTrue old.honest → transfers ≤ most
+
+-- A refusal is right, where these are the causes against a call, on an honest disk or not, and an earlier call had failed the volume or
+-- hadn't: it is that of the first cause that holds, or the volume had failed, or a transfer did; and no honest disk is damaged.
+pub record IsRight (failed honest : Bool) (causes : List Cause) (refusal : Refusal) : Type 0 where
+  pub volume : refusal ≡ VolumeFailed → failed ≡ true
+  pub cause : IsTrue honest → is_cause refusal ≡ true → first_of causes ≡ Some refusal
+  pub undamaged : IsTrue honest → refusal ≢ Damaged
+
+-- A call that only reads was refused.
+pub record FailsToRead (failed : Bool) (causes : List Cause) (most : ℕ) (refusal : Refusal) (old new : Disk) : Type 0 where
+  pub right : IsRight failed old.honest causes refusal
+  pub reads : Reads most old new (faults_of refusal)
+
+-- An image that stands while work is done: its volume is sound, and its store lags the one before by the work.
+pub record IsUnderWay (work : Work) (home : HomeFields) (old image : Image) : Type 0 where
+  pub sound : HasSoundVolume image home
+  pub lags : LagsBy work (store_of image home) (store_of old home)
+
+-- that of an honest disk
+abbrev pub Meanwhile : Work → HomeFields → Disk → Image → Type 0
+Meanwhile work home old image = IsTrue old.honest → IsUnderWay work home old.image image
+
+-- A call that writes was refused: unless it failed the volume, no block was written.
+pub record FailsToWrite (failed : Bool) (causes : List Cause) (most : ℕ) (work : Work) (home : HomeFields) (refusal : Refusal) (old new : Disk) : Type 0 where
+  pub right : IsRight failed old.honest causes refusal
+  pub writes : Writes (Meanwhile work home old) most old new (faults_of refusal)
+  pub unchanged : is_grave refusal ≡ false → Reads most old new 0

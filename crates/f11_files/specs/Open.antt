@@ -1,0 +1,50 @@
+-- What contracts know of the files of an open volume.
+use Rattle.std.specs.Prelude.{◌≡◌, ℕ, ◌≤◌, ◌||◌, Bool, true, IsTrue, Result, IsErrOf}
+use Rattle.f11_dev.specs.Disk.{Disk}
+use Rattle.f11_dev.specs.declared.device.Device.{Ghosts}
+use Rattle.f11_home.specs.Home.{HomeFields}
+use Rattle.f11_store.specs.Store.{Store}
+use Rattle.f11_store.specs.declared.files.FileId.{FileId}
+use Rattle.f11_store.specs.declared.refusals.Refusal.{Refusal}
+use Rattle.f11_store.specs.declared.refusals.Refusal.TheVariants.{VolumeFailed}
+use Rattle.f11_files.specs.Answers.{is_grave, is_refused}
+use Rattle.f11_files.specs.StoreOf.{store_of}
+use Rattle.f11_files.specs.Structure.{home_of}
+use Rattle.f11_files.specs.declared.files.Files.{Files}
+
+-- the device
+abbrev pub device_in : {D : Type 0} {met : Ghosts D} → Files D met → D
+device_in files = files.device
+
+-- whether a call has answered DeviceFault or Damaged
+abbrev pub has_failed : {D : Type 0} {met : Ghosts D} → Files D met → Bool
+has_failed files = files.failed
+
+-- the home block
+abbrev pub home_in : {D : Type 0} {met : Ghosts D} → Files D met → HomeFields
+home_in files = home_of files.structure
+
+-- the disk
+abbrev pub disk_in : {D : Type 0} {met : Ghosts D} → Files D met → Disk
+disk_in {met = met} files = met.disk files.device
+
+-- the store of the image
+abbrev pub store_in : {D : Type 0} {met : Ghosts D} → Files D met → Store
+store_in files = store_of (disk_in files).image (home_in files)
+
+-- whether what is read is what is there
+abbrev pub is_honest : {D : Type 0} {met : Ghosts D} → Files D met → Type 0
+is_honest files = IsTrue (disk_in files).honest
+
+-- an identification of a file of this number or one above, on this volume
+pub record IsIdFrom (least : ℕ) (f : FileId) : Type 0 where
+  pub number : least ≤ f.number
+  pub volume : f.volume ≡ 0
+
+-- A call fails the volume where it answers DeviceFault or Damaged, and no other way; where an earlier one did, it answers VolumeFailed and
+-- makes no transfer.
+pub record Answers {D T : Type 0} {met : Ghosts D} (result : Result T Refusal) (old new : Files D met) : Type 0 where
+  pub failed : has_failed old ≡ true → IsErrOf result VolumeFailed
+  pub untouched : has_failed old ≡ true → disk_in new ≡ disk_in old
+  pub next : has_failed new ≡ (has_failed old || is_refused is_grave result)
+  pub home : home_in new ≡ home_in old

@@ -1,0 +1,59 @@
+-- What is kept of an open volume, and when it is that of a disk.
+use Rattle.std.specs.Prelude.{◌≡◌, ℕ, ◌≤◌, Bool, false, IsTrue, length}
+use Rattle.f11_bits.specs.Bitmap.{Bitmap, free_blocks, LiesWithin as BitmapLiesWithin}
+use Rattle.f11_bits.specs.Storage.{bitmap_of}
+use Rattle.f11_bits.specs.Storage as storage
+use Rattle.f11_dev.specs.Disk.{Disk}
+use Rattle.f11_dev.specs.Image.{Image}
+use Rattle.f11_home.specs.Home.{HomeFields, IsHomeOf}
+use Rattle.f11_index.specs.IndexFile.{Index, index_of}
+use Rattle.f11_index.specs.Kept.{index_kept, LiesWithin}
+use Rattle.f11_store.specs.Store.{Store}
+use Rattle.f11_vfy.specs.Sound.{HasSoundVolume}
+use Rattle.f11_vfy.specs.Space.{storage_bitmap}
+use Rattle.f11_files.specs.StoreOf.{store_of}
+use Rattle.f11_files.specs.declared.structure.Structure.{Structure}
+
+-- the home block, the index file and the storage bitmap that are kept
+abbrev pub home_of : Structure → HomeFields
+home_of s = s.home
+
+abbrev pub index_in : Structure → Index
+index_in s = index_kept s.index
+
+abbrev pub bitmap_in : Structure → Bitmap
+bitmap_in s = bitmap_of s.storage
+
+-- the store of a disk's image with that home block
+abbrev pub store_on : Structure → Disk → Store
+store_on s disk = store_of disk.image (home_of s)
+
+-- They are on a device of so many blocks.
+pub record Lies (s : Structure) (blocks : ℕ) : Type 0 where
+  pub index : LiesWithin (index_in s) blocks
+  pub bitmap : BitmapLiesWithin (bitmap_in s) blocks
+  pub volume : (bitmap_in s).size ≤ blocks
+
+-- They are those of an image.
+pub record Keeps (s : Structure) (image : Image) : Type 0 where
+  pub index_is : index_in s ≡ index_of image (home_of s)
+  pub bitmap_is : bitmap_in s ≡ storage_bitmap image (home_of s)
+  pub free : s.storage.free ≡ free_blocks image (bitmap_in s)
+
+-- An image's home block is this, if it has one.
+abbrev pub HasNoOtherHome : Image → HomeFields → Type 0
+HasNoOtherHome image home = (other : HomeFields) → IsHomeOf image other → other ≡ home
+
+-- It is for this disk: it lies there, and where the disk is honest the volume is sound, and this is its structure.
+pub record IsFor (s : Structure) (disk : Disk) : Type 0 where
+  pub lies : Lies s (length disk.image)
+  pub sound : IsTrue disk.honest → HasSoundVolume disk.image (home_of s)
+  pub keeps : IsTrue disk.honest → Keeps s disk.image
+
+-- It is for the disk after a call, unless that failed the volume: the home block is the same, and where the disk is honest the volume
+-- is sound even so.
+pub record StaysFor (failed : Bool) (old new : Structure) (disk : Disk) : Type 0 where
+  pub home : home_of new ≡ home_of old
+  pub lies : Lies new (length disk.image)
+  pub sound : IsTrue disk.honest → HasSoundVolume disk.image (home_of new)
+  pub keeps : failed ≡ false → IsTrue disk.honest → Keeps new disk.image

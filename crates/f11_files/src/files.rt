@@ -1,0 +1,52 @@
+//! The files of a volume.
+ghost use Rattle.std.specs.Prelude.{◌≡◌, false, length, IsTrue};
+ghost use Rattle.f11_files.specs.Structure.{home_of, Lies, Keeps, HasNoOtherHome};
+ghost use Rattle.f11_vfy.specs.Verdict.{IsAccepted};
+
+use crate::structure::Structure;
+use f11_dev::Device;
+
+/// The files of an accepted volume, without tasks, and the device that it is on.
+///
+/// After a call has answered `DeviceFault` or `Damaged` each later one answers `VolumeFailed`, until the device is verified again.
+#[derive(Drop)]
+pub struct Files<D: Device> {
+    pub(crate) device: D,
+    pub(crate) structure: Structure,
+    /// Whether a call has answered `DeviceFault` or `Damaged`.
+    pub(crate) failed: bool,
+    /// What is kept lies on the device.
+    pub ghost lies: { Lies structure (length (D.disk device).image) },
+    /// The image has no fault where the device is honest,
+    pub ghost accepted: { IsTrue (D.disk device).honest → IsAccepted (D.disk device).image },
+    /// and its home block is the one that is kept.
+    pub ghost home: { IsTrue (D.disk device).honest → HasNoOtherHome (D.disk device).image (home_of structure) },
+    /// While no call has failed, what is kept is the image's.
+    pub ghost keeps: { IsTrue (D.disk device).honest → failed ≡ false → Keeps structure (D.disk device).image },
+}
+
+impl<D: Device> Files<D> {
+    ghost use Rattle.f11_files.specs.Open.{device_in, has_failed};
+
+    /// Gives the device up, as it is. No transfer is made.
+    pub fn abandon(self) -> D
+        ensures { result ≡ device_in self }
+    {
+        let Files { device, .. } = self;
+        device
+    }
+
+    /// Whether a call has answered `DeviceFault` or `Damaged`.
+    pub fn failed(&self) -> bool
+        ensures { result ≡ has_failed self.now }
+    {
+        self.failed
+    }
+
+    /// The device as it is, to be looked at.
+    pub fn lent(&self) -> &D
+        ensures { result.now ≡ device_in self.now }
+    {
+        &self.device
+    }
+}
