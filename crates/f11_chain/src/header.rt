@@ -47,7 +47,7 @@ pub(crate) fn len_blocks(block: &Block) -> u32
 
 /// The LBN of block number `place`, from 0, of those that a header names; `None` where it names no more.
 #[tactic(auto, unfolding(f11_index::specs::HeaderBlock::blocks_named))]
-pub(crate) fn lbn_of(block: &Block, place: u32) -> Option<u32>
+pub fn lbn_of(block: &Block, place: u32) -> Option<u32>
     requires { IsTrue (holds_header block.now) }
     ensures { result ≡ slice_get (blocks_named block.now) place }
 {

@@ -13,4 +13,5 @@ mod step;
 
 pub use blocks::{FileEnd, Place, last, last_from, locate, seek};
 pub use fault::ChainFault;
+pub use header::lbn_of;
 pub use step::{first, next};

@@ -3,6 +3,7 @@ pub mod FilesLemmas
 pub mod AnswerLemmas
 pub mod FirstLemmas
 pub mod NamedLemmas
+pub mod LocateLemmas
 pub mod StoreLemmas
 pub mod SlotLemmas
 pub mod InstanceLemmas

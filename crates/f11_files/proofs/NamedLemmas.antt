@@ -19,7 +19,7 @@ use Rattle.f11_store.specs.Store.{Store, of_sequence, file_of, file_named}
 use Rattle.f11_store.specs.declared.files.FileId.{FileId}
 use Rattle.f11_vfy.specs.Contents.{file_of as said_file}
 use Rattle.f11_writes.specs.Kept.{file_in}
-use Rattle.f11_files.specs.First.{IsFileOf, IsOther, HoldsFirst}
+use Rattle.f11_files.specs.First.{IsFileOf, IsOther, HoldsFile}
 use Rattle.f11_files.specs.StoreOf.{is_first, as_seen, file_at, store_of}
 use Rattle.f11_store.specs.declared.refusals.Refusal.{Refusal}
 use Rattle.f11_store.specs.declared.refusals.Refusal.TheVariants.{NoSuchFile}
@@ -135,7 +135,7 @@ unfolding said_file
 attr-said image t n = refl
 
 -- a file's first header in hand
-module _ (s : Structure) (f : FileId) (block : List ℕ) (disk : Disk) (for : IsFor s disk) (holds : HoldsFirst (index_in s) f block disk) (honest : IsTrue disk.honest) where
+module _ (s : Structure) (f : FileId) (block : List ℕ) (disk : Disk) (for : IsFor s disk) (holds : HoldsFile (index_in s) f block disk) (honest : IsTrue disk.honest) where
   pub block-is : block ≡ (table_of disk.image (home_of s)).header f.number
   block-is = holds.header.block_is honest ∙ ap (λ (t : Table). t.header f.number) (table-of s disk for honest)
 

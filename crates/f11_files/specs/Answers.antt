@@ -1,5 +1,7 @@
 -- What the answer of a call on files tells, whatever the call (profile).
 use Rattle.std.specs.Prelude.{◌≡◌, ◌≢◌, ℕ, ◌≤◌, ◌==◌, ◌&&◌, Bool, true, false, nat_lt, IsTrue, if◌then◌else◌, List, Some, Result, Ok, Err}
+use Rattle.f11_chain.specs.declared.fault.ChainFault.{ChainFault}
+use Rattle.f11_chain.specs.declared.fault.ChainFault.TheVariants as fault
 use Rattle.f11_dev.specs.Disk.{Disk}
 use Rattle.f11_dev.specs.Image.{Image}
 use Rattle.f11_dev.specs.Looked.{Looked}
@@ -9,7 +11,7 @@ use Rattle.f11_store.specs.Causes.{Cause, first_of}
 use Rattle.f11_store.specs.Lags.{Work, LagsBy}
 use Rattle.f11_store.specs.Refusal.{refusal_number}
 use Rattle.f11_store.specs.declared.refusals.Refusal.{Refusal}
-use Rattle.f11_store.specs.declared.refusals.Refusal.TheVariants.{VolumeFailed, Damaged}
+use Rattle.f11_store.specs.declared.refusals.Refusal.TheVariants.{VolumeFailed, EndOfFile, DeviceFault, Damaged}
 use Rattle.f11_vfy.specs.Sound.{HasSoundVolume}
 use Rattle.f11_files.specs.StoreOf.{store_of}
 
@@ -72,3 +74,9 @@ pub record FailsToWrite (failed : Bool) (causes : List Cause) (most : ℕ) (work
   pub right : IsRight failed old.honest causes refusal
   pub writes : Writes (Meanwhile work home old) most old new (faults_of refusal)
   pub unchanged : is_grave refusal ≡ false → Reads most old new 0
+
+-- what a fault of a walk along a file's headers is to those who ask
+abbrev pub refusal_for : ChainFault → Refusal
+refusal_for fault.EndOfFile = EndOfFile
+refusal_for fault.DeviceFault = DeviceFault
+refusal_for fault.Damaged = Damaged

@@ -24,13 +24,13 @@ IsOther f block refusal =
     ((refusal ≡ NoSuchFile) × (¬ IsFirstOf f block)) ⊎ ((refusal ≡ Damaged) × (¬ IsDead block) × (¬ IsHeader block f.number))
 
 -- That header is in hand; it is the disk's where that is honest.
-pub record HoldsFirst (index : Index) (f : FileId) (block : List ℕ) (disk : Disk) : Type 0 where
+pub record HoldsFile (index : Index) (f : FileId) (block : List ℕ) (disk : Disk) : Type 0 where
   pub header : HoldsHeader index f.number block disk
   pub is_first : IsFirstOf f block
 
 -- It was read.
 pub record FindsFile (index : Index) (f : FileId) (block : List ℕ) (old new : Disk) : Type 0 where
-  pub holds : HoldsFirst index f block old
+  pub holds : HoldsFile index f block old
   pub looked : Looked old new 1 0
 
 -- there is a file with this identification, whatever the relative volume

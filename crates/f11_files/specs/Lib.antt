@@ -8,3 +8,5 @@ pub mod Answers
 pub mod First
 pub mod Operations
 pub mod Calls
+pub mod Blocks
+pub mod Length

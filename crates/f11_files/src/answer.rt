@@ -1,7 +1,8 @@
-//! Answers that fail the volume.
+//! What is answered where a walk along headers fails, and which answers fail the volume.
 ghost use Rattle.std.specs.Prelude.{◌≡◌};
-ghost use Rattle.f11_files.specs.Answers.{is_refused, is_grave};
+ghost use Rattle.f11_files.specs.Answers.{is_refused, is_grave, refusal_for};
 
+use f11_chain::ChainFault;
 use f11_store::Refusal;
 
 /// Whether an answer fails the volume: a transfer failed, or its structure was met broken.
@@ -12,4 +13,15 @@ pub(crate) fn is_grave<T>(answer: &Result<T, Refusal>) -> bool
         answer,
         Err(Refusal::DeviceFault) | Err(Refusal::Damaged)
     )
+}
+
+/// What a fault of a walk along a file's headers is to those who ask.
+pub(crate) fn refusal_for(fault: ChainFault) -> Refusal
+    ensures { result ≡ refusal_for fault }
+{
+    match fault {
+        ChainFault::EndOfFile => Refusal::EndOfFile,
+        ChainFault::DeviceFault => Refusal::DeviceFault,
+        ChainFault::Damaged => Refusal::Damaged,
+    }
 }

@@ -7,9 +7,12 @@
 
 mod answer;
 mod attributes;
+mod blocks;
 mod files;
 mod first;
 pub mod laws;
+mod length;
+mod locate;
 mod structure;
 
 pub use files::Files;

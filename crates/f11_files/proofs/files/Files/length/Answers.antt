@@ -1,0 +1,14 @@
+use Rattle.f11_files.proofs.FilesLemmas.{files-for}
+use Rattle.f11_files.proofs.OpenLemmas.{looked-for, answered, for-opened}
+use Rattle.f11_files.proofs.files.Files.length.Goals as goal
+
+pub length-answer-requires-clause-is_for : goal.length-answer-requires-clause-is_for
+length-answer-requires-clause-is_for g c = files-for c.args.self.now (g.met.D.Device.is_image c.args.self.now.device) c.if-self.false
+
+pub invariant_of-self : goal.invariant_of-self
+invariant_of-self g c =
+    let was = files-for c.args.self.now (g.met.D.Device.is_image c.args.self.now.device) c.if-self.false in
+    let for = answered c.length-answer.result _ _ c.length-answer.ensures.counts c.length-answer.ensures.refused
+    (λ _ is. looked-for _ _ _ _ _ was is.reads.looked) (λ _ is. looked-for _ _ _ _ _ was is.reads.looked) in
+    let is = for-opened c.args.self.now.structure c.is_grave-self.result _ (g.met.D.Device.is_image c.length-answer.new.device) for in
+    record { lies = is.lies; accepted = is.accepted; home = is.home; keeps = is.keeps }
