@@ -4,6 +4,8 @@ pub mod AnswerLemmas
 pub mod FirstLemmas
 pub mod NamedLemmas
 pub mod LocateLemmas
+pub mod WriteLemmas
+pub mod BlockLemmas
 pub mod StoreLemmas
 pub mod SlotLemmas
 pub mod InstanceLemmas

@@ -1,5 +1,5 @@
 -- What the answer of a call on files tells, whatever the call (profile).
-use Rattle.std.specs.Prelude.{◌≡◌, ◌≢◌, ℕ, ◌≤◌, ◌==◌, ◌&&◌, Bool, true, false, nat_lt, IsTrue, if◌then◌else◌, List, Some, Result, Ok, Err}
+use Rattle.std.specs.Prelude.{◌≡◌, ◌≢◌, ℕ, ◌≤◌, ◌==◌, ◌&&◌, Bool, true, false, nat_lt, IsTrue, if◌then◌else◌, List, Some, None, Result, Ok, Err}
 use Rattle.f11_chain.specs.declared.fault.ChainFault.{ChainFault}
 use Rattle.f11_chain.specs.declared.fault.ChainFault.TheVariants as fault
 use Rattle.f11_dev.specs.Disk.{Disk}
@@ -10,6 +10,7 @@ use Rattle.f11_home.specs.Home.{HomeFields}
 use Rattle.f11_store.specs.Causes.{Cause, first_of}
 use Rattle.f11_store.specs.Lags.{Work, LagsBy}
 use Rattle.f11_store.specs.Refusal.{refusal_number}
+use Rattle.f11_store.specs.Store.{Store}
 use Rattle.f11_store.specs.declared.refusals.Refusal.{Refusal}
 use Rattle.f11_store.specs.declared.refusals.Refusal.TheVariants.{VolumeFailed, EndOfFile, DeviceFault, Damaged}
 use Rattle.f11_vfy.specs.Sound.{HasSoundVolume}
@@ -68,6 +69,12 @@ pub record IsUnderWay (work : Work) (home : HomeFields) (old image : Image) : Ty
 -- that of an honest disk
 abbrev pub Meanwhile : Work → HomeFields → Disk → Image → Type 0
 Meanwhile work home old image = IsTrue old.honest → IsUnderWay work home old.image image
+
+-- A call that writes was served: there was no cause against it, and of the store before it makes this.
+pub record Does (causes : List Cause) (work : Work) (most : ℕ) (Makes : Store → Type 0) (home : HomeFields) (old new : Disk) : Type 0 where
+  pub no_cause : IsTrue old.honest → first_of causes ≡ None
+  pub makes : IsTrue old.honest → Makes (store_of new.image home)
+  pub writes : Writes (Meanwhile work home old) most old new 0
 
 -- A call that writes was refused: unless it failed the volume, no block was written.
 pub record FailsToWrite (failed : Bool) (causes : List Cause) (most : ℕ) (work : Work) (home : HomeFields) (refusal : Refusal) (old new : Disk) : Type 0 where

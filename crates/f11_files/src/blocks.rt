@@ -1,9 +1,9 @@
 //! The blocks of a file.
 ghost use Rattle.std.specs.Prelude.{◌≡◌, ◌+◌, ◌<◌, ◌≤◌, false, IfErr, OnOk, OnErr};
 ghost use Rattle.f11_files.specs.Answers.{FailsToRead, is_grave, is_refused};
-ghost use Rattle.f11_files.specs.Blocks.{ReadsBlock};
+ghost use Rattle.f11_files.specs.Blocks.{ReadsBlock, StoresBlock, FailsToStore};
 ghost use Rattle.f11_files.specs.Operations.{length_causes};
-ghost use Rattle.f11_files.specs.Structure.{home_of, store_on, IsFor};
+ghost use Rattle.f11_files.specs.Structure.{home_of, store_on, IsFor, StaysFor};
 ghost use Rattle.f11_store.specs.Cost.{header_count};
 ghost use Rattle.f11_store.specs.Store.{file_named};
 
@@ -44,6 +44,34 @@ impl Structure {
             Err(_) => Err(Refusal::DeviceFault),
         }
     }
+
+    /// Writes block `vbn` of a file: one write, behind the headers that are read.
+    ///
+    /// # Errors
+    ///
+    /// Those of [`Structure::locate`].
+    pub(crate) fn write_block<D: Device>(
+        &self,
+        device: &mut D,
+        f: FileId,
+        vbn: u32,
+        block: &Block,
+    ) -> Result<(), Refusal>
+        requires is_for { IsFor self.now (D.disk device.old) }
+        requires own { 4 ≤ f.number }
+        requires some { 0 < vbn }
+        ensures stored { OnOk result (StoresBlock (home_of self.now) f vbn block.now
+            (D.disk device.old) (D.disk device.new)) }
+        ensures refused { IfErr result (λ refusal. FailsToStore false (home_of self.now) f vbn block.now
+            refusal (D.disk device.old) (D.disk device.new)) }
+        ensures stays { StaysFor (is_refused is_grave result) self.now self.now (D.disk device.new) }
+    {
+        let lbn = self.locate(device, f, vbn)?;
+        match device.write(lbn, block) {
+            Ok(()) => Ok(()),
+            Err(_) => Err(Refusal::DeviceFault),
+        }
+    }
 }
 
 impl<D: Device> Files<D> {
@@ -73,6 +101,29 @@ impl<D: Device> Files<D> {
             return Err(Refusal::VolumeFailed);
         }
         let answer = self.structure.read_block(&mut self.device, f, vbn, block);
+        self.failed = is_grave(&answer);
+        answer
+    }
+
+    /// Writes block `vbn` of a file, from 1. It reads the file's headers up to the one that names the block, each once, and writes the
+    /// block. Where it is refused, but for `DeviceFault`, nothing is written.
+    ///
+    /// # Errors
+    ///
+    /// Those of [`Files::read_block`].
+    pub fn write_block(&mut self, f: FileId, vbn: u32, block: &Block) -> Result<(), Refusal>
+        requires id { IsIdFrom 4 f }
+        requires some { 0 < vbn }
+        ensures answers { Answers result self.old self.new }
+        ensures stored { OnOk result (StoresBlock (home_in self.old) f vbn block.now
+            (disk_in self.old) (disk_in self.new)) }
+        ensures refused { IfErr result (λ refusal. FailsToStore (has_failed self.old)
+            (home_in self.old) f vbn block.now refusal (disk_in self.old) (disk_in self.new)) }
+    {
+        if self.failed {
+            return Err(Refusal::VolumeFailed);
+        }
+        let answer = self.structure.write_block(&mut self.device, f, vbn, block);
         self.failed = is_grave(&answer);
         answer
     }

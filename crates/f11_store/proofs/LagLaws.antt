@@ -78,7 +78,7 @@ frees_lags work s t files slots frees = record {
     same n h = frees.last n ∙ sym (last_there s n (omega (arith, h, frees.slots)))
 
 -- one part that takes nothing
-change_lags : (s : Store) (k : ℕ) (change : File → File) → LagsBy (one_part k (file_changes k change)) (with_change s k change) s
+pub change_lags : (s : Store) (k : ℕ) (change : File → File) → LagsBy (one_part k (file_changes k change)) (with_change s k change) s
 change_lags s k change =
     frees_lags (one_part k (file_changes k change)) s (with_change s k change)
     (λ n. alike ((with_change s k change).file n)) refl (frees_change s k change)
@@ -108,7 +108,7 @@ pub record Takes (s : Store) (meant : ℕ → Bool) (blocks headers : ℕ) (t : 
   pub same : SameLimits s t
 
 -- a store whose files are those with the parts done, and which takes what the work may take, lags
-takes_lags :
+pub takes_lags :
     (work : Work) (s t : Store) → StoresAlike t (with_parts s work.parts) → t.slots ≡ (with_parts s work.parts).slots →
     Takes s work.is_meant work.blocks work.headers t → LagsBy work t s
 takes_lags work s t files slots takes = record {
@@ -126,8 +126,23 @@ takes_lags work s t files slots takes = record {
     there : (n : ℕ) → n ≤ t.slots → last_of s n ≡ s.last n
     there n h = last_there s n (omega (arith, h, takes.slots))
 
+-- nothing is done yet, but what the work may take was taken
+pub taken_lags :
+    (work : Work) (s t : Store) → ((n : ℕ) → t.file n ≡ s.file n) → Takes s work.is_meant work.blocks work.headers t → LagsBy work t s
+taken_lags work s t files takes = record {
+  done = 0;
+  files = λ n. subst (λ (o : Option File). AreLike o (s.file n)) (sym (files n)) (alike (s.file n));
+  slots = takes.slots;
+  others = takes.others;
+  free_blocks = takes.free;
+  headers = takes.slots_free;
+  last = λ n h k. subst (λ (q : ℕ). (t.last n ≡ q) ⊎ (t.last n ≡ next_sequence q)) (sym (last_there s n (omega (arith, h, takes.slots)))) (takes.last n);
+  no_header = λ e n h. takes.no_header e n ∙ sym (last_there s n (omega (arith, h, takes.slots)));
+  limits = takes.same;
+}
+
 -- a new file
-created_lags :
+pub created_lags :
     (s : Store) (caller : Uic) (word : ℕ) (ident attr : List ℕ) →
     LagsBy (create_work (least_free s) (file_created s (least_free s) caller word ident attr)) (after_create s caller word ident attr) s
 created_lags s caller word ident attr =
@@ -147,7 +162,7 @@ created_lags s caller word ident attr =
     after = after_create s caller word ident attr
 
 -- a file that is cut
-cut_lags :
+pub cut_lags :
     (s : Store) (k to : ℕ) (f : File) (headers pointers room : ℕ) → s.file k ≡ Some f →
     LagsBy (one_part k (file_changes k (with_first_blocks to))) (with_cut_file s k f to headers pointers room) s
 cut_lags s k to f headers pointers room was =
@@ -172,7 +187,7 @@ cut_lags s k to f headers pointers room was =
     out_of_use false c h = refl
 
 -- a file that goes
-gone_lags : (s : Store) (k : ℕ) → LagsBy (go_work k) (without_file_at s k) s
+pub gone_lags : (s : Store) (k : ℕ) → LagsBy (go_work k) (without_file_at s k) s
 gone_lags s k =
     frees_lags (go_work k) s (without_file_at s k) (λ n. alike ((without_file_at s k).file n)) refl (frees_without_file s k)
 

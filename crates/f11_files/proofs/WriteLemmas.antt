@@ -1,0 +1,110 @@
+-- What is kept of an open volume, where blocks are written.
+use Rattle.std.proofs.Common.{◌≡◌, ◌≢◌, ◌⊎◌, ◌+◌, ◌≤◌, ℕ, Bool, true, false, cond, IsTrue, List, length, Some, inl, inr, refl, sym, ap, subst, ◌∙◌, arith}
+use Rattle.std.proofs.lemmas.Bool.{cases_eq, lt-ltb, ne_eqb}
+use Rattle.f11_bits.specs.Bitmap.{Bitmap, free_blocks, count_below}
+use Rattle.f11_dev.specs.Disk.{Disk, with_transfer, with_block_at}
+use Rattle.f11_dev.specs.Image.{Image}
+use Rattle.f11_dev.specs.Looked.{Looked}
+use Rattle.f11_dev.specs.Went.{Went}
+use Rattle.f11_dev.proofs.LookedLemmas.{looked_none}
+use Rattle.f11_dev.proofs.WentLemmas.{went_looked, went_more, went_within, went_weaker, went_last, went_write, went_failed_write}
+use Rattle.f11_home.specs.Home.{HomeFields}
+use Rattle.f11_store.specs.Causes.{Cause, first_of}
+use Rattle.f11_store.specs.Lags.{Work, LagsBy}
+use Rattle.f11_store.specs.Refusal.{refusal_number}
+use Rattle.f11_store.specs.declared.refusals.Refusal.{Refusal}
+use Rattle.f11_store.specs.declared.refusals.Refusal.TheVariants.{VolumeFailed}
+use Rattle.f11_vfy.specs.Sound.{HasSoundVolume}
+use Rattle.f11_vfy.specs.Space.{storage_bitmap}
+use Rattle.f11_vfy.specs.Volume.{Volume, volume_of}
+use Rattle.f11_writes.specs.Kept.{KeepsVolume}
+use Rattle.f11_files.specs.Answers.{IsRight, Reads, Writes, FailsToRead, FailsToWrite, IsUnderWay, Meanwhile, is_grave, faults_of}
+use Rattle.f11_files.specs.StoreOf.{store_of}
+use Rattle.f11_files.specs.Structure.{index_in, bitmap_in, home_of, Lies, Keeps, IsFor, StaysFor}
+use Rattle.f11_files.specs.declared.structure.Structure.{Structure}
+use Rattle.f11_files.proofs.AnswerLemmas.{right-fault, right-more}
+use Rattle.f11_files.proofs.StoreLemmas.{free-count}
+
+-- where headers, storage bitmap and free blocks stay, so does what is kept
+pub keeps-volume : (s : Structure) (old new : Image) → KeepsVolume (home_of s) old new → Keeps s old → Keeps s new
+keeps-volume s old new kept keeps = record {
+  index_is = keeps.index_is ∙ sym kept.index_file.index;
+  bitmap_is = keeps.bitmap_is ∙ sym kept.bitmap;
+  free = keeps.free ∙ ap (free_blocks old) keeps.bitmap_is ∙ free-count old (home_of s) ∙ ap (λ (v : Volume). count_below v.free v.size) (sym kept.volume)
+      ∙ sym (free-count new (home_of s)) ∙ ap (free_blocks new) (kept.bitmap ∙ sym keeps.bitmap_is);
+}
+
+-- a volume that was sound at each moment is sound at the end
+pub sound-went : (work : Work) (home : HomeFields) (old new : Disk) {most faults : ℕ} → (IsTrue old.honest → HasSoundVolume old.image home) → Went (Meanwhile work home old) old new most faults
+    → IsTrue new.honest → HasSoundVolume new.image home
+sound-went work home old new sound went honest =
+    let P : Image → Type 0 = λ image. IsTrue old.honest → HasSoundVolume image home in
+    went_last P (went_weaker (Meanwhile work home old) P (λ image under sure. (under sure).sound) went) sound (sym went.honest ∙ honest)
+
+-- where a call has failed the volume, no more is said
+pub failed-stays : (s : Structure) (work : Work) (old new : Disk) {most faults : ℕ} → IsFor s old → Went (Meanwhile work (home_of s) old) old new most faults → StaysFor true s s new
+failed-stays s work old new for went = record {
+  home = refl;
+  lies = subst (λ (n : ℕ). Lies s n) (sym went.size) for.lies;
+  sound = sound-went work (home_of s) old new for.sound went;
+  keeps = λ not. absurd cc;
+}
+
+-- where what is kept is the image's, the volume stays open
+pub served-stays : (s : Structure) (work : Work) (old new : Disk) {most faults : ℕ} (failed : Bool) → IsFor s old → Went (Meanwhile work (home_of s) old) old new most faults
+    → (IsTrue old.honest → Keeps s new.image) → StaysFor failed s s new
+served-stays s work old new failed for went keeps = record {
+  home = refl;
+  lies = subst (λ (n : ℕ). Lies s n) (sym went.size) for.lies;
+  sound = sound-went work (home_of s) old new for.sound went;
+  keeps = λ _ honest. keeps (sym went.honest ∙ honest);
+}
+
+-- and where it was only read
+pub looked-stays : (s : Structure) (failed : Bool) (old new : Disk) {most faults : ℕ} → IsFor s old → Looked old new most faults → StaysFor failed s s new
+looked-stays s failed old new for looked = record {
+  home = refl;
+  lies = subst (λ (i : Image). Lies s (length i)) (sym looked.image) for.lies;
+  sound = λ honest. subst (λ (i : Image). HasSoundVolume i (home_of s)) (sym looked.image) (for.sound (sym looked.honest ∙ honest));
+  keeps = λ _ honest. subst (Keeps s) (sym looked.image) (for.keeps (sym looked.honest ∙ honest));
+}
+
+-- blocks were read, and then written
+pub writes-behind : {P : Image → Type 0} {a b c : Disk} {m n faults : ℕ} → Reads m a b 0 → Went P b c n faults → Writes P (m + n) a c faults
+writes-behind {P = P} {n = n} reads went = record {
+  transfers = reads.reads + n;
+  went = went_more P (went_looked P reads.looked) went;
+  few = λ honest. let few = reads.few honest in omega (arith, few);
+}
+
+-- a refusal to read is one to write
+pub fails-read : {causes others : List Cause} {m n : ℕ} {work : Work} {home : HomeFields} {r : Refusal} {old new : Disk} → (first_of causes ≡ Some r → first_of others ≡ Some r) → m ≤ n
+    → FailsToRead false causes m r old new → FailsToWrite false others n work home r old new
+fails-read {work = work} {home = home} {r = r} {old = old} {new = new} more fewer fails = record {
+  right = right-more more fails.right;
+  writes = record {
+    transfers = fails.reads.reads;
+    went = went_looked (Meanwhile work home old) fails.reads.looked;
+    few = λ honest. let few = fails.reads.few honest in omega (arith, few, fewer);
+  };
+  unchanged = λ light. record {
+    reads = fails.reads.reads;
+    looked = subst (λ (n : ℕ). Looked old new fails.reads.reads n) (no-fault r light) fails.reads.looked;
+    few = λ honest. let few = fails.reads.few honest in omega (arith, few, fewer);
+  };
+}
+  where
+    no-fault : (r : Refusal) → is_grave r ≡ false → faults_of r ≡ 0
+    no-fault r light = go (cases_eq (refusal_number r) 19)
+      where
+        go : (refusal_number r ≡ 19) ⊎ (refusal_number r ≢ 19) → faults_of r ≡ 0
+        go (inl is) = let heavy = lt-ltb 18 (refusal_number r) (omega (arith, is)) in let no : true ≡ false = sym heavy ∙ light in absurd cc
+        go (inr other) = ap (λ (b : Bool). cond b 1 0) (ne_eqb (refusal_number r) 19 other)
+
+-- the volume had failed, and nothing is done
+pub had-failed : {failed : Bool} {causes : List Cause} {n : ℕ} {work : Work} {home : HomeFields} (old : Disk) → failed ≡ true → FailsToWrite failed causes n work home VolumeFailed old old
+had-failed {work = work} {home = home} old is = record {
+  right = record { volume = λ _. is; cause = λ _ is. absurd cc; undamaged = λ _ same. let no : 1 ≡ 20 = ap refusal_number same in omega (arith, no) };
+  writes = record { transfers = 0; went = went_looked (Meanwhile work home old) (looked_none old); few = λ _. omega arith };
+  unchanged = λ _. record { reads = 0; looked = looked_none old; few = λ _. omega arith };
+}
