@@ -1,5 +1,6 @@
 pub mod StoreLemmas
 pub mod SlotLemmas
 pub mod InstanceLemmas
+pub mod FieldLemmas
 pub mod FileLemmas
 pub mod GrowthLemmas

@@ -2,3 +2,4 @@ pub mod StoreOf
 pub mod StoreLaws
 pub mod SlotLaws
 pub mod FileLaws
+pub mod FieldLaws
