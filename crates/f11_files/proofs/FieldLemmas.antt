@@ -168,7 +168,7 @@ abbrev as_said : HeaderFields → File → File
 as_said h f = record f { owner = h.owner; protection = h.protection; characteristics = h.characteristics; ident = h.ident; attr = h.attributes }
 
 -- fields were written
-says-written : (fields : HeaderFields → HeaderFields) (change : File → File) (old : List ℕ) → (fields (header_fields old)).number ≡ file_number old
+pub says-written : (fields : HeaderFields → HeaderFields) (change : File → File) (old : List ℕ) → (fields (header_fields old)).number ≡ file_number old
     → (fields (header_fields old)).sequence ≡ file_sequence old → (fields (header_fields old)).map ≡ map_area old
     → ((f : File) → as_said (fields (header_fields old)) f ≡ change (said_by old f)) → Writes fields change old
 says-written fields change old number sequence map file new held is sum =

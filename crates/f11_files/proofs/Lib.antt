@@ -4,3 +4,4 @@ pub mod InstanceLemmas
 pub mod FieldLemmas
 pub mod FileLemmas
 pub mod GrowthLemmas
+pub mod NewFileLemmas

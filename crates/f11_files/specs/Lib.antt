@@ -3,3 +3,4 @@ pub mod StoreLaws
 pub mod SlotLaws
 pub mod FileLaws
 pub mod FieldLaws
+pub mod NewFileLaws

@@ -1,6 +1,7 @@
 //! Laws of the store of an image, each the contract of a function that does nothing.
 ghost use Rattle.f11_files.specs.FieldLaws as fields;
 ghost use Rattle.f11_files.specs.FileLaws as files;
+ghost use Rattle.f11_files.specs.NewFileLaws as new;
 ghost use Rattle.f11_files.specs.SlotLaws as slots;
 ghost use Rattle.f11_files.specs.StoreLaws as laws;
 
@@ -65,4 +66,11 @@ pub fn written_fields()
 /// A file whose first header says another thing of it.
 pub fn field_writes()
     ensures { fields.FirstHeaderMayChange }
+{}
+
+/// A new file, whose header is written and then entered.
+pub fn new_files()
+    ensures free { new.FreeSlotsAreStored }
+    ensures written { new.NewFirstMayBeWritten }
+    ensures entered { new.NewFileMayBeEntered }
 {}
