@@ -12,27 +12,32 @@ use Rattle.f11_index.proofs.HeadersLemmas.{link_number, live-some, Comes, Comes-
 use Rattle.f11_chain.specs.FileHeaders.{blocks_by, file_blocks}
 use Rattle.f11_chain.specs.Laws.{HasMore, HasHeaderMore, EndsWith, StayBefore}
 
--- the list goes the same way where the headers in it stay
-from-stays : (most : ℕ) (old new : Table) (n : ℕ) → ((m : ℕ) → Contains (headers_from most old n) m → new.header m ≡ old.header m) → headers_from most new n ≡ headers_from most old n
+-- the list goes the same way where the headers in it link as they did
+from-stays : (most : ℕ) (old new : Table) (n : ℕ) → ((m : ℕ) → Contains (headers_from most old n) m → link_number new m ≡ link_number old m) → headers_from most new n ≡ headers_from most old n
 unfolding headers_from
 from-stays zero old new n stay = refl
 from-stays (suc most) old new zero stay = refl
 from-stays (suc most) old new (suc n) stay =
-    let here : new.header (suc n) ≡ old.header (suc n) = stay (suc n) (zero, omega arith, refl) in
-    ap (λ (b : List ℕ). suc n ∷ headers_from most new (link_of b).number) here
+    ap (λ (to : ℕ). suc n ∷ headers_from most new to) (stay (suc n) (zero, omega arith, refl))
     ∙ ap (λ (rest : List ℕ). suc n ∷ rest) (from-stays most old new (link_number old (suc n)) (λ m (i, within, is). stay m (suc i, omega (arith, within), is)))
 
-blocks-stay : (old new : Table) (hs : List ℕ) → ((m : ℕ) → Contains hs m → new.header m ≡ old.header m) → blocks_by new hs ≡ blocks_by old hs
+blocks-stay : (old new : Table) (hs : List ℕ) → ((m : ℕ) → Contains hs m → blocks_named (new.header m) ≡ blocks_named (old.header m)) → blocks_by new hs ≡ blocks_by old hs
 blocks-stay old new [] stay = refl
 blocks-stay old new (h ∷ hs) stay =
-    ap (λ (b : List ℕ). blocks_named b ++ blocks_by new hs) (stay h (zero, omega arith, refl))
+    ap (λ (b : List ℕ). b ++ blocks_by new hs) (stay h (zero, omega arith, refl))
     ∙ ap (λ (rest : List ℕ). blocks_named (old.header h) ++ rest) (blocks-stay old new hs (λ m (i, within, is). stay m (suc i, omega (arith, within), is)))
 
-pub file-stays : (old new : Table) (f : ℕ) → ((n : ℕ) → Contains (headers_of old f) n → new.header n ≡ old.header n) → (headers_of new f ≡ headers_of old f) × (file_blocks new f ≡ file_blocks old f)
+-- a file has the headers and the blocks that it had where its headers link as they did and name the same
+pub file-alike : (old new : Table) (f : ℕ) → ((n : ℕ) → Contains (headers_of old f) n → link_number new n ≡ link_number old n)
+    → ((n : ℕ) → Contains (headers_of old f) n → blocks_named (new.header n) ≡ blocks_named (old.header n)) → (headers_of new f ≡ headers_of old f) × (file_blocks new f ≡ file_blocks old f)
 unfolding file_blocks
+file-alike old new f links names =
+    let headers = from-stays 256 old new f links in
+    (headers, ap (blocks_by new) headers ∙ blocks-stay old new (headers_of old f) names)
+
+pub file-stays : (old new : Table) (f : ℕ) → ((n : ℕ) → Contains (headers_of old f) n → new.header n ≡ old.header n) → (headers_of new f ≡ headers_of old f) × (file_blocks new f ≡ file_blocks old f)
 file-stays old new f stay =
-    let headers = from-stays 256 old new f stay in
-    (headers, ap (blocks_by new) headers ∙ blocks-stay old new (headers_of old f) stay)
+    file-alike old new f (λ n listed. ap (λ (b : List ℕ). (link_of b).number) (stay n listed)) (λ n listed. ap blocks_named (stay n listed))
 
 -- one header more at the end
 blocks-behind : (t : Table) (behind : List ℕ) (n : ℕ) → blocks_by t (behind ++ n ∷ []) ≡ blocks_by t behind ++ blocks_named (t.header n)

@@ -1,5 +1,5 @@
 -- A file one of whose headers was written.
-use Rattle.std.proofs.Common.{◌≡◌, ◌≢◌, ◌⊎◌, ◌≤◌, ◌<◌, ◌+◌, ◌-◌, inl, inr, ℕ, suc, Bool, List, [], ◌∷◌, ◌++◌, Some, option_map, refl, ap, sym, subst, ◌∙◌, length, length-append, map, take, get_or, arith}
+use Rattle.std.proofs.Common.{◌≡◌, ◌≢◌, ◌⊎◌, ◌≤◌, ◌<◌, ◌+◌, ◌-◌, inl, inr, ℕ, suc, Bool, List, [], ◌∷◌, ◌++◌, Some, refl, ap, sym, subst, ◌∙◌, length, length-append, map, take, get_or, arith}
 use Rattle.std.specs.List.{range_with_len, slice_get, sum_by}
 use Rattle.std.proofs.lemmas.Bool.{cases_eq}
 use Rattle.std.proofs.lemmas.List.{map-append, take-map}
@@ -23,8 +23,7 @@ use Rattle.f11_index.proofs.UpLemmas.{header-up}
 use Rattle.f11_chain.specs.FileHeaders.{file_blocks, blocks_before}
 use Rattle.f11_chain.specs.Laws.{HasMore, HasHeaderMore}
 use Rattle.f11_chain.proofs.ChangeLemmas.{has-more, has-header, ends-with, is-cut}
-use Rattle.f11_store.specs.Changes.{with_change, with_file}
-use Rattle.f11_store.specs.File.{File}
+use Rattle.f11_store.specs.Changes.{with_change}
 use Rattle.f11_vfy.specs.Contents.{block_or_zeros, file_of, headers_reached, pointer_count, room_left}
 use Rattle.f11_vfy.proofs.FileLemmas.{image-files, reached-are, file-blocks-are}
 use Rattle.f11_vfy.specs.Sound.{HasSoundVolume}
@@ -32,11 +31,10 @@ use Rattle.f11_writes.specs.Kept.{file_in, WritesHeader}
 use Rattle.f11_writes.proofs.OtherSlotLemmas.{stay-before, stay-up-to}
 use Rattle.f11_files.specs.FileLaws.{SaysAlike, MayStand, NamesMoreOf, LinksOnTo, EndsThere, with_more_blocks, with_header_more, with_first_headers, held_from, pointers_before, pointers_in, room_in}
 use Rattle.f11_files.specs.StoreOf.{store_of}
-use Rattle.f11_files.proofs.StoreLemmas.{file-at, seen-own}
-use Rattle.f11_files.proofs.InstanceLemmas.{file-rewritten}
+use Rattle.f11_files.proofs.InstanceLemmas.{file-stored}
 
 -- sums of what is equal for each
-sum-same : (p q : ℕ → ℕ) (xs : List ℕ) → ((i x : ℕ) → slice_get xs i ≡ Some x → p x ≡ q x) → sum_by p xs ≡ sum_by q xs
+pub sum-same : (p q : ℕ → ℕ) (xs : List ℕ) → ((i x : ℕ) → slice_get xs i ≡ Some x → p x ≡ q x) → sum_by p xs ≡ sum_by q xs
 sum-same p q [] same = refl
 sum-same p q (x ∷ xs) same =
     let rest = sum-same p q xs (λ i y at. same (suc i) y at) in
@@ -191,17 +189,10 @@ module _ (old new : Image) (home : HomeFields) (f n : ℕ) (block : List ℕ) (m
 
 pub file-grows : (old new : Image) (home : HomeFields) (f n : ℕ) (block : List ℕ) (more lbn count : ℕ) → 4 ≤ f → WritesHeader n block home old new
     → NamesMoreOf (table_of old home) f n block more lbn count → store_of new home ≡ with_change (store_of old home) f (with_more_blocks more (held_from old lbn count))
-unfolding store_of
 file-grows old new home f n block more lbn count late wrote may =
-    let t : Table = table_of old home in
-    let change : File → File = with_more_blocks more (held_from old lbn count) in
     let few : 2 ≤ f = omega (arith, late) in
-    let file = file_of-header may.stands.of in
-    file-rewritten old new home n block wrote may.stands.good.sequence f may.stands.of (of-now old new home f n block few wrote may.stands)
-    ∙ ap (with_file (store_of old home) f) (
-    ap Some (seen-own f (file_in home f new) late ∙ file-more old new home f n block more lbn count few wrote may ∙ ap change (sym (seen-own f (file_in home f old) late)))
-    ∙ sym (ap (option_map change) (file-at old t f _ (λ _. refl) (λ none. absurd (none file))))
-    )
+    file-stored old new home n block wrote may.stands.good.sequence f (with_more_blocks more (held_from old lbn count)) late may.stands.of
+    (of-now old new home f n block few wrote may.stands) (file-more old new home f n block more lbn count few wrote may)
 
 -- its last header links on to header m
 module _ (old new : Image) (home : HomeFields) (f n m : ℕ) (block : List ℕ) (late : 2 ≤ f) (wrote : WritesHeader n block home old new) (may : LinksOnTo (table_of old home) f n m block) where

@@ -1,5 +1,5 @@
 -- The kinds of write of a slot, each as the plain store has it.
-use Rattle.std.proofs.Common.{◌≡◌, ◌≢◌, ◌⊎◌, ◌≤◌, ◌<◌, inl, inr, ℕ, Bool, true, false, cond, List, Option, Some, None, refl, ap, sym, subst, ◌∙◌, ◌&&◌, eqb, leb, ltb, arith}
+use Rattle.std.proofs.Common.{◌≡◌, ◌≢◌, ◌⊎◌, ◌≤◌, ◌<◌, inl, inr, ℕ, Bool, true, false, cond, List, Option, Some, None, option_map, refl, ap, sym, subst, ◌∙◌, ◌&&◌, eqb, leb, ltb, arith}
 use Rattle.std.proofs.lemmas.Bool.{both_ways, cases_eq, eq-eqb, ne_eqb, le-leb, lt-ltb}
 use Rattle.f11_dev.specs.Image.{Image}
 use Rattle.f11_header.specs.Fields.{file_sequence}
@@ -9,7 +9,7 @@ use Rattle.f11_index.specs.IndexFile.{Index, slots}
 use Rattle.f11_index.specs.Table.{Table, table_in, table_of, last_sequence, IsLive, IsFile, IsHeaderOf, first, next}
 use Rattle.f11_index.proofs.ChainLemmas.{file_of-header, live_of-header}
 use Rattle.f11_index.proofs.HeadersLemmas.{chained-apart}
-use Rattle.f11_store.specs.Changes.{with_file}
+use Rattle.f11_store.specs.Changes.{with_file, with_change}
 use Rattle.f11_store.specs.File.{File}
 use Rattle.f11_store.specs.Store.{Store}
 use Rattle.f11_vfy.proofs.FileLemmas.{image-files}
@@ -17,7 +17,7 @@ use Rattle.f11_vfy.proofs.SlotLemmas.{dead-not-valid}
 use Rattle.f11_writes.specs.Kept.{file_in, WritesHeader, WritesSlotBit}
 use Rattle.f11_files.specs.StoreOf.{as_seen, file_at, last_given, store_of}
 use Rattle.f11_files.specs.SlotLaws.{with_use, with_last, KeepsOtherBlocks, ConcernsFile, IsLoose}
-use Rattle.f11_files.proofs.StoreLemmas.{file-at}
+use Rattle.f11_files.proofs.StoreLemmas.{file-at, seen-own}
 use Rattle.f11_files.proofs.SlotLemmas.{slot-stored}
 
 -- a change to what is there is none
@@ -136,6 +136,17 @@ module _ (old new : Image) (home : HomeFields) (n : ℕ) where
             not_first = λ apart. (not-first t f n apart of, not-first u f n apart is);
           })
           ∙ ap (with_file s f) (file-at new u f _ (λ _. refl) (λ none. absurd (none (file_of-header is))))
+
+      -- where it has changed so, it has in the store
+      pub file-stored : (f : ℕ) (change : File → File) → 4 ≤ f → IsHeaderOf t f n → IsHeaderOf u f n → file_in home f new ≡ change (file_in home f old)
+          → store_of new home ≡ with_change (store_of old home) f change
+      unfolding store_of
+      file-stored f change late of is changed =
+          file-rewritten f of is
+          ∙ ap (with_file s f) (
+          ap Some (seen-own f (file_in home f new) late ∙ changed ∙ ap change (sym (seen-own f (file_in home f old) late)))
+          ∙ sym (ap (option_map change) (file-at old t f _ (λ _. refl) (λ none. absurd (none (file_of-header of)))))
+          )
 
   -- a bit was written
   module _ (after : Index) (wrote : WritesSlotBit n after home old new) where

@@ -10,3 +10,5 @@ pub mod Operations
 pub mod Calls
 pub mod Blocks
 pub mod Length
+pub mod FieldLaws
+pub mod NewFileLaws

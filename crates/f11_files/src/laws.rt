@@ -1,5 +1,7 @@
 //! Laws of the store of an image, each the contract of a function that does nothing.
+ghost use Rattle.f11_files.specs.FieldLaws as fields;
 ghost use Rattle.f11_files.specs.FileLaws as files;
+ghost use Rattle.f11_files.specs.NewFileLaws as new;
 ghost use Rattle.f11_files.specs.SlotLaws as slots;
 ghost use Rattle.f11_files.specs.StoreLaws as laws;
 
@@ -50,4 +52,25 @@ pub fn cuts()
 /// An index file that grows.
 pub fn index_growth()
     ensures { slots.IndexFileIsStored }
+{}
+
+/// What a header says of its file once a field of it was written.
+pub fn written_fields()
+    ensures attributes { fields.AttributesAreReplaced }
+    ensures ident { fields.IdentIsReplaced }
+    ensures protection { fields.ProtectionIsReplaced }
+    ensures marked { fields.DeleteMarkIsSet }
+    ensures unmarked { fields.ContiguousMarkIsCleared }
+{}
+
+/// A file whose first header says another thing of it.
+pub fn field_writes()
+    ensures { fields.FirstHeaderMayChange }
+{}
+
+/// A new file, whose header is written and then entered.
+pub fn new_files()
+    ensures free { new.FreeSlotsAreStored }
+    ensures written { new.NewFirstMayBeWritten }
+    ensures entered { new.NewFileMayBeEntered }
 {}

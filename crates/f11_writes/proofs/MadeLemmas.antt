@@ -107,10 +107,10 @@ module _ (old : Image) (home : HomeFields) (n : ℕ) (header : List ℕ) (after 
 
   -- it is a file's first
   module _ (starts : segment_number header ≡ 0) where
-    is-file : IsFile u n
+    pub is-file : IsFile u n
     is-file = record { live = live-now; first = ap segment_number here-now ∙ starts }
 
-    one-header : headers_of u n ≡ n ∷ []
+    pub one-header : headers_of u n ≡ n ∷ []
     one-header =
         headers_from-some 255 u n new.some
         ∙ ap (λ (k : ℕ). n ∷ headers_from 255 u k) (ap (λ (b : List ℕ). (link_of b).number) here-now ∙ new.no_link)
