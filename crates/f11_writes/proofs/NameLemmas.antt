@@ -1,5 +1,5 @@
 -- The blocks that a header may name, and those that none names.
-use Rattle.std.proofs.Common.{◌≡◌, ◌⊎◌, ℕ, ◌+◌, ◌-◌, ◌<◌, ◌≤◌, true, false, List, ◌++◌, length, take, Some, refl, sym, ap, subst, ◌∙◌, inl, inr, arith}
+use Rattle.std.proofs.Common.{◌≡◌, ◌≢◌, ◌⊎◌, ℕ, ◌+◌, ◌-◌, ◌<◌, ◌≤◌, true, false, List, ◌++◌, length, take, Some, refl, sym, ap, subst, ◌∙◌, inl, inr, arith}
 use Rattle.std.specs.List.{slice_get, range_with_len}
 use Rattle.std.proofs.lemmas.Bool.{cases_eq, cases_lt}
 use Rattle.std.proofs.lemmas.List.{length-take, get_or-take}
@@ -9,13 +9,13 @@ use Rattle.f11_dev.specs.Image.{Image}
 use Rattle.f11_header.specs.Header.{IsHeader}
 use Rattle.f11_home.specs.Home.{HomeFields}
 use Rattle.f11_index.specs.HeaderBlock.{blocks_named}
-use Rattle.f11_index.specs.Table.{IsLive}
+use Rattle.f11_index.specs.Table.{Table, table_of, IsLive}
 use Rattle.f11_index.proofs.PlaceLemmas.{slice_get-append_front, slice_get-range}
 use Rattle.f11_map.proofs.MapLemmas.{slice_get-append_back}
 use Rattle.f11_vfy.specs.Sound.{IsSoundVolume, HasSoundVolume}
 use Rattle.f11_vfy.specs.Space.{storage_bitmap}
 use Rattle.f11_vfy.specs.Volume.{Volume, volume_of, IsCell, IsNamed}
-use Rattle.f11_writes.specs.Kept.{KeepsButFree}
+use Rattle.f11_writes.specs.Kept.{KeepsVolume, KeepsButFree, KeepsButSlot}
 use Rattle.f11_writes.specs.NameLaws.{AreSpare}
 use Rattle.f11_writes.specs.OtherSlots.{KeepsOtherSlots}
 use Rattle.f11_writes.specs.Volumes.{MayName}
@@ -102,16 +102,50 @@ fewer-names v n count lbns may = record {
         slice_get-get_or lbns i k (omega (arith, within, size))
         ∙ ap Some (sym (get_or-take count lbns i k (omega (arith, within, size))) ∙ get_or_from_slice_get (take count lbns) i k k at)
 
+-- where the other slots are as they were, a block that another header names was so before
+cell-was : (old new : Table) (n m place lbn : ℕ) → KeepsOtherSlots n old new → m ≢ n → IsCell new m place lbn → IsCell old m place lbn
+cell-was old new n m place lbn others away cell =
+    let used = sym (others.in_use m away) ∙ cell.live.in_use in
+    let same = others.header m away used in
+    record {
+      live = record { in_use = used; valid = subst (λ (b : List ℕ). IsHeader b m) same cell.live.valid };
+      names = ap (λ (b : List ℕ). slice_get (blocks_named b) place) (sym same) ∙ cell.names;
+    }
+
 pub lost-unnamed : (old new : Volume) (n place lbn : ℕ) → IsSoundVolume old → KeepsOtherSlots n old.table new.table → IsCell old.table n place lbn
     → ((i : ℕ) → ¬ IsCell new.table n i lbn) → ¬ IsNamed new.table lbn
 lost-unnamed old new n place lbn sound others was gone named = elim (cases_eq named.header n) [
   | inl here ↦ gone named.place (subst (λ (m : ℕ). IsCell new.table m named.place lbn) here named.cell)
-  | inr away ↦
-      let used = sym (others.in_use named.header away) ∙ named.cell.live.in_use in
-      let same = others.header named.header away used in
-      let cell : IsCell old.table named.header named.place lbn = record {
-        live = record { in_use = used; valid = subst (λ (b : List ℕ). IsHeader b named.header) same named.cell.live.valid };
-        names = ap (λ (b : List ℕ). slice_get (blocks_named b) named.place) (sym same) ∙ named.cell.names;
-      } in
-      away (sound.apart named.header named.place n place lbn cell was).0
+  | inr away ↦ away (sound.apart named.header named.place n place lbn (cell-was old.table new.table n named.header named.place lbn others away named.cell) was).0
 ]
+
+pub part-spare : (v : Volume) (lbn count from some : ℕ) → AreSpare v lbn count → lbn ≤ from → from + some ≤ lbn + count → AreSpare v from some
+part-spare v lbn count from some spare low high = record {
+  inside = omega (arith, high, spare.inside);
+  used = λ k above below. spare.used k (omega (arith, low, above)) (omega (arith, high, below));
+  unnamed = λ k above below. spare.unnamed k (omega (arith, low, above)) (omega (arith, high, below));
+}
+
+pub spare-stay : (old new : Image) (home : HomeFields) (lbn count : ℕ) → KeepsVolume home old new → AreSpare (volume_of old home) lbn count → AreSpare (volume_of new home) lbn count
+spare-stay old new home lbn count keeps spare = subst (λ (v : Volume). AreSpare v lbn count) (sym keeps.volume) spare
+
+pub other-spare : (old new : Image) (home : HomeFields) (n lbn count : ℕ) → KeepsButSlot n home old new → AreSpare (volume_of old home) lbn count
+    → ((place k : ℕ) → lbn ≤ k → k < lbn + count → ¬ IsCell (table_of new home) n place k) → AreSpare (volume_of new home) lbn count
+unfolding volume_of
+other-spare old new home n lbn count slot spare none = subst (λ (v : Volume). AreSpare v lbn count) (sym slot.volume) (record {
+  inside = spare.inside;
+  used = spare.used;
+  unnamed = λ k low high named. elim (cases_eq named.header n) [
+    | inl here ↦ none named.place k low high (subst (λ (m : ℕ). IsCell (table_of new home) m named.place k) here named.cell)
+    | inr away ↦ spare.unnamed k low high (record {
+      header = named.header;
+      place = named.place;
+      cell = cell-was (table_of old home) (table_of new home) n named.header named.place k slot.others away named.cell;
+    })
+  ];
+})
+
+pub unentered-spare : (old new : Image) (home : HomeFields) (n lbn count : ℕ) → KeepsButSlot n home old new → AreSpare (volume_of old home) lbn count
+    → (table_of new home).in_use n ≡ false → AreSpare (volume_of new home) lbn count
+unentered-spare old new home n lbn count slot spare unused =
+    other-spare old new home n lbn count slot spare (λ place k low high cell. let used = sym unused ∙ cell.live.in_use in cc)

@@ -6,10 +6,11 @@ use Rattle.f11_bits.specs.Bitmap.{is_free, Marks}
 use Rattle.f11_dev.specs.Image.{Image}
 use Rattle.f11_home.specs.Home.{HomeFields}
 use Rattle.f11_index.specs.HeaderBlock.{blocks_named}
-use Rattle.f11_index.specs.Table.{IsLive}
+use Rattle.f11_index.specs.Table.{table_of, IsLive}
 use Rattle.f11_vfy.specs.Sound.{IsSoundVolume, HasSoundVolume}
 use Rattle.f11_vfy.specs.Space.{storage_bitmap}
 use Rattle.f11_vfy.specs.Volume.{Volume, volume_of, IsCell, IsNamed}
+use Rattle.f11_writes.specs.Kept.{KeepsVolume, KeepsButSlot}
 use Rattle.f11_writes.specs.OtherSlots.{KeepsOtherSlots}
 use Rattle.f11_writes.specs.Volumes.{MayName}
 
@@ -53,3 +54,25 @@ abbrev pub LostIsUnnamed : Type 0
 LostIsUnnamed =
     (old new : Volume) (n place lbn : ℕ) → IsSoundVolume old → KeepsOtherSlots n old.table new.table → IsCell old.table n place lbn →
     ((i : ℕ) → ¬ IsCell new.table n i lbn) → ¬ IsNamed new.table lbn
+
+-- some of spare blocks are spare
+abbrev pub PartIsSpare : Type 0
+PartIsSpare =
+    (v : Volume) (lbn count from some : ℕ) → AreSpare v lbn count → lbn ≤ from → from + some ≤ lbn + count → AreSpare v from some
+
+-- spare blocks are spare still where a volume is as it was
+abbrev pub SpareStay : Type 0
+SpareStay =
+    (old new : Image) (home : HomeFields) (lbn count : ℕ) → KeepsVolume home old new → AreSpare (volume_of old home) lbn count →
+    AreSpare (volume_of new home) lbn count
+
+-- and where a slot was written whose header names none of them, as one does that isn't in use
+abbrev pub OtherSpareStay : Type 0
+OtherSpareStay =
+    (old new : Image) (home : HomeFields) (n lbn count : ℕ) → KeepsButSlot n home old new → AreSpare (volume_of old home) lbn count →
+    ((place k : ℕ) → lbn ≤ k → k < lbn + count → ¬ IsCell (table_of new home) n place k) → AreSpare (volume_of new home) lbn count
+
+abbrev pub SpareStayUnentered : Type 0
+SpareStayUnentered =
+    (old new : Image) (home : HomeFields) (n lbn count : ℕ) → KeepsButSlot n home old new → AreSpare (volume_of old home) lbn count →
+    (table_of new home).in_use n ≡ false → AreSpare (volume_of new home) lbn count

@@ -67,6 +67,14 @@ pub fn unnamed_blocks()
     ensures lost { names.LostIsUnnamed }
 {}
 
+/// Spare blocks, in use and named by no header, which are spare still.
+pub fn spare_blocks()
+    ensures part { names.PartIsSpare }
+    ensures stay { names.SpareStay }
+    ensures others { names.OtherSpareStay }
+    ensures unentered { names.SpareStayUnentered }
+{}
+
 /// The blocks that a header may name.
 pub fn names()
     ensures spare { names.SpareMayBeNamed }
