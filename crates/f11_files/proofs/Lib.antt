@@ -6,6 +6,7 @@ pub mod NamedLemmas
 pub mod LocateLemmas
 pub mod WriteLemmas
 pub mod BlockLemmas
+pub mod AlterLemmas
 pub mod StoreLemmas
 pub mod SlotLemmas
 pub mod InstanceLemmas

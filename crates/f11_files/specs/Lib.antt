@@ -12,3 +12,4 @@ pub mod Blocks
 pub mod Length
 pub mod FieldLaws
 pub mod NewFileLaws
+pub mod Fields

@@ -1,0 +1,38 @@
+use Rattle.std.proofs.Common.{length, sym, ap}
+use Rattle.f11_dev.specs.Image.{Image}
+use Rattle.f11_index.proofs.InUseLemmas.{in_use-some, in_use-slot, header-within}
+use Rattle.f11_store.specs.Changes.{with_replacement}
+use Rattle.f11_files.specs.Structure.{index_in}
+use Rattle.f11_files.proofs.AlterLemmas.{alters, altered-stays, fails-alter, fails-altered}
+use Rattle.f11_files.proofs.structure.Structure.write_attr.Goals as goal
+
+pub lbn_of_header-requires-clause-slot : goal.lbn_of_header-requires-clause-slot
+lbn_of_header-requires-clause-slot g c = in_use-slot (index_in c.args.self.now) c.args.f.number c.in_ok-read_first.ensures.found.holds.header.in_use
+
+pub write-requires : goal.write-requires
+write-requires g c =
+    let found = c.in_ok-read_first.ensures.found in
+    let index = index_in c.args.self.now in
+    let in_use = found.holds.header.in_use in
+    rw (c.lbn_of_header.ensures, ap (λ (i : Image). length i) found.looked.image)
+    (header-within index c.args.f.number _ c.requires.is_for.lies.index (in_use-some index c.args.f.number in_use) (in_use-slot index c.args.f.number in_use))
+
+pub returns-in-Ok-clause-altered : goal.returns-in-Ok-clause-altered
+returns-in-Ok-clause-altered g c =
+    alters c.args.self.now c.args.f (with_replacement c.args.change.now) _ _ _ _ _ c.requires.is_for c.requires.own c.in_ok-read_first.ensures.found c.replace.ensures c.lbn_of_header.ensures _
+    c.in-Ok.ensures.writes.ok
+
+pub returns-in-Ok-clause-stays : goal.returns-in-Ok-clause-stays
+returns-in-Ok-clause-stays g c =
+    altered-stays c.args.self.now c.args.f (with_replacement c.args.change.now) _ _ _ _ _ c.requires.is_for c.requires.own c.in_ok-read_first.ensures.found c.replace.ensures c.lbn_of_header.ensures _
+    c.in-Ok.ensures.writes.ok
+
+pub returns-in-Err-clause-refused : goal.returns-in-Err-clause-refused
+returns-in-Err-clause-refused g c =
+    fails-alter c.args.self.now c.args.f (with_replacement c.args.change.now) _ _ _ _ _ c.requires.is_for c.requires.own c.in_ok-read_first.ensures.found c.replace.ensures c.lbn_of_header.ensures _
+    c.in-Err.ensures.writes.err
+
+pub returns-in-Err-clause-stays : goal.returns-in-Err-clause-stays
+returns-in-Err-clause-stays g c =
+    fails-altered c.args.self.now c.args.f (with_replacement c.args.change.now) _ _ _ _ _ c.requires.is_for c.requires.own c.in_ok-read_first.ensures.found c.replace.ensures c.lbn_of_header.ensures _
+    c.in-Err.ensures.writes.err

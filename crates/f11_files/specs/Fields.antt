@@ -1,0 +1,23 @@
+-- What the calls on a file's attributes do.
+use Rattle.std.specs.Prelude.{◌≡◌, Bool}
+use Rattle.f11_dev.specs.Disk.{Disk}
+use Rattle.f11_home.specs.Home.{HomeFields}
+use Rattle.f11_store.specs.Changes.{with_change}
+use Rattle.f11_store.specs.File.{File}
+use Rattle.f11_store.specs.Lags.{one_part, file_changes}
+use Rattle.f11_store.specs.declared.files.FileId.{FileId}
+use Rattle.f11_store.specs.declared.refusals.Refusal.{Refusal}
+use Rattle.f11_files.specs.Answers.{Does, FailsToWrite}
+use Rattle.f11_files.specs.Operations.{file_causes}
+use Rattle.f11_files.specs.StoreOf.{store_of}
+
+-- A file was changed so, and all else is as it was: its first header was read and written.
+abbrev pub Alters : (File → File) → HomeFields → FileId → Disk → Disk → Type 0
+Alters change home f old new =
+    let s = store_of old.image home in
+    Does (file_causes s f) (one_part f.number (file_changes f.number change)) 2 (λ t. t ≡ with_change s f.number change) home old new
+
+-- It was not.
+abbrev pub FailsToAlter : Bool → (File → File) → HomeFields → FileId → Refusal → Disk → Disk → Type 0
+FailsToAlter failed change home f refusal old new =
+    FailsToWrite failed (file_causes (store_of old.image home) f) 2 (one_part f.number (file_changes f.number change)) home refusal old new
