@@ -5,3 +5,4 @@ pub mod FieldLemmas
 pub mod FileLemmas
 pub mod GrowthLemmas
 pub mod NewFileLemmas
+pub mod FreshStoreLemmas

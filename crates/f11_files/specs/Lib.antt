@@ -4,3 +4,4 @@ pub mod SlotLaws
 pub mod FileLaws
 pub mod FieldLaws
 pub mod NewFileLaws
+pub mod FreshStore
