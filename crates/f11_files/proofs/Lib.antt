@@ -14,3 +14,4 @@ pub mod FieldLemmas
 pub mod FileLemmas
 pub mod GrowthLemmas
 pub mod NewFileLemmas
+pub mod FreshStoreLemmas

@@ -13,3 +13,4 @@ pub mod Length
 pub mod FieldLaws
 pub mod NewFileLaws
 pub mod Fields
+pub mod FreshStore

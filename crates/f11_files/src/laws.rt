@@ -1,6 +1,7 @@
 //! Laws of the store of an image, each the contract of a function that does nothing.
 ghost use Rattle.f11_files.specs.FieldLaws as fields;
 ghost use Rattle.f11_files.specs.FileLaws as files;
+ghost use Rattle.f11_files.specs.FreshStore as fresh;
 ghost use Rattle.f11_files.specs.NewFileLaws as new;
 ghost use Rattle.f11_files.specs.SlotLaws as slots;
 ghost use Rattle.f11_files.specs.StoreLaws as laws;
@@ -73,4 +74,9 @@ pub fn new_files()
     ensures free { new.FreeSlotsAreStored }
     ensures written { new.NewFirstMayBeWritten }
     ensures entered { new.NewFileMayBeEntered }
+{}
+
+/// The store of a fresh volume.
+pub fn fresh_volumes()
+    ensures { fresh.FreshIsStored }
 {}

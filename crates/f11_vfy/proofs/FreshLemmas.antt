@@ -1,7 +1,8 @@
 -- A fresh volume is sound.
-use Rattle.std.proofs.Common.{◌≡◌, ◌<◌, ◌≤◌, ◌+◌, ◌-◌, ◌*◌, ◌/◌, ◌%◌, ◌⊎◌, ℕ, zero, suc, true, false, List, [], ◌∷◌, Some, refl, ap, sym, subst, ◌∙◌, inl, inr, arith, length, slice_index}
+use Rattle.std.proofs.Common.{◌≡◌, ◌<◌, ◌≤◌, ◌+◌, ◌-◌, ◌*◌, ◌/◌, ◌%◌, ◌⊎◌, ℕ, zero, suc, Bool, true, false, List, [], ◌∷◌, Some, refl, ap, sym, subst, ◌∙◌, inl, inr, arith, length, slice_index}
 use Rattle.std.specs.Prelude.{min, take, drop, slice_index_or, slice_set, All, nat_lt, nat_le, ◌&&◌}
 use Rattle.std.specs.List.{slice_get, range_with_len}
+use Rattle.std.proofs.Math.Bool.{and-true}
 use Rattle.std.proofs.lemmas.Bool.{cases_lt, and_from, and_parts, lt-ltb, le-leb, ltb-true, leb-true, false_from_ne_true}
 use Rattle.std.proofs.lemmas.List.{append-nil, get_or_past, get_or-set_same, length-set, length-replicate}
 use Rattle.std.proofs.lemmas.List.FromFn.{get_or-map-range_with_len, length-map-range_with_len, length-range_with_len, get_or-range_with_len}
@@ -64,7 +65,7 @@ module _ (image : Image) (l : Layout) (is : IsImage image) (room : l.blocks ≤ 
   home-block : image_block image 1 ≡ fresh_home l
   home-block = (fresh 1 (omega arith)).home refl
 
-  bitmap-size : home.index_blocks ≡ I
+  pub bitmap-size : home.index_blocks ≡ I
   bitmap-size = fresh-index_blocks l (omega (arith, l.valid.few_files))
 
   bitmap-lbn : home.index_lbn ≡ 2
@@ -126,18 +127,18 @@ module _ (image : Image) (l : Layout) (is : IsImage image) (room : l.blocks ≤ 
       ∙ ap (λ (k : ℕ). range_with_len k (min (min (4096 * I) 65535) (C - min (2 + I) C))) (let at : 0 + min (2 + I) C ≡ F = omega arith in at)
       ∙ ap (range_with_len F) (let size : min (min (4096 * I) 65535) (C - min (2 + I) C) ≡ l.slots = omega (arith, l.valid.few_slots, l.valid.some_files) in size)
 
-  slots-are : slots index ≡ l.slots
+  pub slots-are : slots index ≡ l.slots
   slots-are = ap length headers-are ∙ length-range_with_len F l.slots
 
   slot-lbn : (n : ℕ) → 0 < n → n ≤ l.slots → header_lbn index n ≡ F + (n - 1)
   unfolding header_lbn
   slot-lbn n some few = ap (λ (xs : List ℕ). slice_index xs (n - 1)) headers-are ∙ get_or-range_with_len F l.slots (n - 1) 0 (omega (arith, some, few))
 
-  header-at : (n : ℕ) → 0 < n → n ≤ l.slots → t.header n ≡ image_block image (F + (n - 1))
+  pub header-at : (n : ℕ) → 0 < n → n ≤ l.slots → t.header n ≡ image_block image (F + (n - 1))
   unfolding table_in
   header-at n some few = ap (image_block image) (slot-lbn n some few)
 
-  own : (n : ℕ) → 0 < n → n ≤ 5 → IsFreshHeader l n (t.header n)
+  pub own : (n : ℕ) → 0 < n → n ≤ 5 → IsFreshHeader l n (t.header n)
   own n some few = subst (λ (b : List ℕ). IsFreshHeader l n b) (sym (header-at n some (omega (arith, few, l.valid.some_slots)))) (own-block n some few)
 
   -- which slots are in use
@@ -166,7 +167,7 @@ module _ (image : Image) (l : Layout) (is : IsImage image) (room : l.blocks ≤ 
     | inr behind ↦ bit-of n _ (bitmap-past ((n - 1) / 4096) behind) ∙ past-bit ((n - 1) % 4096)
   ]
 
-  used-own : (n : ℕ) → t.in_use n ≡ true → (0 < n) × (n ≤ 5)
+  pub used-own : (n : ℕ) → t.in_use n ≡ true → (0 < n) × (n ≤ 5)
   unfolding table_in is_in_use
   used-own n used = (
     in_use-some index n used,
@@ -179,7 +180,7 @@ module _ (image : Image) (l : Layout) (is : IsImage image) (room : l.blocks ≤ 
       both_ways' : false ≡ true → ⊥
       both_ways' is = cc
 
-  own-in_use : (n : ℕ) → 0 < n → n ≤ 5 → t.in_use n ≡ true
+  pub own-in_use : (n : ℕ) → 0 < n → n ≤ 5 → t.in_use n ≡ true
   unfolding table_in is_in_use
   own-in_use n some few = and_from _ _ (lt-ltb 0 n some) (and_from _ _ (le-leb n (slots index) (omega (arith, few, slots-are, l.valid.some_slots))) (own-used n some few))
 
@@ -190,7 +191,7 @@ module _ (image : Image) (l : Layout) (is : IsImage image) (room : l.blocks ≤ 
   ]
 
   -- the files
-  is-file : (n : ℕ) → 0 < n → n ≤ 5 → IsFile t n
+  pub is-file : (n : ℕ) → 0 < n → n ≤ 5 → IsFile t n
   is-file n some few = record { live = record { in_use = own-in_use n some few; valid = (own n some few).valid }; first = first-segment n (t.header n) (own n some few) }
 
   no-next : (n m : ℕ) → ¬ IsNext t n m
@@ -203,7 +204,7 @@ module _ (image : Image) (l : Layout) (is : IsImage image) (room : l.blocks ≤ 
   one-header f n (first file) = refl
   one-header f n (next of goes) = absurd (no-next _ n goes)
 
-  whole : (n : ℕ) → 0 < n → n ≤ 5 → IsWholeFile t n
+  pub whole : (n : ℕ) → 0 < n → n ≤ 5 → IsWholeFile t n
   whole n some few = record {
     file = is-file n some few;
     links = λ m of. inl (subst (λ (k : ℕ). (link_of (t.header k)).number ≡ 0) (sym (one-header n m of)) (unlinked n (t.header n) (own n some few)));
@@ -234,12 +235,12 @@ module _ (image : Image) (l : Layout) (is : IsImage image) (room : l.blocks ≤ 
   }
 
   -- the blocks of a file with one header
-  own-headers : (n : ℕ) → 0 < n → n ≤ 5 → headers_of t n ≡ n ∷ []
+  pub own-headers : (n : ℕ) → 0 < n → n ≤ 5 → headers_of t n ≡ n ∷ []
   unfolding headers_from
   own-headers zero some few = absurd (omega (arith, some))
   own-headers (suc n) some few = ap (λ (k : ℕ). suc n ∷ headers_from 255 t k) (unlinked (suc n) (t.header (suc n)) (own (suc n) some few))
 
-  own-blocks : (n : ℕ) → 0 < n → n ≤ 5 → file_blocks t n ≡ range_with_len (own_file l n).first (own_file l n).count
+  pub own-blocks : (n : ℕ) → 0 < n → n ≤ 5 → file_blocks t n ≡ range_with_len (own_file l n).first (own_file l n).count
   unfolding file_blocks
   own-blocks n some few = ap (blocks_by t) (own-headers n some few) ∙ append-nil (blocks_named (t.header n)) ∙ named n (t.header n) (own n some few)
 
@@ -293,11 +294,11 @@ module _ (image : Image) (l : Layout) (is : IsImage image) (room : l.blocks ≤ 
   abbrev v : Volume
   v = volume_of image home
 
-  volume-size : (storage_bitmap image home).size ≡ l.blocks
+  pub volume-size : (storage_bitmap image home).size ≡ l.blocks
   unfolding storage_bitmap
   volume-size = ap stated_size control-is ∙ size-is
 
-  places-are : (storage_bitmap image home).places ≡ range_with_len (C + 1) B
+  pub places-are : (storage_bitmap image home).places ≡ range_with_len (C + 1) B
   unfolding storage_bitmap
   places-are = ap (λ (c : List ℕ). take (bitmap_count c) (drop 1 (bitmap_file t))) control-is ∙ ap (λ (k : ℕ). take k (drop 1 (bitmap_file t))) count-is
       ∙ ap (λ (xs : List ℕ). take B (drop 1 xs)) bitmap-is
@@ -305,15 +306,25 @@ module _ (image : Image) (l : Layout) (is : IsImage image) (room : l.blocks ≤ 
       ∙ ap (λ (from : ℕ). range_with_len from (min B (1 + B - min 1 (1 + B)))) (let at : C + min 1 (1 + B) ≡ C + 1 = omega arith in at)
       ∙ ap (range_with_len (C + 1)) (let size : min B (1 + B - min 1 (1 + B)) ≡ B = omega arith in size)
 
-  free-unused : (lbn : ℕ) → is_free image (storage_bitmap image home) lbn ≡ true → used_by l ≤ lbn
+  -- the blocks behind the front are free
+  pub free-are : (lbn : ℕ) → lbn < l.blocks → is_free image (storage_bitmap image home) lbn ≡ nat_le (used_by l) lbn
   unfolding is_free bitmap_bit
-  free-unused lbn free =
-      let parts : (nat_lt lbn (storage_bitmap image home).size ≡ true) × (bit (image_block image (slice_index (storage_bitmap image home).places (lbn / 4096))) (lbn % 4096) ≡ true) = and_parts _ _ free in
-      let inside : lbn < l.blocks = omega (arith, ltb-true lbn (storage_bitmap image home).size parts.0, volume-size) in
+  free-are lbn inside =
       let place : slice_index (storage_bitmap image home).places (lbn / 4096) ≡ C + 1 + lbn / 4096 = ap (λ (xs : List ℕ). slice_index xs (lbn / 4096)) places-are ∙ get_or-range_with_len (C + 1) B (lbn / 4096) 0 (omega (arith, inside)) in
       let block = (fresh (C + 1 + lbn / 4096) (omega (arith, inside))).bitmap (lbn / 4096) (omega (arith, inside)) refl in
-      let is : (nat_le (used_by l) (4096 * (lbn / 4096) + lbn % 4096) && nat_lt (4096 * (lbn / 4096) + lbn % 4096) l.blocks) ≡ true = sym (block.bits (lbn % 4096) (omega arith)) ∙ ap (λ (k : ℕ). bit (image_block image k) (lbn % 4096)) (sym place) ∙ parts.1 in
-      let low = leb-true (used_by l) (4096 * (lbn / 4096) + lbn % 4096) (and_parts _ _ is).0 in omega (arith, low)
+      let there : bit (image_block image (slice_index (storage_bitmap image home).places (lbn / 4096))) (lbn % 4096) ≡ (nat_le (used_by l) (4096 * (lbn / 4096) + lbn % 4096) && nat_lt (4096 * (lbn / 4096) + lbn % 4096) l.blocks) =
+      ap (λ (k : ℕ). bit (image_block image k) (lbn % 4096)) place ∙ block.bits (lbn % 4096) (omega arith) in
+      let same : 4096 * (lbn / 4096) + lbn % 4096 ≡ lbn = omega arith in
+      ap (λ (b : Bool). b && bit (image_block image (slice_index (storage_bitmap image home).places (lbn / 4096))) (lbn % 4096)) (lt-ltb lbn (storage_bitmap image home).size (omega (arith, inside, volume-size)))
+      ∙ there ∙ ap (λ (k : ℕ). nat_le (used_by l) k && nat_lt k l.blocks) same
+      ∙ ap (λ (b : Bool). nat_le (used_by l) lbn && b) (lt-ltb lbn l.blocks inside) ∙ and-true (nat_le (used_by l) lbn)
+
+  pub free-inside : (lbn : ℕ) → is_free image (storage_bitmap image home) lbn ≡ true → lbn < l.blocks
+  unfolding is_free
+  free-inside lbn free = omega (arith, ltb-true lbn (storage_bitmap image home).size (and_parts _ _ free).0, volume-size)
+
+  free-unused : (lbn : ℕ) → is_free image (storage_bitmap image home) lbn ≡ true → used_by l ≤ lbn
+  free-unused lbn free = leb-true (used_by l) lbn (sym (free-are lbn (free-inside lbn free)) ∙ free)
 
   -- each block that is named, by the file whose it is
   abbrev IsOwned : ℕ → ℕ → ℕ → Type 0
