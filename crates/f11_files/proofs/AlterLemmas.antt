@@ -1,5 +1,5 @@
 -- A file's first header that is read, changed and written.
-use Rattle.std.proofs.Common.{◌≡◌, ◌⊎◌, ◌≤◌, ℕ, true, false, IsTrue, List, sym, ap, subst, ◌∙◌}
+use Rattle.std.proofs.Common.{◌≡◌, ◌⊎◌, ◌≤◌, ℕ, true, false, IsTrue, List, refl, sym, ap, subst, ◌∙◌}
 use Rattle.std.proofs.Math.ListN.{set}
 use Rattle.f11_bits.specs.Bitmap.{free_blocks, count_below}
 use Rattle.f11_dev.specs.Disk.{Disk, with_transfer, with_block_at}
@@ -15,7 +15,7 @@ use Rattle.f11_store.specs.Store.{Store}
 use Rattle.f11_store.specs.declared.files.FileId.{FileId}
 use Rattle.f11_store.specs.declared.refusals.Refusal.TheVariants.{DeviceFault}
 use Rattle.f11_store.proofs.LagLaws.{change_lags}
-use Rattle.f11_vfy.specs.Volume.{Volume, volume_of}
+use Rattle.f11_vfy.specs.Volume.{Volume}
 use Rattle.f11_writes.specs.Kept.{KeepsButSlot, WritesHeader}
 use Rattle.f11_files.specs.Answers.{Meanwhile}
 use Rattle.f11_files.specs.FieldLaws.{SaysBut, ChangesFile}
@@ -94,4 +94,4 @@ module _ (s : Structure) (f : FileId) (change : File → File) (was block : List
     }
 
     pub fails-altered : (new ≡ with_transfer false now) ⊎ (new ≡ with_transfer false (with_block_at lbn block now)) → StaysFor true s s new
-    fails-altered is = failed-stays s work old new for (fails-alter is).writes.went
+    fails-altered is = failed-stays s s work old new for refl (fails-alter is).writes.went

@@ -1,19 +1,17 @@
 -- A block of a file that is written.
-use Rattle.std.proofs.Common.{◌≡◌, ◌⊎◌, ◌+◌, ◌-◌, ◌≤◌, ℕ, true, false, IsTrue, List, Some, refl, sym, ap, subst, ◌∙◌}
+use Rattle.std.proofs.Common.{◌≡◌, ◌⊎◌, ◌≤◌, ℕ, true, false, IsTrue, List, refl, sym, ap, subst, ◌∙◌}
 use Rattle.std.proofs.Math.ListN.{set}
 use Rattle.f11_dev.specs.Disk.{Disk, with_transfer, with_block_at}
 use Rattle.f11_dev.specs.Image.{Image}
 use Rattle.f11_dev.proofs.WentLemmas.{went_write, went_failed_write}
-use Rattle.f11_store.specs.Cost.{header_count}
 use Rattle.f11_store.specs.Changes.{with_block, with_change}
-use Rattle.f11_store.specs.Store.{file_named}
 use Rattle.f11_store.specs.declared.files.FileId.{FileId}
 use Rattle.f11_store.specs.declared.refusals.Refusal.TheVariants.{DeviceFault}
 use Rattle.f11_store.specs.Lags.{LagsBy}
 use Rattle.f11_store.proofs.LagLaws.{change_lags}
 use Rattle.f11_writes.specs.Kept.{WritesBlock}
 use Rattle.f11_writes.proofs.OtherLemmas.{file-keeps}
-use Rattle.f11_files.specs.Answers.{Meanwhile, IsUnderWay, Writes}
+use Rattle.f11_files.specs.Answers.{Meanwhile}
 use Rattle.f11_files.specs.Blocks.{FindsBlock, StoresBlock, FailsToStore, block_work}
 use Rattle.f11_files.specs.StoreOf.{store_of}
 use Rattle.f11_files.specs.Structure.{home_of, store_on, Keeps, IsFor, StaysFor}
@@ -66,4 +64,4 @@ module _ (s : Structure) (f : FileId) (vbn lbn : ℕ) (block : List ℕ) (old no
     }
 
     pub fails-stays : (new ≡ with_transfer false now) ⊎ (new ≡ with_transfer false (with_block_at lbn block now)) → StaysFor true s s new
-    fails-stays is = failed-stays s (block_work f vbn block) old new for (fails-store is).writes.went
+    fails-stays is = failed-stays s s (block_work f vbn block) old new for refl (fails-store is).writes.went

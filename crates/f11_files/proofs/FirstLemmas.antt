@@ -1,20 +1,18 @@
 -- A file's first header, read or not.
-use Rattle.std.proofs.Common.{◌≡◌, ◌⊎◌, ◌<◌, ℕ, true, false, IsTrue, List, length, Some, inl, inr, refl, sym, ap, subst, ◌∙◌, arith}
+use Rattle.std.proofs.Common.{◌≡◌, ◌⊎◌, ℕ, true, false, IsTrue, List, Some, inl, inr, sym, ap, subst, ◌∙◌}
 use Rattle.std.specs.List.{slice_get}
 use Rattle.std.proofs.lemmas.Bool.{both_ways}
 use Rattle.f11_dev.specs.Disk.{Disk, with_transfer}
-use Rattle.f11_dev.specs.Image.{Image}
 use Rattle.f11_dev.proofs.LookedLemmas.{looked_read}
-use Rattle.f11_header.specs.Fields.{file_sequence, map_area}
+use Rattle.f11_header.specs.Fields.{map_area}
 use Rattle.f11_header.specs.MapFields.{segment}
 use Rattle.f11_header.specs.Header.{IsHeader, IsDead}
 use Rattle.f11_index.specs.HeaderBlock.{segment_number}
-use Rattle.f11_index.specs.IndexFile.{Index, index_of, is_in_use, header_lbn}
+use Rattle.f11_index.specs.IndexFile.{Index, is_in_use, header_lbn}
 use Rattle.f11_index.specs.Table.{Table, table_in, table_of}
-use Rattle.f11_chain.specs.Calls.{HoldsHeader, table}
+use Rattle.f11_chain.specs.Calls.{table}
 use Rattle.f11_chain.proofs.StepLemmas.{table-in_use, table-header}
 use Rattle.f11_store.specs.declared.files.FileId.{FileId}
-use Rattle.f11_vfy.specs.Sound.{IsSoundVolume, HasSoundVolume}
 use Rattle.f11_vfy.specs.Volume.{volume_of}
 use Rattle.f11_files.specs.First.{IsFirstOf, IsFileOf, FindsFile}
 use Rattle.f11_files.specs.Structure.{index_in, home_of, IsFor}

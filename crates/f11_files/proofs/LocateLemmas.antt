@@ -1,6 +1,5 @@
 -- A walk along a file's headers, in the words of the store.
-use Rattle.std.proofs.Common.{◌≡◌, ◌≢◌, ◌+◌, ◌-◌, ◌<◌, ◌≤◌, ℕ, Bool, true, false, cond, IsTrue, List, [], ◌∷◌, length, map, max, Option, Some, None, option_map, Result, Err, refl, sym, ap, subst, ◌∙◌, ltb, arith}
-use Rattle.std.specs.Prelude.{IsErrOf}
+use Rattle.std.proofs.Common.{◌≡◌, ◌-◌, ◌<◌, ◌≤◌, ℕ, Bool, false, cond, IsTrue, List, length, Some, None, option_map, refl, sym, ap, subst, ◌∙◌, ltb, arith}
 use Rattle.std.proofs.lemmas.Bool.{lt-ltb, le-ltb}
 use Rattle.std.proofs.lemmas.List.{length-map}
 use Rattle.std.specs.List.{slice_get}
@@ -8,7 +7,6 @@ use Rattle.std.proofs.lemmas.Option.{slice_get_within, slice_get-map, get_or_fro
 use Rattle.f11_bytes.specs.Block.{zero_block}
 use Rattle.f11_dev.specs.Disk.{Disk}
 use Rattle.f11_dev.specs.Image.{Image}
-use Rattle.f11_home.specs.Home.{HomeFields}
 use Rattle.f11_index.specs.Headers.{headers_of}
 use Rattle.f11_index.specs.IndexFile.{Index}
 use Rattle.f11_index.specs.Table.{Table, table_of, IsFile, IsWholeFile}
@@ -32,10 +30,9 @@ use Rattle.f11_files.specs.Blocks.{FindsBlock}
 use Rattle.f11_files.specs.First.{FindsFile, HoldsFile}
 use Rattle.f11_files.specs.Length.{CountsBlocks}
 use Rattle.f11_files.specs.Operations.{file_causes, length_causes}
-use Rattle.f11_files.specs.StoreOf.{as_seen}
 use Rattle.f11_files.specs.Structure.{index_in, home_of, store_on, IsFor}
 use Rattle.f11_files.specs.declared.structure.Structure.{Structure}
-use Rattle.f11_files.proofs.AnswerLemmas.{right-cause, right-fault, right-damaged, reads-looked}
+use Rattle.f11_files.proofs.AnswerLemmas.{right-cause, right-fault, right-damaged}
 use Rattle.f11_files.proofs.FirstLemmas.{table-of}
 use Rattle.f11_files.proofs.NamedLemmas.{held-named, is-file, found-named, no-file-cause, seen-same}
 use Rattle.f11_files.proofs.StoreLemmas.{seen-own}
@@ -107,7 +104,7 @@ module _ (s : Structure) (f : FileId) (block : List ℕ) (old new : Disk) (for :
   pub fails-end : FindsEnd (index_in s) f.number 0 vbn old new → Fails EndOfFile
   fails-end finds = record {
     right = right-cause _ _ _ (λ is. omega (arith, is)) (λ is. omega (arith, is))
-    (λ honest. length-first s f block old for holds honest own vbn ∙ ap (λ (b : Bool). cond b (Some EndOfFile) None) (lt-ltb _ _ (finds.fewer honest)));
+        (λ honest. length-first s f block old for holds honest own vbn ∙ ap (λ (b : Bool). cond b (Some EndOfFile) None) (lt-ltb _ _ (finds.fewer honest)));
     reads = reads-along s f block old new 0 for holds finds.looked;
   }
 

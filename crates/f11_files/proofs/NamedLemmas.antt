@@ -1,7 +1,7 @@
 -- The file of an identification in the store of a disk.
-use Rattle.std.proofs.Common.{◌≡◌, ◌⊎◌, ◌≢◌, ℕ, Bool, true, false, cond, IsTrue, List, [], Option, Some, None, is_none, unwrap_or, inl, inr, refl, sym, ap, subst, ◌∙◌, eqb, leb, arith}
+use Rattle.std.proofs.Common.{◌≡◌, ◌≢◌, ℕ, Bool, true, false, cond, IsTrue, List, [], Option, Some, None, is_none, unwrap_or, inl, inr, refl, sym, ap, subst, ◌∙◌, leb, arith}
 use Rattle.std.specs.Option.{option_and_then}
-use Rattle.std.proofs.lemmas.Bool.{cases_eq, eq-eqb, ne_eqb}
+use Rattle.std.proofs.lemmas.Bool.{eq-eqb, ne_eqb}
 use Rattle.std.specs.List.{slice_get}
 use Rattle.f11_dev.specs.Disk.{Disk, with_transfer}
 use Rattle.f11_dev.proofs.LookedLemmas.{looked_read}
@@ -23,7 +23,7 @@ use Rattle.f11_files.specs.First.{IsFileOf, IsOther, HoldsFile}
 use Rattle.f11_files.specs.StoreOf.{is_first, as_seen, file_at, store_of}
 use Rattle.f11_store.specs.declared.refusals.Refusal.{Refusal}
 use Rattle.f11_store.specs.declared.refusals.Refusal.TheVariants.{NoSuchFile}
-use Rattle.f11_files.specs.Answers.{IsRight, FailsToRead}
+use Rattle.f11_files.specs.Answers.{FailsToRead}
 use Rattle.f11_files.specs.Operations.{file_causes, attr_in, attr_of}
 use Rattle.f11_files.specs.Structure.{index_in, home_of, store_on, IsFor}
 use Rattle.f11_files.specs.declared.structure.Structure.{Structure}

@@ -1,5 +1,5 @@
 -- What is kept of an open volume, and the volume itself.
-use Rattle.std.proofs.Common.{◌≡◌, Bool, false, IsTrue, ℕ, length, Result, Ok, Err, refl, sym, ap, subst, ◌∙◌}
+use Rattle.std.proofs.Common.{◌≡◌, Bool, false, IsTrue, ℕ, length, Result, Ok, Err, sym, subst, ◌∙◌}
 use Rattle.std.specs.Prelude.{IfOk, IfErr}
 use Rattle.f11_dev.specs.Disk.{Disk}
 use Rattle.f11_dev.specs.Image.{Image, IsImage}
@@ -49,14 +49,14 @@ answered (Err y) P Q ok err done refused = refused y err
 
 -- what every value of the type says, where what is kept is for the disk
 pub record IsOpened (s : Structure) (failed : Bool) (disk : Disk) : Type 0 where
-  pub lies : Lies s (length disk.image)
+  pub lies : failed ≡ false → Lies s (length disk.image)
   pub accepted : IsTrue disk.honest → IsAccepted disk.image
   pub home : IsTrue disk.honest → HasNoOtherHome disk.image (home_of s)
   pub keeps : IsTrue disk.honest → failed ≡ false → Keeps s disk.image
 
 pub for-opened : (s : Structure) (failed : Bool) (disk : Disk) → IsImage disk.image → IsFor s disk → IsOpened s failed disk
 for-opened s failed disk image_is for = record {
-  lies = for.lies;
+  lies = λ _. for.lies;
   accepted = λ honest. opened-accepted disk.image (home_of s) image_is (for.sound honest);
   home = λ honest. opened-home disk.image (home_of s) (for.sound honest);
   keeps = λ honest _. for.keeps honest;

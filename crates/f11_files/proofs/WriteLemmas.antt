@@ -1,28 +1,26 @@
 -- What is kept of an open volume, where blocks are written.
 use Rattle.std.proofs.Common.{◌≡◌, ◌≢◌, ◌⊎◌, ◌+◌, ◌≤◌, ℕ, Bool, true, false, cond, IsTrue, List, length, Some, inl, inr, refl, sym, ap, subst, ◌∙◌, arith}
 use Rattle.std.proofs.lemmas.Bool.{cases_eq, lt-ltb, ne_eqb}
-use Rattle.f11_bits.specs.Bitmap.{Bitmap, free_blocks, count_below}
-use Rattle.f11_dev.specs.Disk.{Disk, with_transfer, with_block_at}
+use Rattle.f11_bits.specs.Bitmap.{free_blocks, count_below}
+use Rattle.f11_dev.specs.Disk.{Disk}
 use Rattle.f11_dev.specs.Image.{Image}
 use Rattle.f11_dev.specs.Looked.{Looked}
 use Rattle.f11_dev.specs.Went.{Went}
 use Rattle.f11_dev.proofs.LookedLemmas.{looked_none}
-use Rattle.f11_dev.proofs.WentLemmas.{went_looked, went_more, went_within, went_weaker, went_last, went_write, went_failed_write}
+use Rattle.f11_dev.proofs.WentLemmas.{went_looked, went_more, went_weaker, went_last}
 use Rattle.f11_home.specs.Home.{HomeFields}
 use Rattle.f11_store.specs.Causes.{Cause, first_of}
-use Rattle.f11_store.specs.Lags.{Work, LagsBy}
+use Rattle.f11_store.specs.Lags.{Work}
 use Rattle.f11_store.specs.Refusal.{refusal_number}
 use Rattle.f11_store.specs.declared.refusals.Refusal.{Refusal}
 use Rattle.f11_store.specs.declared.refusals.Refusal.TheVariants.{VolumeFailed}
 use Rattle.f11_vfy.specs.Sound.{HasSoundVolume}
-use Rattle.f11_vfy.specs.Space.{storage_bitmap}
-use Rattle.f11_vfy.specs.Volume.{Volume, volume_of}
+use Rattle.f11_vfy.specs.Volume.{Volume}
 use Rattle.f11_writes.specs.Kept.{KeepsVolume}
-use Rattle.f11_files.specs.Answers.{IsRight, Reads, Writes, FailsToRead, FailsToWrite, IsUnderWay, Meanwhile, is_grave, faults_of}
-use Rattle.f11_files.specs.StoreOf.{store_of}
-use Rattle.f11_files.specs.Structure.{index_in, bitmap_in, home_of, Lies, Keeps, IsFor, StaysFor}
+use Rattle.f11_files.specs.Answers.{Reads, Writes, FailsToRead, FailsToWrite, Meanwhile, is_grave, faults_of}
+use Rattle.f11_files.specs.Structure.{home_of, Lies, Keeps, IsFor, StaysFor}
 use Rattle.f11_files.specs.declared.structure.Structure.{Structure}
-use Rattle.f11_files.proofs.AnswerLemmas.{right-fault, right-more}
+use Rattle.f11_files.proofs.AnswerLemmas.{right-more}
 use Rattle.f11_files.proofs.StoreLemmas.{free-count}
 
 -- where headers, storage bitmap and free blocks stay, so does what is kept
@@ -41,12 +39,12 @@ sound-went work home old new sound went honest =
     let P : Image → Type 0 = λ image. IsTrue old.honest → HasSoundVolume image home in
     went_last P (went_weaker (Meanwhile work home old) P (λ image under sure. (under sure).sound) went) sound (sym went.honest ∙ honest)
 
--- where a call has failed the volume, no more is said
-pub failed-stays : (s : Structure) (work : Work) (old new : Disk) {most faults : ℕ} → IsFor s old → Went (Meanwhile work (home_of s) old) old new most faults → StaysFor true s s new
-failed-stays s work old new for went = record {
-  home = refl;
-  lies = subst (λ (n : ℕ). Lies s n) (sym went.size) for.lies;
-  sound = sound-went work (home_of s) old new for.sound went;
+-- where a call has failed the volume, no more is said of what is kept
+pub failed-stays : (s t : Structure) (work : Work) (old new : Disk) {most faults : ℕ} → IsFor s old → home_of t ≡ home_of s → Went (Meanwhile work (home_of s) old) old new most faults → StaysFor true s t new
+failed-stays s t work old new for home went = record {
+  home = home;
+  lies = λ not. absurd cc;
+  sound = λ honest. subst (HasSoundVolume new.image) (sym home) (sound-went work (home_of s) old new for.sound went honest);
   keeps = λ not. absurd cc;
 }
 
@@ -55,7 +53,7 @@ pub served-stays : (s : Structure) (work : Work) (old new : Disk) {most faults :
     → (IsTrue old.honest → Keeps s new.image) → StaysFor failed s s new
 served-stays s work old new failed for went keeps = record {
   home = refl;
-  lies = subst (λ (n : ℕ). Lies s n) (sym went.size) for.lies;
+  lies = λ _. subst (λ (n : ℕ). Lies s n) (sym went.size) for.lies;
   sound = sound-went work (home_of s) old new for.sound went;
   keeps = λ _ honest. keeps (sym went.honest ∙ honest);
 }
@@ -64,7 +62,7 @@ served-stays s work old new failed for went keeps = record {
 pub looked-stays : (s : Structure) (failed : Bool) (old new : Disk) {most faults : ℕ} → IsFor s old → Looked old new most faults → StaysFor failed s s new
 looked-stays s failed old new for looked = record {
   home = refl;
-  lies = subst (λ (i : Image). Lies s (length i)) (sym looked.image) for.lies;
+  lies = λ _. subst (λ (i : Image). Lies s (length i)) (sym looked.image) for.lies;
   sound = λ honest. subst (λ (i : Image). HasSoundVolume i (home_of s)) (sym looked.image) (for.sound (sym looked.honest ∙ honest));
   keeps = λ _ honest. subst (Keeps s) (sym looked.image) (for.keeps (sym looked.honest ∙ honest));
 }

@@ -1,5 +1,5 @@
 -- The operations on files in the words of the plain store: the causes against each, and what each answers (profile).
-use Rattle.std.specs.Prelude.{ℕ, ◌+◌, ◌==◌, nat_lt, List, [], ◌∷◌, length}
+use Rattle.std.specs.Prelude.{ℕ, ◌+◌, ◌==◌, nat_lt, List, [], ◌∷◌}
 use Rattle.f11_header.specs.Fields.{owner, protection, characteristics, attributes, ident_area}
 use Rattle.f11_store.specs.Causes.{Cause, ◌⇐◌, is_missing, growth_causes}
 use Rattle.f11_store.specs.File.{File, length_of}

@@ -2,7 +2,6 @@
 use Rattle.std.specs.Prelude.{◌≡◌, ℕ, ◌≤◌, Bool, false, IsTrue, length}
 use Rattle.f11_bits.specs.Bitmap.{Bitmap, free_blocks, LiesWithin as BitmapLiesWithin}
 use Rattle.f11_bits.specs.Storage.{bitmap_of}
-use Rattle.f11_bits.specs.Storage as storage
 use Rattle.f11_dev.specs.Disk.{Disk}
 use Rattle.f11_dev.specs.Image.{Image}
 use Rattle.f11_home.specs.Home.{HomeFields, IsHomeOf}
@@ -51,9 +50,9 @@ pub record IsFor (s : Structure) (disk : Disk) : Type 0 where
   pub keeps : IsTrue disk.honest → Keeps s disk.image
 
 -- It is for the disk after a call, unless that failed the volume: the home block is the same, and where the disk is honest the volume
--- is sound even so.
+-- is sound even so. Of what is kept nothing more is known once a call has failed.
 pub record StaysFor (failed : Bool) (old new : Structure) (disk : Disk) : Type 0 where
   pub home : home_of new ≡ home_of old
-  pub lies : Lies new (length disk.image)
+  pub lies : failed ≡ false → Lies new (length disk.image)
   pub sound : IsTrue disk.honest → HasSoundVolume disk.image (home_of new)
   pub keeps : failed ≡ false → IsTrue disk.honest → Keeps new disk.image

@@ -9,10 +9,7 @@ use f11_store::Refusal;
 pub(crate) fn is_grave<T>(answer: &Result<T, Refusal>) -> bool
     ensures { result ≡ is_refused is_grave answer.now }
 {
-    matches!(
-        answer,
-        Err(Refusal::DeviceFault) | Err(Refusal::Damaged)
-    )
+    matches!(answer, Err(Refusal::DeviceFault) | Err(Refusal::Damaged))
 }
 
 /// What a fault of a walk along a file's headers is to those who ask.

@@ -15,13 +15,13 @@ pub struct Files<D: Device> {
     pub(crate) structure: Structure,
     /// Whether a call has answered `DeviceFault` or `Damaged`.
     pub(crate) failed: bool,
-    /// What is kept lies on the device.
-    pub ghost lies: { Lies structure (length (D.disk device).image) },
+    /// While no call has failed, what is kept lies on the device.
+    pub ghost lies: { failed ≡ false → Lies structure (length (D.disk device).image) },
     /// The image has no fault where the device is honest,
     pub ghost accepted: { IsTrue (D.disk device).honest → IsAccepted (D.disk device).image },
     /// and its home block is the one that is kept.
     pub ghost home: { IsTrue (D.disk device).honest → HasNoOtherHome (D.disk device).image (home_of structure) },
-    /// While no call has failed, what is kept is the image's.
+    /// While no call has failed, what is kept is the image's, too.
     pub ghost keeps: { IsTrue (D.disk device).honest → failed ≡ false → Keeps structure (D.disk device).image },
 }
 

@@ -1,4 +1,3 @@
-use Rattle.std.proofs.Common.{ℕ, List}
 use Rattle.f11_header.proofs.HeaderFacts.{ident_within}
 use Rattle.f11_files.proofs.FirstLemmas.{first-segment}
 use Rattle.f11_files.proofs.attributes.attr_of.Goals as goal

@@ -13,7 +13,7 @@ returns-then-not-in_use-clause-refused g c =
     let old = g.D.Device.disk c.args.device.now in
     record {
       right = right-cause _ _ _ (λ is. omega (arith, is)) (λ is. omega (arith, is))
-      (λ honest. missing-first c.args.self.now c.args.f old c.requires.is_for honest (unused-none _ _ _ (sym c.in_use.ensures ∙ c.if-not-in_use.true)));
+          (λ honest. missing-first c.args.self.now c.args.f old c.requires.is_for honest (unused-none _ _ _ (sym c.in_use.ensures ∙ c.if-not-in_use.true)));
       reads = reads-looked (looked_within (looked_none old) (omega arith));
     }
 

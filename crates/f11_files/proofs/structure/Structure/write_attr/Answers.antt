@@ -1,4 +1,4 @@
-use Rattle.std.proofs.Common.{length, sym, ap}
+use Rattle.std.proofs.Common.{length, ap}
 use Rattle.f11_dev.specs.Image.{Image}
 use Rattle.f11_index.proofs.InUseLemmas.{in_use-some, in_use-slot, header-within}
 use Rattle.f11_store.specs.Changes.{with_replacement}
