@@ -7,6 +7,7 @@ pub mod LocateLemmas
 pub mod WriteLemmas
 pub mod BlockLemmas
 pub mod AlterLemmas
+pub mod CreateLemmas
 pub mod StoreLemmas
 pub mod SlotLemmas
 pub mod InstanceLemmas

@@ -75,6 +75,10 @@ writes-behind {P = P} {n = n} reads went = record {
   few = λ honest. let few = reads.few honest in omega (arith, few);
 }
 
+-- fewer than may be
+pub writes-within : {P : Image → Type 0} {a b : Disk} {m n faults : ℕ} → m ≤ n → Writes P m a b faults → Writes P n a b faults
+writes-within fewer writes = record { transfers = writes.transfers; went = writes.went; few = λ honest. let few = writes.few honest in omega (arith, few, fewer) }
+
 -- a refusal to read is one to write
 pub fails-read : {causes others : List Cause} {m n : ℕ} {work : Work} {home : HomeFields} {r : Refusal} {old new : Disk} → (first_of causes ≡ Some r → first_of others ≡ Some r) → m ≤ n
     → FailsToRead false causes m r old new → FailsToWrite false others n work home r old new
@@ -98,6 +102,10 @@ fails-read {work = work} {home = home} {r = r} {old = old} {new = new} more fewe
         go : (refusal_number r ≡ 19) ⊎ (refusal_number r ≢ 19) → faults_of r ≡ 0
         go (inl is) = let heavy = lt-ltb 18 (refusal_number r) (omega (arith, is)) in let no : true ≡ false = sym heavy ∙ light in absurd cc
         go (inr other) = ap (λ (b : Bool). cond b 1 0) (ne_eqb (refusal_number r) 19 other)
+
+pub fails-unread : {causes : List Cause} {m n : ℕ} {work : Work} {home : HomeFields} {r : Refusal} {old new : Disk} → m ≤ n → FailsToRead false causes m r old new
+    → FailsToWrite false causes n work home r old new
+fails-unread {causes = causes} fewer fails = fails-read {causes = causes} {others = causes} (λ is. is) fewer fails
 
 -- the volume had failed, and nothing is done
 pub had-failed : {failed : Bool} {causes : List Cause} {n : ℕ} {work : Work} {home : HomeFields} (old : Disk) → failed ≡ true → FailsToWrite failed causes n work home VolumeFailed old old

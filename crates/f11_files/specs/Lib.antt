@@ -14,3 +14,4 @@ pub mod FieldLaws
 pub mod NewFileLaws
 pub mod Fields
 pub mod FreshStore
+pub mod Create

@@ -8,6 +8,7 @@
 mod answer;
 mod attributes;
 mod blocks;
+mod create;
 mod fields;
 mod files;
 mod first;
