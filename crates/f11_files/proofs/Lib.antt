@@ -1,4 +1,6 @@
 pub mod OpenLemmas
+pub mod ApartLemmas
+pub mod OpeningLemmas
 pub mod FilesLemmas
 pub mod AnswerLemmas
 pub mod FirstLemmas
@@ -8,6 +10,7 @@ pub mod WriteLemmas
 pub mod BlockLemmas
 pub mod AlterLemmas
 pub mod CreateLemmas
+pub mod SpaceLemmas
 pub mod StoreLemmas
 pub mod SlotLemmas
 pub mod InstanceLemmas

@@ -15,3 +15,5 @@ pub mod NewFileLaws
 pub mod Fields
 pub mod FreshStore
 pub mod Create
+pub mod Opening
+pub mod Opened

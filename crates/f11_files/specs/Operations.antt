@@ -1,5 +1,5 @@
 -- The operations on files in the words of the plain store: the causes against each, and what each answers (profile).
-use Rattle.std.specs.Prelude.{ℕ, ◌+◌, ◌==◌, nat_lt, List, [], ◌∷◌}
+use Rattle.std.specs.Prelude.{◌≡◌, ℕ, ◌+◌, ◌==◌, nat_lt, List, [], ◌∷◌}
 use Rattle.f11_header.specs.Fields.{owner, protection, characteristics, attributes, ident_area}
 use Rattle.f11_store.specs.Causes.{Cause, ◌⇐◌, is_missing, growth_causes}
 use Rattle.f11_store.specs.File.{File, length_of}
@@ -41,3 +41,9 @@ attr_in block = record {
   ident = ident_area block;
   attr = attributes block;
 }
+
+-- A store has so many free blocks, free headers and slots.
+pub record IsSpaceOf (s : Store) (blocks headers slots : ℕ) : Type 0 where
+  pub blocks_are : blocks ≡ s.free
+  pub headers_are : headers ≡ free_headers s
+  pub slots_are : slots ≡ s.slots

@@ -26,7 +26,8 @@ pub struct Files<D: Device> {
 }
 
 impl<D: Device> Files<D> {
-    ghost use Rattle.f11_files.specs.Open.{device_in, has_failed};
+    ghost use Rattle.f11_files.specs.Open.{device_in, has_failed, is_honest, store_in};
+    ghost use Rattle.f11_files.specs.Operations.{IsSpaceOf};
 
     /// Gives the device up, as it is. No transfer is made.
     pub fn abandon(self) -> D
@@ -48,5 +49,17 @@ impl<D: Device> Files<D> {
         ensures { result.now ≡ device_in self.now }
     {
         &self.device
+    }
+
+    /// How many blocks are free, how many slots from 6 on are, and how many slots there are. No transfer is made.
+    pub fn space(&self) -> (u32, u32, u32)
+        ensures { is_honest self.now → has_failed self.now ≡ false
+            → IsSpaceOf (store_in self.now) result.0 result.1 result.2 }
+    {
+        (
+            self.structure.storage.free(),
+            self.structure.index.free_headers(),
+            self.structure.index.slots(),
+        )
     }
 }

@@ -15,6 +15,8 @@ mod first;
 pub mod laws;
 mod length;
 mod locate;
+mod open;
 mod structure;
 
 pub use files::Files;
+pub use open::OpenFault;

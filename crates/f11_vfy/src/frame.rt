@@ -43,7 +43,7 @@ const BIT_PAST_SLOTS: u8 = 6;
 /// # Errors
 ///
 /// `DeviceFault` where a transfer failed; `NoMemory` where there was no memory for what is kept.
-pub(crate) fn read_frame<D: Device>(alloc: Global, device: &mut D) -> Result<Framing, ReadFault>
+pub fn read_frame<D: Device>(alloc: Global, device: &mut D) -> Result<Framing, ReadFault>
     ensures frames { IfOk result (λ framing.
         Frames framing (D.disk device.old) (D.disk device.new)) }
     ensures failed { IsErrOf result ReadFault.DeviceFault

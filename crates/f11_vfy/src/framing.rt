@@ -6,7 +6,7 @@ use f11_index::IndexFile;
 
 /// What was read of a volume's frame.
 #[derive(Drop)]
-pub(crate) struct Frame {
+pub struct Frame {
     /// The index file.
     pub(crate) index: IndexFile,
     /// The LBNs of the first blocks of the storage bitmap file: the control block, and then those of the bitmap.
@@ -23,14 +23,14 @@ impl Frame {
     ghost use Rattle.f11_vfy.specs.Frame.{frame_index, places_of};
 
     /// The index file.
-    pub(crate) fn index(&self) -> &IndexFile
+    pub fn index(&self) -> &IndexFile
         ensures { index_kept result.now ≡ frame_index self.now }
     {
         &self.index
     }
 
     /// The LBNs of the storage bitmap's blocks, in order: 1 to 126 of them.
-    pub(crate) fn places(&self) -> &[u32]
+    pub fn places(&self) -> &[u32]
         ensures { result.now ≡ places_of self.now }
     {
         let blocks: &[u32] = &self.blocks;
@@ -38,7 +38,7 @@ impl Frame {
     }
 
     /// How many blocks the volume has.
-    pub(crate) fn size(&self) -> u32
+    pub fn size(&self) -> u32
         ensures { result ≡ self.now.size }
     {
         self.size
@@ -47,11 +47,23 @@ impl Frame {
 
 /// What is found of a volume's frame.
 #[derive(Drop)]
-pub(crate) enum Framing {
+pub enum Framing {
     /// It is as it should be.
     Framed(Frame),
     /// It has this fault, by its code and a number.
     Faulty { code: u8, a: u32 },
+}
+
+impl Frame {
+    ghost use Rattle.f11_vfy.specs.Frame.{frame_index};
+
+    /// The index file, given up.
+    pub fn into_index(self) -> IndexFile
+        ensures { index_kept result ≡ frame_index self }
+    {
+        let Frame { index, .. } = self;
+        index
+    }
 }
 
 impl Framing {

@@ -43,5 +43,7 @@ mod verifier;
 
 pub use accepted::Accepted;
 pub use f11_layout::{InitParams, MOST_BLOCKS};
+pub use frame::read_frame;
+pub use framing::{Frame, Framing};
 pub use fresh::{InitError, init};
 pub use verifier::{Faults, Notes, Report, VfyError, verify};
