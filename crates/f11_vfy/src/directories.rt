@@ -140,9 +140,15 @@ impl Reading {
     {
         let later = self.judge_directories(alloc, device, index)?;
         add_unentered(found, &self.survey.slots, &later.entered)?;
-        add_all(found, &later.no_file)?;
-        add_all(found, &later.repeated)?;
-        add_all(found, &later.no_name)?;
+        let Later {
+            no_file,
+            repeated,
+            no_name,
+            ..
+        } = later;
+        add_all(found, no_file)?;
+        add_all(found, repeated)?;
+        add_all(found, no_name)?;
         Ok(())
     }
 }

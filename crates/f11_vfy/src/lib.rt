@@ -40,6 +40,7 @@ mod verifier;
 mod walk;
 
 pub use accepted::Accepted;
+pub use f11_findings::Finding;
 pub use f11_layout::{InitParams, MOST_BLOCKS};
 pub use fresh::{InitError, init};
 pub use verifier::{Faults, Notes, Report, VfyError, verify};

@@ -112,10 +112,9 @@ fn examine_volume<D: Device>(
 {
     let index = &frame.index;
     let reading = Reading::read(alloc, device, index, frame.places(), frame.size)?;
-    let faults = reading.faults(alloc)?;
     let mut notes = reading.notes(alloc)?;
     reading.add_directory_notes(alloc, device, index, &mut notes)?;
-    Ok((faults, notes))
+    Ok((reading.into_faults(alloc)?, notes))
 }
 
 /// A list of one fault.
