@@ -24,8 +24,8 @@ impl Later {
     ghost use Rattle.f11_vfy.specs.Bits.{limit_of};
     ghost use Rattle.f11_vfy.specs.Directories.{wanted, TakesBlocks, TakesHeader, TakesHeaders, TakesDirectory, LooksAtHeader, LooksAtHeaders, LooksFor};
 
-    /// Takes the blocks from LBN `lbn` on, so many, which are those of a directory from its block `at` on. It reads those that hold a
-    /// record before the end; a block past the device's end counts as zeros, and takes no step.
+    /// Takes the blocks from an LBN on, so many, which are those of a directory from its block `at` on. It reads those that hold a
+    /// record before the end, each into `into`; a block past the device's end counts as zeros, and takes no step.
     ///
     /// # Errors
     ///
@@ -37,6 +37,7 @@ impl Later {
         dir: Directory,
         at: u32,
         run: (u32, u32),
+        into: &mut Block,
     ) -> Result<(), ReadFault>
         requires limit { limit_of self.old.entered ≡ length slots.now + 1 }
         requires few { at + run.1 ≤ 8323072 }
@@ -50,10 +51,9 @@ impl Later {
     {
         let (lbn, count) = run;
         let there = device.blocks().saturating_sub(lbn);
-        let mut block = [0; BLOCK_SIZE];
         for k in 0..dir.wanted(at, count).min(there) {
-            device.read(lbn + k, &mut block)?;
-            self.take_block(slots, dir, at + k, &block)?;
+            device.read(lbn + k, into)?;
+            self.take_block(slots, dir, at + k, into)?;
         }
         Ok(())
     }
@@ -86,10 +86,11 @@ impl Later {
             (wanted dir.end at (length (blocks_named block.now))) 0 }
     {
         let map = map(block);
+        let mut into = [0; BLOCK_SIZE];
         let mut behind = at;
         for i in 0..map.runs() {
             let run = map.run(i);
-            self.take_run(device, slots, dir, behind, run)?;
+            self.take_run(device, slots, dir, behind, run, &mut into)?;
             behind += run.1;
         }
         Ok(behind - at)
