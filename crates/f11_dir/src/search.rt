@@ -73,8 +73,8 @@ pub fn first_empty(block: &Block, upto: usize) -> Option<usize>
     None
 }
 
-/// Record `i` of a block.
-fn record_at(block: &Block, i: usize) -> Record
+/// Record `i` of a block, which is below 32.
+pub fn record_at(block: &Block, i: usize) -> Record
     requires { i < 32 }
     ensures { result ≡ record_of_bytes (record_in block.now i) }
 {

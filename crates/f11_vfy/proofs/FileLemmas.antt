@@ -22,7 +22,7 @@ use Rattle.f11_vfy.specs.Volume.{Volume, volume_of, IsCell}
 use Rattle.f11_vfy.specs.Contents.{following, block_or_zeros, file_of}
 use Rattle.f11_vfy.specs.Space.{bitmap_count, bitmap_file, control_block, storage_bitmap}
 use Rattle.f11_vfy.proofs.MemberLemmas.{contained, all-from, all-each, at-place}
-use Rattle.f11_vfy.proofs.PlaceLemmas.{following-none}
+use Rattle.f11_vfy.proofs.CourseLemmas.{following-none}
 use Rattle.f11_index.proofs.PlaceLemmas.{slice_get-append_front, slice_get-header}
 use Rattle.f11_bits.specs.Bitmap.{IsBitmap, LiesWithin}
 use Rattle.f11_map.proofs.MapLemmas.{slice_get-append_back}

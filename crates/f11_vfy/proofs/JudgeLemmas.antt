@@ -12,16 +12,15 @@ use Rattle.f11_index.specs.IndexFile.{Index}
 use Rattle.f11_index.specs.Table.{Table, table_in}
 use Rattle.f11_vfy.specs.Bits.{has}
 use Rattle.f11_vfy.specs.Chain.{KeepsTable}
-use Rattle.f11_vfy.specs.Directories.{KnowsNexts, LooksFor, ReadsDirectory, most_reads}
+use Rattle.f11_vfy.specs.Directories.{KnowsNexts, LooksFor, TakesDirectory, most_reads}
 use Rattle.f11_vfy.specs.DirectoryNotes.{IsLaterNote, has_directory, reads_at, JudgesSlot, JudgesUpTo, LooksAt, LooksUpTo, LooksThrough}
 use Rattle.f11_vfy.specs.Found.{Finds, FoundAmong}
-use Rattle.f11_vfy.specs.Later.{FlawsUpTo, IsNewLater, ShowsLater, TakesDirectory}
+use Rattle.f11_vfy.specs.Later.{FlawsUpTo, IsNewLater, ShowsLater}
 use Rattle.f11_vfy.specs.Notes.{IsDirectory, IsEntered, IsVolumeNote, blocks_lost, header_dead, orphan, marked, not_closed, in_no_directory, names_no_file, name_repeated, no_name}
 use Rattle.f11_vfy.specs.Reading.{ShowsVolume, volume_in}
 use Rattle.f11_vfy.specs.Scans.{IsFileSlot}
 use Rattle.f11_vfy.specs.Slot.{KeepsSlot, kept_slot}
 use Rattle.f11_vfy.specs.Volume.{Volume}
-use Rattle.f11_vfy.specs.declared.entries.Directory.{Directory}
 use Rattle.f11_vfy.specs.declared.later.Later.{Later}
 use Rattle.f11_vfy.specs.declared.reading.Reading.{Reading}
 use Rattle.f11_vfy.specs.declared.slot.Slot.{Slot}
@@ -84,15 +83,14 @@ module _ (index : Index) (r : Reading) (k : ℕ) (s : Slot) (old new : Disk) (be
           omega (arith, few, all);
     }
 
-    pub judges-directory : (dir : Directory) (before after : Later) → ReadsDirectory index r.chains.nexts.items (k + 1) dir old new
-        → ((t : Table) → KeepsTable t r.survey.slots.items → TakesDirectory t (k + 1) dir before after) → after.entered.limit ≡ before.entered.limit → JudgesSlot index r k before after old new
-    judges-directory dir before after reads takes limit = record {
+    pub judges-directory : (before after : Later) → TakesDirectory index r.survey.slots.items r.chains.nexts.items (k + 1) before after old new → JudgesSlot index r k before after old new
+    judges-directory before after takes = record {
       shows = λ honest bitmap is shows.
           let v = volume_in old.image index bitmap in
           let here = directory-at bitmap is in
-          later-next old.image v is.fit.low k dir here (reads.gives honest (knows-nexts v r is) here.file.live) before after shows (takes (table_in old.image index) (keeps-table v r is));
-      limit = limit;
-      looked = looks-at 0 reads.looked;
+          later-next old.image v is.fit.low k here before after shows (takes.takes honest (knows-nexts v r is) (keeps-table v r is) here.file.live);
+      limit = takes.limit;
+      looked = looks-at 0 takes.looked;
     }
 
 -- before the first slot

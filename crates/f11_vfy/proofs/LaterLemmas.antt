@@ -4,14 +4,13 @@ use Rattle.std.proofs.lemmas.Bool.{cases_lt, both_ways}
 use Rattle.f11_dev.specs.Image.{Image}
 use Rattle.f11_findings.specs.Finding.{finding}
 use Rattle.f11_findings.specs.declared.finding.Finding.{Finding}
+use Rattle.f11_store.specs.Directory.{entry_count}
 use Rattle.f11_vfy.specs.Contents.{file_of}
-use Rattle.f11_vfy.specs.Directories.{IsOfFile}
 use Rattle.f11_vfy.specs.Flaws.{EntersIn, HasFlaw, flaw_code}
 use Rattle.f11_vfy.specs.Found.{Finds, FoundAmong}
-use Rattle.f11_vfy.specs.Later.{FindsFlaws, FlawsUpTo, IsEnteredUpTo, IsNewLater, ShowsLater, TakesDirectory}
+use Rattle.f11_vfy.specs.Later.{FindsFlaws, FlawsUpTo, IsEnteredUpTo, IsNewLater, ShowsLater, TakesRecords}
 use Rattle.f11_vfy.specs.Notes.{IsDirectory, IsRecord}
 use Rattle.f11_vfy.specs.Volume.{Volume}
-use Rattle.f11_vfy.specs.declared.entries.Directory.{Directory}
 use Rattle.f11_vfy.specs.declared.flaws.Flaw.{Flaw}
 use Rattle.f11_vfy.specs.declared.flaws.Flaw.TheVariants.{NoFile, Repeated, NoName}
 use Rattle.f11_vfy.specs.declared.later.Later.{Later}
@@ -66,41 +65,47 @@ module _ (image : Image) (v : Volume) (low : (n : ℕ) → v.table.in_use n ≡ 
       no_name = finds-still NoName [] l.no_name shows.no_name;
     }
 
-  -- slot k + 1 has a directory, which was read and taken
-  module _ (k : ℕ) (dir : Directory) (directory : IsDirectory image v.table (k + 1)) (of : IsOfFile (file_of image v.table (k + 1)) dir) where
+  -- slot k + 1 has a directory, whose records were taken
+  module _ (k : ℕ) (directory : IsDirectory image v.table (k + 1)) where
+    abbrev pub here : List (List ℕ)
+    here = (file_of image v.table (k + 1)).blocks
+
+    abbrev pub count : ℕ
+    count = entry_count (file_of image v.table (k + 1))
+
     split : (flaw : Flaw) (code a b : ℕ) → FlawsUpTo image v flaw (k + 1) code a b
-        → FlawsUpTo image v flaw k code a b ⊎ FoundAmong (λ i. HasFlaw flaw v.table dir i) (λ i. finding (flaw_code flaw) (k + 1) i) dir.count code a b
+        → FlawsUpTo image v flaw k code a b ⊎ FoundAmong (λ i. HasFlaw flaw v.table here i) (λ i. finding (flaw_code flaw) (k + 1) i) count code a b
     split flaw code a b f = elim (cases_lt k a) [
       | inl past ↦
           let same : a ≡ k + 1 = omega (arith, past, f.1.0) in
-          let has = noted-flaw image v (k + 1) dir directory of flaw code a b f.1.1 f.0 same in
+          let has = noted-flaw image v (k + 1) directory flaw code a b f.1.1 f.0 same in
           inr (record { number = b; below = has.0; holds = has.1; is = ap (λ (c : ℕ). finding c a b) f.0 ∙ ap (λ (d : ℕ). finding (flaw_code flaw) d b) same })
       | inr within ↦ inl (f.0, (within, f.1.1))
     ]
 
-    noted : (flaw : Flaw) (code a b : ℕ) → FoundAmong (λ i. HasFlaw flaw v.table dir i) (λ i. finding (flaw_code flaw) (k + 1) i) dir.count code a b → FlawsUpTo image v flaw (k + 1) code a b
-    noted flaw code a b f = subst (λ (g : Finding). FlawsUpTo image v flaw (k + 1) g.code g.a g.b) (sym f.is) (refl, (omega arith, flaw-noted image v (k + 1) dir directory of flaw f.number f.below f.holds))
+    noted : (flaw : Flaw) (code a b : ℕ) → FoundAmong (λ i. HasFlaw flaw v.table here i) (λ i. finding (flaw_code flaw) (k + 1) i) count code a b → FlawsUpTo image v flaw (k + 1) code a b
+    noted flaw code a b f = subst (λ (g : Finding). FlawsUpTo image v flaw (k + 1) g.code g.a g.b) (sym f.is) (refl, (omega arith, flaw-noted image v (k + 1) directory flaw f.number f.below f.holds))
 
-    finds-next : (flaw : Flaw) (old new : List Finding) → Finds (FlawsUpTo image v flaw k) [] old → FindsFlaws v.table (k + 1) dir flaw old new → Finds (FlawsUpTo image v flaw (k + 1)) [] new
-    finds-next flaw old new before here = finds-more _ _ _ [] old new before here (λ code a b f. (f.0, (omega (arith, f.1.0), f.1.1))) (noted flaw) (split flaw)
+    finds-next : (flaw : Flaw) (old new : List Finding) → Finds (FlawsUpTo image v flaw k) [] old → FindsFlaws v.table (k + 1) here count flaw old new → Finds (FlawsUpTo image v flaw (k + 1)) [] new
+    finds-next flaw old new before found = finds-more _ _ _ [] old new before found (λ code a b f. (f.0, (omega (arith, f.1.0), f.1.1))) (noted flaw) (split flaw)
 
-    entered-next : (n : ℕ) → IsEnteredUpTo image v.table (k + 1) n → IsEnteredUpTo image v.table k n ⊎ EntersIn v.table dir dir.count n
+    entered-next : (n : ℕ) → IsEnteredUpTo image v.table (k + 1) n → IsEnteredUpTo image v.table k n ⊎ EntersIn v.table here count n
     entered-next n e = elim (cases_lt k e.entered.directory) [
       | inl past ↦
           let same : e.entered.directory ≡ k + 1 = omega (arith, past, e.within) in
-          inr (enters-found image v (k + 1) dir directory of n e.entered.place e.entered.bytes (subst (λ (d : ℕ). IsRecord image v.table d e.entered.place e.entered.bytes) same e.entered.entry) e.entered.names)
+          inr (enters-found image v (k + 1) directory n e.entered.place e.entered.bytes (subst (λ (d : ℕ). IsRecord image v.table d e.entered.place e.entered.bytes) same e.entered.entry) e.entered.names)
       | inr within ↦ inl (record { entered = e.entered; within = within })
     ]
 
-    entered-more : (n : ℕ) (A : Type 0) → A ↔ IsEnteredUpTo image v.table k n → A ⊎ EntersIn v.table dir dir.count n → IsEnteredUpTo image v.table (k + 1) n
+    entered-more : (n : ℕ) (A : Type 0) → A ↔ IsEnteredUpTo image v.table k n → A ⊎ EntersIn v.table here count n → IsEnteredUpTo image v.table (k + 1) n
     entered-more n A before (inl a) = let e = before.0 a in record { entered = e.entered; within = omega (arith, e.within) }
-    entered-more n A before (inr e) = let is = enters-noted image v (k + 1) dir directory of n e in record { entered = is.0; within = is.1 }
+    entered-more n A before (inr e) = let is = enters-noted image v (k + 1) directory n e in record { entered = is.0; within = is.1 }
 
-    entered-back : (n : ℕ) (A : Type 0) → A ↔ IsEnteredUpTo image v.table k n → IsEnteredUpTo image v.table k n ⊎ EntersIn v.table dir dir.count n → A ⊎ EntersIn v.table dir dir.count n
+    entered-back : (n : ℕ) (A : Type 0) → A ↔ IsEnteredUpTo image v.table k n → IsEnteredUpTo image v.table k n ⊎ EntersIn v.table here count n → A ⊎ EntersIn v.table here count n
     entered-back n A before (inl e) = inl (before.1 e)
     entered-back n A before (inr e) = inr e
 
-    pub later-next : (old new : Later) → ShowsLater image v k old → TakesDirectory v.table (k + 1) dir old new → ShowsLater image v (k + 1) new
+    pub later-next : (old new : Later) → ShowsLater image v k old → TakesRecords v.table (k + 1) here count old new → ShowsLater image v (k + 1) new
     later-next old new shows takes = record {
       entered = λ n. (λ has. entered-more n _ (shows.entered n) ((takes.entered n).0 has), λ e. (takes.entered n).1 (entered-back n _ (shows.entered n) (entered-next n e)));
       no_file = finds-next NoFile old.no_file new.no_file shows.no_file takes.no_file;

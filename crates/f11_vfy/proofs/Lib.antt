@@ -23,8 +23,9 @@ pub mod CellLemmas
 pub mod LostLemmas
 pub mod ExactLemmas
 pub mod ReadingLemmas
-pub mod PlaceLemmas
-pub mod ContentsLemmas
+pub mod WalkLemmas
+pub mod CourseLemmas
+pub mod TakeLemmas
 pub mod FlawLemmas
 pub mod CommonLemmas
 pub mod RepeatLemmas

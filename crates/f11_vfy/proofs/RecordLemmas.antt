@@ -8,12 +8,9 @@ use Rattle.f11_rad50.specs.Name.{IsName}
 use Rattle.f11_store.specs.Directory.{entries_of, entry_count, is_empty, record_at, record_id, record_name}
 use Rattle.f11_store.specs.File.{File}
 use Rattle.f11_vfy.specs.Contents.{file_of}
-use Rattle.f11_vfy.specs.Directories.{IsOfFile}
-use Rattle.f11_vfy.specs.Entries.{entry}
 use Rattle.f11_vfy.specs.Flaws.{EntersIn, HasFlaw, flaw_code}
 use Rattle.f11_vfy.specs.Notes.{IsVolumeNote, IsDirectory, IsRecord, IsIdOf, IsEntered, IsRepeated, blocks_lost, header_dead, orphan, marked, not_closed, in_no_directory, names_no_file, name_repeated, no_name}
 use Rattle.f11_vfy.specs.Volume.{Volume}
-use Rattle.f11_vfy.specs.declared.entries.Directory.{Directory}
 use Rattle.f11_vfy.specs.declared.flaws.Flaw.{Flaw}
 use Rattle.f11_vfy.specs.declared.flaws.Flaw.TheVariants.{NoFile, Repeated, NoName}
 
@@ -44,36 +41,36 @@ noted-directory image v code d i (names_no_file f j bytes r none) is = r.directo
 noted-directory image v code d i (name_repeated f j bytes r again) is = r.directory
 noted-directory image v code d i (no_name f j bytes r none) is = r.directory
 
-module _ (image : Image) (v : Volume) (d : ℕ) (dir : Directory) (directory : IsDirectory image v.table d) (of : IsOfFile (file_of image v.table d) dir) where
-  record-here : (i : ℕ) → i < dir.count → is_empty (entry dir i) ≡ false → IsRecord image v.table d i (entry dir i)
-  record-here i below some = record {
-    directory = directory;
-    entry = entry-get (file_of image v.table d) i (omega (arith, below, of.count_is)) ∙ ap Some (sym (of.each i below));
-    not_empty = some;
-  }
+module _ (image : Image) (v : Volume) (d : ℕ) (directory : IsDirectory image v.table d) where
+  abbrev pub blocks : List (List ℕ)
+  blocks = (file_of image v.table d).blocks
 
-  record-below : (i : ℕ) (bytes : List ℕ) → IsRecord image v.table d i bytes → i < dir.count
-  record-below i bytes r = omega (arith, entry-within (file_of image v.table d) i bytes r.entry, of.count_is)
+  abbrev pub count : ℕ
+  count = entry_count (file_of image v.table d)
 
-  record-is : (i : ℕ) (bytes : List ℕ) → IsRecord image v.table d i bytes → bytes ≡ entry dir i
-  record-is i bytes r =
-      let below = record-below i bytes r in
-      same_Some bytes (entry dir i) (sym r.entry ∙ entry-get (file_of image v.table d) i (omega (arith, below, of.count_is)) ∙ ap Some (sym (of.each i below)))
+  record-here : (i : ℕ) → i < count → is_empty (record_at blocks i) ≡ false → IsRecord image v.table d i (record_at blocks i)
+  record-here i below some = record { directory = directory; entry = entry-get (file_of image v.table d) i below; not_empty = some }
 
-  pub flaw-noted : (flaw : Flaw) (i : ℕ) → i < dir.count → HasFlaw flaw v.table dir i → IsVolumeNote image v (flaw_code flaw) d i
-  flaw-noted NoFile i below has = names_no_file d i (entry dir i) (record-here i below has.0) (λ n id. has.1 (subst (λ (m : ℕ). IsIdOf v.table (record_id (entry dir i)) m) (sym id.number) id))
+  record-below : (i : ℕ) (bytes : List ℕ) → IsRecord image v.table d i bytes → i < count
+  record-below i bytes r = entry-within (file_of image v.table d) i bytes r.entry
+
+  record-is : (i : ℕ) (bytes : List ℕ) → IsRecord image v.table d i bytes → bytes ≡ record_at blocks i
+  record-is i bytes r = same_Some bytes (record_at blocks i) (sym r.entry ∙ entry-get (file_of image v.table d) i (record-below i bytes r))
+
+  pub flaw-noted : (flaw : Flaw) (i : ℕ) → i < count → HasFlaw flaw v.table blocks i → IsVolumeNote image v (flaw_code flaw) d i
+  flaw-noted NoFile i below has = names_no_file d i (record_at blocks i) (record-here i below has.0) (λ n id. has.1 (subst (λ (m : ℕ). IsIdOf v.table (record_id (record_at blocks i)) m) (sym id.number) id))
   flaw-noted Repeated i below has =
-      name_repeated d i (entry dir i) (record-here i below has.0)
-      (record { place = has.1.place; earlier = has.1.earlier; other = entry dir has.1.place; entry = record-here has.1.place (omega (arith, below, has.1.earlier)) has.1.not_empty; name = has.1.same })
-  flaw-noted NoName i below has = no_name d i (entry dir i) (record-here i below has.0) has.1
+      name_repeated d i (record_at blocks i) (record-here i below has.0)
+      (record { place = has.1.place; earlier = has.1.earlier; other = record_at blocks has.1.place; entry = record-here has.1.place (omega (arith, below, has.1.earlier)) has.1.not_empty; name = has.1.same })
+  flaw-noted NoName i below has = no_name d i (record_at blocks i) (record-here i below has.0) has.1
 
-  some-entry : (i : ℕ) (bytes : List ℕ) → IsRecord image v.table d i bytes → is_empty (entry dir i) ≡ false
+  some-entry : (i : ℕ) (bytes : List ℕ) → IsRecord image v.table d i bytes → is_empty (record_at blocks i) ≡ false
   some-entry i bytes r = subst (λ (b : List ℕ). is_empty b ≡ false) (record-is i bytes r) r.not_empty
 
-  no-file-found : (i : ℕ) (bytes : List ℕ) → IsRecord image v.table d i bytes → ((n : ℕ) → ¬ IsIdOf v.table (record_id bytes) n) → HasFlaw NoFile v.table dir i
+  no-file-found : (i : ℕ) (bytes : List ℕ) → IsRecord image v.table d i bytes → ((n : ℕ) → ¬ IsIdOf v.table (record_id bytes) n) → HasFlaw NoFile v.table blocks i
   no-file-found i bytes r none = (some-entry i bytes r, subst (λ (b : List ℕ). ¬ IsIdOf v.table (record_id b) (record_id b).number) (record-is i bytes r) (none (record_id bytes).number))
 
-  repeated-found : (i : ℕ) (bytes : List ℕ) → IsRecord image v.table d i bytes → IsRepeated image v.table d i bytes → HasFlaw Repeated v.table dir i
+  repeated-found : (i : ℕ) (bytes : List ℕ) → IsRecord image v.table d i bytes → IsRepeated image v.table d i bytes → HasFlaw Repeated v.table blocks i
   repeated-found i bytes r again = (
     some-entry i bytes r,
     record {
@@ -84,13 +81,13 @@ module _ (image : Image) (v : Volume) (d : ℕ) (dir : Directory) (directory : I
     },
   )
 
-  no-name-found : (i : ℕ) (bytes : List ℕ) → IsRecord image v.table d i bytes → ¬ IsName (record_name bytes) → HasFlaw NoName v.table dir i
+  no-name-found : (i : ℕ) (bytes : List ℕ) → IsRecord image v.table d i bytes → ¬ IsName (record_name bytes) → HasFlaw NoName v.table blocks i
   no-name-found i bytes r none = (some-entry i bytes r, subst (λ (b : List ℕ). ¬ IsName (record_name b)) (record-is i bytes r) none)
 
   of-record : (e i : ℕ) (bytes : List ℕ) → e ≡ d → IsRecord image v.table e i bytes → IsRecord image v.table d i bytes
   of-record e i bytes same r = subst (λ (x : ℕ). IsRecord image v.table x i bytes) same r
 
-  pub noted-flaw : (flaw : Flaw) (code e i : ℕ) → IsVolumeNote image v code e i → code ≡ flaw_code flaw → e ≡ d → (i < dir.count) × HasFlaw flaw v.table dir i
+  pub noted-flaw : (flaw : Flaw) (code e i : ℕ) → IsVolumeNote image v code e i → code ≡ flaw_code flaw → e ≡ d → (i < count) × HasFlaw flaw v.table blocks i
   noted-flaw flaw code e i (blocks_lost low high run) is same = absurd (omega (arith, is, flaw-low flaw))
   noted-flaw flaw code e i (header_dead n dead) is same = absurd (omega (arith, is, flaw-low flaw))
   noted-flaw flaw code e i (orphan n live later none) is same = absurd (omega (arith, is, flaw-low flaw))
@@ -109,10 +106,10 @@ module _ (image : Image) (v : Volume) (d : ℕ) (dir : Directory) (directory : I
   noted-flaw NoName code e i (no_name f j bytes r none) is same = let here = of-record e i bytes same r in (record-below i bytes here, no-name-found i bytes here none)
 
   -- what the records enter
-  pub enters-noted : (n : ℕ) → EntersIn v.table dir dir.count n → (e : IsEntered image v.table n) × (e.directory ≤ d)
-  enters-noted n e = (record { directory = d; place = e.place; bytes = entry dir e.place; entry = record-here e.place e.below e.enters.0; names = e.enters.1 }, omega arith)
+  pub enters-noted : (n : ℕ) → EntersIn v.table blocks count n → (e : IsEntered image v.table n) × (e.directory ≤ d)
+  enters-noted n e = (record { directory = d; place = e.place; bytes = record_at blocks e.place; entry = record-here e.place e.below e.enters.0; names = e.enters.1 }, omega arith)
 
-  pub enters-found : (n i : ℕ) (bytes : List ℕ) → IsRecord image v.table d i bytes → IsIdOf v.table (record_id bytes) n → EntersIn v.table dir dir.count n
+  pub enters-found : (n i : ℕ) (bytes : List ℕ) → IsRecord image v.table d i bytes → IsIdOf v.table (record_id bytes) n → EntersIn v.table blocks count n
   enters-found n i bytes r names = record {
     place = i;
     below = record-below i bytes r;

@@ -1,19 +1,21 @@
 -- What is read of a directory (Files-11 On-Disk Structure Level 1, "Directories").
-use Rattle.std.specs.Prelude.{◌≡◌, ℕ, ◌+◌, ◌/◌, ◌<◌, ◌≤◌, IsTrue, List, ◌++◌, length, map, take}
-use Rattle.f11_dev.specs.Disk.{Disk}
-use Rattle.f11_dev.specs.Looked.{Looked}
-use Rattle.f11_header.specs.Fields.{attributes}
+use Rattle.std.specs.Prelude.{◌≡◌, ℕ, ◌+◌, ◌-◌, ◌*◌, ◌/◌, ◌<◌, ◌≤◌, zero, suc, min, IsTrue, List, [], length, drop, slice_index, slice_index_or, Option, Some, None}
 use Rattle.f11_chain.specs.FileHeaders.{blocks_by}
+use Rattle.f11_dev.specs.Disk.{Disk}
+use Rattle.f11_dev.specs.Image.{Image}
+use Rattle.f11_dev.specs.Looked.{Looked}
 use Rattle.f11_index.specs.HeaderBlock.{blocks_named}
 use Rattle.f11_index.specs.IndexFile.{Index}
 use Rattle.f11_index.specs.Table.{Table, table_in, IsLive}
-use Rattle.f11_dev.specs.Image.{Image}
-use Rattle.f11_store.specs.Directory.{entry_count, record_at}
-use Rattle.f11_store.specs.File.{File, stated_end}
-use Rattle.f11_vfy.specs.Chain.{IsFit, NextsTo}
-use Rattle.f11_vfy.specs.Contents.{headers_reached, block_or_zeros, file_of}
-use Rattle.f11_vfy.specs.Entries.{entry}
-use Rattle.f11_vfy.specs.declared.entries.Directory.{Directory}
+use Rattle.f11_store.specs.Directory.{entry_count}
+use Rattle.f11_store.specs.File.{File}
+use Rattle.f11_vfy.specs.Bits.{limit_of}
+use Rattle.f11_vfy.specs.Chain.{IsFit, KeepsTable, NextsTo}
+use Rattle.f11_vfy.specs.Contents.{following, headers_reached, block_or_zeros, file_of}
+use Rattle.f11_vfy.specs.Later.{TakesOn, TakesRecords}
+use Rattle.f11_vfy.specs.declared.contents.Directory.{Directory}
+use Rattle.f11_vfy.specs.declared.later.Later.{Later}
+use Rattle.f11_vfy.specs.declared.slot.Slot.{Slot}
 
 -- what is kept of the next headers of a table's slots
 pub record KnowsNexts (t : Table) (kept : List ℕ) : Type 0 where
@@ -21,55 +23,89 @@ pub record KnowsNexts (t : Table) (kept : List ℕ) : Type 0 where
   pub count : length kept ≡ t.slots
   pub nexts : NextsTo t kept t.slots
 
--- Header n was read, and the places of the blocks that it names are behind the others.
-pub record TakesHeader (index : Index) (n : ℕ) (before places : List ℕ) (old new : Disk) : Type 0 where
-  pub gives : IsTrue old.honest → IsLive (table_in old.image index) n → places ≡ before ++ blocks_named ((table_in old.image index).header n)
-  pub few : length places ≤ length before + 32512
-  pub looked : Looked old new 1 0
+-- how many records before an end there are in the first so many blocks
+abbrev pub until : ℕ → ℕ → ℕ
+until end blocks = min end (32 * blocks)
 
--- A file's places were looked for, with the next header of each kept so: they are those of its blocks.
-pub record FindsPlaces (index : Index) (nexts : List ℕ) (d : ℕ) (places : List ℕ) (old new : Disk) : Type 0 where
-  pub gives : IsTrue old.honest → KnowsNexts (table_in old.image index) nexts → IsLive (table_in old.image index) d
-      → places ≡ blocks_by (table_in old.image index) (headers_reached (table_in old.image index) d)
-  pub few : length places ≤ 8323072
-  pub looked : Looked old new 256 0
+-- how many of so many blocks, from block `at` on, hold a record before an end
+abbrev pub wanted : ℕ → ℕ → ℕ → ℕ
+wanted end at count = min count ((end + 31) / 32 - at)
 
--- A block was read, or counts as zeros past the device's end.
-pub record ReadsOrZeros (lbn : ℕ) (block : List ℕ) (old new : Disk) : Type 0 where
-  pub gives : IsTrue old.honest → block ≡ block_or_zeros old.image lbn
-  pub looked : Looked old new 1 0
+-- the blocks at these LBNs are a directory's from its block `at` on
+abbrev pub HasBlocks : Image → List ℕ → ℕ → List (List ℕ) → Type 0
+HasBlocks image lbns at blocks = (k : ℕ) → k < length lbns → slice_index_or blocks (at + k) [] ≡ block_or_zeros image (slice_index lbns k)
 
--- The first of these blocks were read.
-pub record ReadsBlocks (places : List ℕ) (count : ℕ) (blocks : List (List ℕ)) (old new : Disk) : Type 0 where
-  pub gives : IsTrue old.honest → blocks ≡ map (block_or_zeros old.image) (take count places)
-  pub long : length blocks ≡ count
-  pub looked : Looked old new count 0
+-- the same, of an honest disk
+abbrev pub HoldsBlocks : Disk → List ℕ → ℕ → List (List ℕ) → Type 0
+HoldsBlocks disk lbns at blocks = IsTrue disk.honest × HasBlocks disk.image lbns at blocks
 
--- The end that a file states was read.
-pub record ReadsEnd (index : Index) (d end : ℕ) (old new : Disk) : Type 0 where
-  pub gives : IsTrue old.honest → IsLive (table_in old.image index) d → end ≡ stated_end (attributes ((table_in old.image index).header d))
-  pub looked : Looked old new 1 0
+-- The blocks at these LBNs, which are a directory's from block `at` on, were taken, and read where they hold a record before its end.
+pub record TakesBlocks (slots : List Slot) (dir : Directory) (at : ℕ) (lbns : List ℕ) (before after : Later) (old new : Disk) : Type 0 where
+  pub takes : TakesOn slots dir.d (HoldsBlocks old lbns at) (until dir.end at) (until dir.end (at + length lbns)) before after
+  pub looked : Looked old new (wanted dir.end at (length lbns)) 0
+
+-- Header n of a directory was read, and blocks that it names; so many transfers failed.
+pub record LooksAtHeader (index : Index) (end at n : ℕ) (old new : Disk) (faults : ℕ) : Type 0 where
+  pub count : ℕ
+  pub looked : Looked old new (1 + wanted end at count) faults
+  pub few : IsTrue old.honest → IsLive (table_in old.image index) n → count ≤ length (blocks_named ((table_in old.image index).header n))
+
+-- the blocks that header n names are a directory's from its block `at` on
+pub record HoldsHeader (index : Index) (n at : ℕ) (disk : Disk) (blocks : List (List ℕ)) : Type 0 where
+  pub live : IsLive (table_in disk.image index) n
+  pub holds : HoldsBlocks disk (blocks_named ((table_in disk.image index).header n)) at blocks
+
+-- Header n of a directory was read, and its blocks, so many, were taken.
+pub record TakesHeader (index : Index) (slots : List Slot) (dir : Directory) (at n count : ℕ) (before after : Later) (old new : Disk) : Type 0 where
+  pub takes : TakesOn slots dir.d (HoldsHeader index n at old) (until dir.end at) (until dir.end (at + count)) before after
+  pub count_is : IsTrue old.honest → IsLive (table_in old.image index) n → count ≡ length (blocks_named ((table_in old.image index).header n))
+  pub few : count ≤ 32512
+  pub looked : Looked old new (1 + wanted dir.end at count) 0
+
+-- the header with this number; number 0 is none
+abbrev pub numbered : ℕ → Option ℕ
+numbered zero = None
+numbered (suc n) = Some (suc n)
+
+-- Of the blocks of file d those from block `at` on are those of header n, 0 for none, and of those behind it, so many at most.
+pub record ComesTo (t : Table) (d at n most : ℕ) : Type 0 where
+  pub within : at ≤ length (blocks_by t (headers_reached t d))
+  pub rest : drop at (blocks_by t (headers_reached t d)) ≡ blocks_by t (following most t (numbered n))
+  pub live : 1 ≤ n → IsLive t n
+
+-- A directory's headers from its second one on were looked at, and their blocks; so many transfers failed.
+pub record LooksAtHeaders (index : Index) (nexts : List ℕ) (dir : Directory) (at n most : ℕ) (old new : Disk) (faults : ℕ) : Type 0 where
+  pub reads : ℕ
+  pub looked : Looked old new reads faults
+  pub few : IsTrue old.honest → KnowsNexts (table_in old.image index) nexts → ComesTo (table_in old.image index) dir.d at n most
+      → wanted dir.end 0 at + reads ≤ most + wanted dir.end 0 (length (blocks_by (table_in old.image index) (headers_reached (table_in old.image index) dir.d)))
+
+-- They were taken.
+pub record TakesHeaders (index : Index) (slots : List Slot) (nexts : List ℕ) (dir : Directory) (at n most : ℕ) (before after : Later) (old new : Disk) : Type 0 where
+  pub limit : limit_of after.entered ≡ limit_of before.entered
+  pub takes : (first : Later) → IsTrue old.honest → KnowsNexts (table_in old.image index) nexts → KeepsTable (table_in old.image index) slots → ComesTo (table_in old.image index) dir.d at n most
+      → TakesRecords (table_in old.image index) dir.d (file_of old.image (table_in old.image index) dir.d).blocks (until dir.end at) first before
+      → TakesRecords (table_in old.image index) dir.d (file_of old.image (table_in old.image index) dir.d).blocks
+      (until dir.end (length (file_of old.image (table_in old.image index) dir.d).blocks)) first after
+  pub looked : LooksAtHeaders index nexts dir at n most old new 0
 
 -- how many blocks hold records below the end
 abbrev pub record_blocks : File → ℕ
 record_blocks f = (entry_count f + 31) / 32
 
--- A directory's first header is read for its end, then each of its headers once, and then each block that holds a record below the end.
+-- Each header of a directory is read once, 256 at most, and each block that holds a record below the end.
 abbrev pub most_reads : Image → Table → ℕ → ℕ
-most_reads image t d = 257 + record_blocks (file_of image t d)
+most_reads image t d = 256 + record_blocks (file_of image t d)
 
--- A directory was read; so many transfers failed.
+-- A directory was looked at; so many transfers failed.
 pub record LooksFor (index : Index) (nexts : List ℕ) (d : ℕ) (old new : Disk) (faults : ℕ) : Type 0 where
   pub reads : ℕ
   pub looked : Looked old new reads faults
   pub few : IsTrue old.honest → KnowsNexts (table_in old.image index) nexts → IsLive (table_in old.image index) d → reads ≤ most_reads old.image (table_in old.image index) d
 
--- what was read of a directory has the records of a file
-pub record IsOfFile (f : File) (dir : Directory) : Type 0 where
-  pub count_is : dir.count ≡ entry_count f
-  pub each : (i : ℕ) → i < dir.count → entry dir i ≡ record_at f.blocks i
-
--- A directory was read.
-pub record ReadsDirectory (index : Index) (nexts : List ℕ) (d : ℕ) (dir : Directory) (old new : Disk) : Type 0 where
-  pub gives : IsTrue old.honest → KnowsNexts (table_in old.image index) nexts → IsLive (table_in old.image index) d → IsOfFile (file_of old.image (table_in old.image index) d) dir
+-- A directory's records were taken.
+pub record TakesDirectory (index : Index) (slots : List Slot) (nexts : List ℕ) (d : ℕ) (before after : Later) (old new : Disk) : Type 0 where
+  pub limit : limit_of after.entered ≡ limit_of before.entered
+  pub takes : IsTrue old.honest → KnowsNexts (table_in old.image index) nexts → KeepsTable (table_in old.image index) slots → IsLive (table_in old.image index) d
+      → TakesRecords (table_in old.image index) d (file_of old.image (table_in old.image index) d).blocks (entry_count (file_of old.image (table_in old.image index) d)) before after
   pub looked : LooksFor index nexts d old new 0

@@ -39,8 +39,7 @@ reads_at image t k = if has_directory image t (k + 1) then most_reads image t (k
 abbrev pub reads_up_to : Image → Table → ℕ → ℕ
 reads_up_to image t n = sum_to (reads_at image t) n
 
--- A directory's first header is read for its end, then each of its headers once, 256 at most, and each block once that holds a record
--- below the end.
+-- Of each directory each header is read once, 256 at most, and each block once that holds a record below the end.
 abbrev pub directory_reads : Image → Table → ℕ
 directory_reads image t = reads_up_to image t t.slots
 

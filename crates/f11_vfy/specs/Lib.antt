@@ -10,7 +10,6 @@ pub mod Fresh
 pub mod Init
 pub mod Framing
 pub mod Directories
-pub mod Entries
 pub mod Flaws
 pub mod Later
 pub mod DirectoryNotes

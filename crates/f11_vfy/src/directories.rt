@@ -8,7 +8,6 @@ ghost use Rattle.f11_vfy.specs.Scans.{IsFileSlot};
 ghost use Rattle.f11_vfy.specs.Slot.{kept_slot};
 
 use crate::bits::Bits;
-use crate::contents::read_directory;
 use crate::fault::ReadFault;
 use crate::later::Later;
 use crate::reading::Reading;
@@ -91,8 +90,8 @@ impl Reading {
         if !is_directory(&self.survey.slots[k]) {
             return Ok(());
         }
-        let dir = read_directory(alloc, device, index, &self.chains.nexts, d)?;
-        later.take(alloc, &self.survey.slots, d, &dir)?;
+        let nexts = &self.chains.nexts;
+        later.take_directory(alloc, device, index, &self.survey.slots, nexts, d)?;
         Ok(())
     }
 
@@ -118,12 +117,12 @@ impl Reading {
         Ok(later)
     }
 
-    /// Adds the notes of directories, those of the codes 6 to 9, to those of the codes 1 to 5. It reads each directory's first header
-    /// for its end, then each of its headers once, and then each block once that holds a record before the end.
+    /// Adds the notes of directories, those of the codes 6 to 9, to those of the codes 1 to 5. For each directory it reads each of its
+    /// headers once, 256 at most, and each block once that holds a record before the end.
     ///
     /// # Errors
     ///
-    /// `DeviceFault` where a transfer failed; `NoMemory` where there was no memory for a directory's blocks or for a note.
+    /// `DeviceFault` where a transfer failed; `NoMemory` where there was no memory for a directory's names or for a note.
     pub(crate) fn add_directory_notes<D: Device>(
         &self,
         alloc: Global,
@@ -141,9 +140,15 @@ impl Reading {
     {
         let later = self.judge_directories(alloc, device, index)?;
         add_unentered(found, &self.survey.slots, &later.entered)?;
-        add_all(found, &later.no_file)?;
-        add_all(found, &later.repeated)?;
-        add_all(found, &later.no_name)?;
+        let Later {
+            no_file,
+            repeated,
+            no_name,
+            ..
+        } = later;
+        add_all(found, no_file)?;
+        add_all(found, repeated)?;
+        add_all(found, no_name)?;
         Ok(())
     }
 }

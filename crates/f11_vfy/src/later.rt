@@ -1,14 +1,17 @@
-//! What is found of a volume's directories, one after another.
-ghost use Rattle.std.specs.Prelude.{◌≡◌, ◌+◌, ◌<◌, length, IfOk, OnOk};
+//! What is found of a volume's directories, one record after another.
+ghost use Rattle.std.specs.Prelude.{◌≡◌, ◌+◌, ◌<◌, length, slice_index_or, [], IfOk, OnOk};
+ghost use Rattle.f11_dir.specs.Records.{record_of_bytes};
+ghost use Rattle.f11_store.specs.Directory.{record_at};
 
 use crate::bits::Bits;
-use crate::entries::Directory;
-use crate::flaws::{Flaw, add_flaws, enter_all};
-use crate::repeats::find_repeats;
+use crate::contents::Directory;
+use crate::flaws::{Flaw, enter, is_name};
 use crate::slot::Slot;
-use f11_bytes::NoMemory;
+use f11_bytes::{Block, NoMemory};
+use f11_dir::{Record, record_at};
 use f11_findings::Findings;
 use std::alloc::Global;
+use std::collections::BTreeSet;
 
 /// What is found of the directories so far: a list a flaw, so that none is put before many others.
 #[derive(Drop)]
@@ -21,13 +24,14 @@ pub(crate) struct Later {
     pub(crate) repeated: Findings,
     /// The records that have no name.
     pub(crate) no_name: Findings,
+    /// The names of the records so far of the directory in hand.
+    names: BTreeSet<[u16; 5]>,
 }
 
 impl Later {
-    ghost use Rattle.f11_index.specs.Table.{Table};
     ghost use Rattle.f11_vfy.specs.Bits.{limit_of};
-    ghost use Rattle.f11_vfy.specs.Chain.{KeepsTable};
-    ghost use Rattle.f11_vfy.specs.Later.{IsNewLater, TakesDirectory};
+    ghost use Rattle.f11_vfy.specs.Directories.{until};
+    ghost use Rattle.f11_vfy.specs.Later.{Begins, IsNewLater, TakesOn};
 
     /// Nothing is found yet, of a volume of so many slots.
     pub(crate) fn new(alloc: Global, slots: u32) -> Result<Later, NoMemory>
@@ -40,31 +44,66 @@ impl Later {
             no_file: Findings::new(alloc),
             repeated: Findings::new(alloc),
             no_name: Findings::new(alloc),
+            names: BTreeSet::new(alloc),
         })
     }
 
-    /// Takes directory `d`.
+    /// Takes the next directory in hand, of which no name is known yet.
+    pub(crate) fn begin(&mut self, alloc: Global)
+        ensures { Begins self.old self.new }
+    {
+        self.names = BTreeSet::new(alloc);
+    }
+
+    /// Takes record `i` of directory `d`, where those before it are taken.
     ///
     /// # Errors
     ///
-    /// `NoMemory` where there is no memory for its names or for a finding.
-    pub(crate) fn take(
+    /// `NoMemory` where there is no memory for its name or for a finding.
+    fn take_record(
         &mut self,
-        alloc: Global,
         slots: &[Slot],
         d: u16,
-        dir: &Directory,
+        i: u32,
+        record: &Record,
     ) -> Result<(), NoMemory>
         requires { limit_of self.old.entered ≡ length slots.now + 1 }
-        ensures limit { OnOk result (limit_of self.new.entered ≡ limit_of self.old.entered) }
-        ensures takes { (t : Table) → KeepsTable t slots.now
-            → OnOk result (TakesDirectory t d dir.now self.old self.new) }
+        ensures { OnOk result (TakesOn slots.now d
+            (λ blocks. record.now ≡ record_of_bytes (record_at blocks i)) i (i + 1) self.old self.new) }
     {
-        let repeats = find_repeats(alloc, dir)?;
-        add_flaws(&mut self.no_file, Flaw::NoFile, slots, d, dir, &repeats)?;
-        add_flaws(&mut self.repeated, Flaw::Repeated, slots, d, dir, &repeats)?;
-        add_flaws(&mut self.no_name, Flaw::NoName, slots, d, dir, &repeats)?;
-        enter_all(slots, dir, &mut self.entered);
+        if record.is_empty() {
+            return Ok(());
+        }
+        let added = self.names.insert(record.words)?;
+        let file = enter(slots, record.id, &mut self.entered);
+        self.no_file.add_if(!file, Flaw::NoFile.of(d, i))?;
+        self.repeated.add_if(!added, Flaw::Repeated.of(d, i))?;
+        self.no_name
+            .add_if(!is_name(record.words), Flaw::NoName.of(d, i))?;
+        Ok(())
+    }
+
+    /// Takes the records before the end in block `at`, from 0, of a directory, where those before it are taken.
+    ///
+    /// # Errors
+    ///
+    /// `NoMemory` where there is no memory for their names or for a finding.
+    pub(crate) fn take_block(
+        &mut self,
+        slots: &[Slot],
+        dir: Directory,
+        at: u32,
+        block: &Block,
+    ) -> Result<(), NoMemory>
+        requires limit { limit_of self.old.entered ≡ length slots.now + 1 }
+        requires few { at < 8323072 }
+        ensures { OnOk result (TakesOn slots.now dir.d (λ blocks. slice_index_or blocks at [] ≡ block.now)
+            (until dir.end at) (until dir.end (at + 1)) self.old self.new) }
+    {
+        for k in 0..dir.end.saturating_sub(u64::from(32 * at)).min(32) as u32 {
+            let record = record_at(block, k as usize);
+            self.take_record(slots, dir.d, 32 * at + k, &record)?;
+        }
         Ok(())
     }
 }

@@ -88,21 +88,30 @@ impl Reading {
     /// # Errors
     ///
     /// `NoMemory` where there is no memory for them.
-    pub fn faults(&self, alloc: Global) -> Result<Findings, NoMemory>
-        ensures exact { IfOk result (λ found. (v : Volume) → ShowsVolume v self.now
+    pub fn into_faults(self, alloc: Global) -> Result<Findings, NoMemory>
+        ensures exact { IfOk result (λ found. (v : Volume) → ShowsVolume v self
             → IsExactly (IsVolumeFault v) found) }
     {
-        let slots = &self.survey.slots;
-        let named_free = self.survey.tally.once.common(alloc, &self.free)?;
+        let Reading {
+            survey,
+            chains,
+            free,
+        } = self;
+        let Survey {
+            tally,
+            outside,
+            slots,
+        } = survey;
+        let named_free = tally.once.common(alloc, &free)?;
         let mut found = Findings::new(alloc);
-        add_headers(&mut found, Kind::BadHeader, slots, &self.chains)?;
-        add_all(&mut found, &self.survey.outside)?;
-        add_marked(&mut found, NAMED_TWICE, &self.survey.tally.twice)?;
+        add_headers(&mut found, Kind::BadHeader, &slots, &chains)?;
+        add_all(&mut found, outside)?;
+        add_marked(&mut found, NAMED_TWICE, &tally.twice)?;
         add_marked(&mut found, NAMED_FREE, &named_free)?;
-        add_headers(&mut found, Kind::WrongLink, slots, &self.chains)?;
-        add_marked(&mut found, LINKED_TWICE, &self.chains.linked.twice)?;
-        add_headers(&mut found, Kind::LinkPastLast, slots, &self.chains)?;
-        add_headers(&mut found, Kind::LinkToVolume, slots, &self.chains)?;
+        add_headers(&mut found, Kind::WrongLink, &slots, &chains)?;
+        add_marked(&mut found, LINKED_TWICE, &chains.linked.twice)?;
+        add_headers(&mut found, Kind::LinkPastLast, &slots, &chains)?;
+        add_headers(&mut found, Kind::LinkToVolume, &slots, &chains)?;
         Ok(found)
     }
 

@@ -227,13 +227,13 @@ fn add_lost_word(
     Ok(start)
 }
 
-/// Adds other findings.
+/// Adds other findings, whose memory is given back then.
 ///
 /// # Errors
 ///
 /// `NoMemory` where there is no memory for them.
-pub(crate) fn add_all(found: &mut Findings, more: &Findings) -> Result<(), NoMemory>
-    ensures { OnOk result (Finds (λ code a b. Contains more.now (finding code a b))
+pub(crate) fn add_all(found: &mut Findings, more: Findings) -> Result<(), NoMemory>
+    ensures { OnOk result (Finds (λ code a b. Contains more (finding code a b))
         found.old found.new) }
 {
     for i in 0..more.len() {

@@ -44,10 +44,17 @@ pub enum VfyError<D: Device> {
 /// be, that is the only fault and there are no notes.
 ///
 /// It writes nothing. It reads each candidate for the home block up to the one found; each block of the index bitmap, each header in use
-/// and each block of the storage bitmap once, and the headers of files 1 to 4 once more; then the headers and the blocks of each
-/// directory, up to its end: its first header twice, each other header and each block once. It takes two bits for each block that a
-/// retrieval pointer can name (4 MiB in all), two bits for each block of the volume, some 20 bytes a slot, and for one directory at a
-/// time its blocks, up to its end, and its records' names, with four bytes for each block that its headers name.
+/// and each block of the storage bitmap once, and the headers of files 1 to 4 once more; then for each directory each of its headers
+/// once, 256 at most and none behind its end, and each of its blocks once that holds a record before the end. A block past the device's
+/// end counts as zeros, and neither is read nor takes a step.
+///
+/// So the time is at most that of these reads, and of a step for each pointer of a header that was read and for each record: n log n
+/// steps for n records of a directory. A header to which several directories lead, which is a fault, is read for each of them, with the
+/// blocks that it names: at most 256 headers a directory.
+///
+/// It takes two bits for each block that a retrieval pointer can name (4 MiB in all), two bits for each block of the volume, some 20
+/// bytes a slot, 12 bytes for each fault and each note, and for one directory at a time the names of its records, 10 bytes each and what
+/// a tree of them takes.
 ///
 /// # Errors
 ///
@@ -105,10 +112,9 @@ fn examine_volume<D: Device>(
 {
     let index = &frame.index;
     let reading = Reading::read(alloc, device, index, frame.places(), frame.size)?;
-    let faults = reading.faults(alloc)?;
     let mut notes = reading.notes(alloc)?;
     reading.add_directory_notes(alloc, device, index, &mut notes)?;
-    Ok((faults, notes))
+    Ok((reading.into_faults(alloc)?, notes))
 }
 
 /// A list of one fault.

@@ -9,22 +9,17 @@ returns-then-not-is_directory-clause-judges g c =
     let old = g.D.Device.disk c.args.device.now in
     judges-none (index_kept c.args.index.now) c.args.self.now c.args.k c.index.result.now old old c.requires.slot c.index.ensures c.args.later.now (λ h. both_ways _ c.if-not-is_directory.true (c.is_directory.ensures.1 h))
 
-pub returns-in_err-dir-clause-failed : goal.returns-in_err-dir-clause-failed
-returns-in_err-dir-clause-failed g c = λ is.
-    looks-at (index_kept c.args.index.now) c.args.self.now c.args.k c.index.result.now _ _ c.requires.slot c.index.ensures (c.is_directory.ensures.0 c.if-not-is_directory.false) 1
-    (rw c.deref.ensures.value at (c.in_err-dir.ensures.failed (handed-on _ _ _ c.from_residual.ensures.1 is)))
-
-pub returns-in_err-dir-clause-no_memory : goal.returns-in_err-dir-clause-no_memory
-returns-in_err-dir-clause-no_memory g c = λ is.
-    looks-at (index_kept c.args.index.now) c.args.self.now c.args.k c.index.result.now _ _ c.requires.slot c.index.ensures (c.is_directory.ensures.0 c.if-not-is_directory.false) 0
-    (rw c.deref.ensures.value at (c.in_err-dir.ensures.no_memory (handed-on _ _ _ c.from_residual.ensures.1 is)))
-
-pub returns-in_err-take-clause-no_memory : goal.returns-in_err-take-clause-no_memory
-returns-in_err-take-clause-no_memory g c = λ is.
-    let reads = rw c.deref.ensures.value at c.in_ok-dir.ensures.reads in
-    looks-at (index_kept c.args.index.now) c.args.self.now c.args.k c.index.result.now _ _ c.requires.slot c.index.ensures (c.is_directory.ensures.0 c.if-not-is_directory.false) 0 reads.looked
-
 pub returns-clause-judges : goal.returns-clause-judges
 returns-clause-judges g c =
-    judges-directory (index_kept c.args.index.now) c.args.self.now c.args.k c.index.result.now _ _ c.requires.slot c.index.ensures (c.is_directory.ensures.0 c.if-not-is_directory.false) c.in_ok-dir.dir _ _
-    (rw c.deref.ensures.value at c.in_ok-dir.ensures.reads) (rw c.deref-2.ensures.value at c.in_ok-take.ensures.takes) c.in_ok-take.ensures.limit
+    judges-directory (index_kept c.args.index.now) c.args.self.now c.args.k c.index.result.now _ _ c.requires.slot c.index.ensures (c.is_directory.ensures.0 c.if-not-is_directory.false) _ _
+    (rw (c.deref.ensures.value, c.deref-2.ensures.value) at c.in_ok-take_directory.ensures.takes)
+
+pub returns-in_err-take_directory-clause-failed : goal.returns-in_err-take_directory-clause-failed
+returns-in_err-take_directory-clause-failed g c = λ is.
+    looks-at (index_kept c.args.index.now) c.args.self.now c.args.k c.index.result.now _ _ c.requires.slot c.index.ensures (c.is_directory.ensures.0 c.if-not-is_directory.false) 1
+    (rw c.deref-2.ensures.value at (c.in_err-take_directory.ensures.failed (handed-on _ _ _ c.from_residual.ensures.1 is)))
+
+pub returns-in_err-take_directory-clause-no_memory : goal.returns-in_err-take_directory-clause-no_memory
+returns-in_err-take_directory-clause-no_memory g c = λ is.
+    looks-at (index_kept c.args.index.now) c.args.self.now c.args.k c.index.result.now _ _ c.requires.slot c.index.ensures (c.is_directory.ensures.0 c.if-not-is_directory.false) 0
+    (rw c.deref-2.ensures.value at (c.in_err-take_directory.ensures.no_memory (handed-on _ _ _ c.from_residual.ensures.1 is)))
