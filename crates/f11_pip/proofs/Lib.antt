@@ -1,2 +1,3 @@
+mod LineLemmas
 pub mod OctalLemmas
 pub mod WordsLemmas

@@ -1,4 +1,5 @@
 -- What clap makes of the words.
+use Rattle.std.specs.Option.{option_map_or}
 use Rattle.std.proofs.Common.{IfSome, ok_or, ◌⊎◌, inl, inr, length, ◌≤◌, arith, Result, Ok, Err, IsErrAnd, IsOkAnd, MatchResult, Bool, not, ◌&&◌, ap, ◌∙◌, ◌≡◌, List, [], ◌∷◌, Option, Some, None, true, false, codes, refl, map, option_map, option_and_then}
 use Rattle.clap.specs.Words.{Row, Text, first_of, is_simple, subcommand_of, takes}
 use Rattle.clap.proofs.OnLiterals.{clap_on_literals}
@@ -8,10 +9,9 @@ use Rattle.f11_pip.specs.declared.outcome.Failure.{Failure}
 use Rattle.f11_pip.specs.declared.outcome.Failure.TheVariants.{NoMemory}
 use Rattle.f11_pip.specs.Outcome.{failure_of_kind}
 use Rattle.f11_store.specs.declared.callers.Uic.{Uic}
-use Rattle.f11_pip.specs.Commands.{MeetsDump, MeetsRights, command_and_word, program_app}
+use Rattle.f11_pip.specs.Commands.{MeetsDump, MeetsRights, command_and_word, command_and_words, program_app, words_in}
 use Rattle.f11_pip.specs.Octal.{SpellsUic}
-use Rattle.f11_pip.specs.Words.{AskNoRights, is_option}
-use Rattle.f11_pip.specs.declared.words.Words.TheVariants.{Dump, Home, Init, Name, Rights, RtInit, RtList, RtVfy, Vfy}
+use Rattle.f11_pip.specs.Words.{IsNoUic, is_option}
 
 pub is_simple-program : is_simple program_app ≡ true
 unfolding clap_on_literals
@@ -133,6 +133,14 @@ first_of-met (Some met) rows name id word its is =
     let same : rows ≡ met.1 = cc in
     ap (first_of id) same ∙ ap (option_and_then (λ (p : Text × Option Text). p.1)) is
 
+-- the words of the command that was met stand in its rows
+pub words_met : (met : Option (Text × List Row)) (rows : List Row) (name : Text) (ids : List Text) (values : List (Option Text))
+    → Some rows ≡ option_map (λ p. p.1) met → command_and_words ids met ≡ Some (name, values) → words_in ids rows ≡ values
+words_met None rows name ids values its is = cc
+words_met (Some met) rows name ids values its is =
+    let same : rows ≡ met.1 = cc in
+    ap (words_in ids) same ∙ ap (λ (o : Option (Text × List (Option Text))). option_map_or (λ p. p.1) o []) is
+
 -- where memory ran out that is the failure
 pub failure_out_of_memory : {T : Type 0} (P : T → Type 0) (r : Result T Failure) (kind : ErrorKind) → IsErrAnd r (λ failure. failure ≡ failure_of_kind kind)
     → kind ≡ OutOfMemory → MatchResult r P (λ failure. failure ≡ NoMemory)
@@ -144,32 +152,9 @@ match_ok P Q (Ok x) holds = holds
 match_ok P Q (Err e) holds = absurd holds
 
 pub uic_or_none : (r : Option Uic) (out : Result Uic Failure) (failure : Failure) (text : Text) → out ≡ ok_or r failure → IfSome r (SpellsUic text)
-    → ((uic : Uic) → SpellsUic text uic → r ≡ Some uic) → MatchResult out (SpellsUic text) (λ _. (uic : Uic) → SpellsUic text uic → ⊥)
+    → ((uic : Uic) → SpellsUic text uic → r ≡ Some uic) → MatchResult out (SpellsUic text) (λ _. IsNoUic text)
 uic_or_none None out failure text is spelled every = rw is (λ uic s. let same = every uic s in cc)
 uic_or_none (Some uic) out failure text is spelled every = rw is spelled
-
--- a text that spells no user's code asks for no rights
-pub no_caller : (caller owner word : Text) → ((uic : Uic) → SpellsUic caller uic → ⊥) → AskNoRights caller owner word
-no_caller caller owner word none (Dump image number) asks = asks
-no_caller caller owner word none (Home image) asks = asks
-no_caller caller owner word none (Name text) asks = asks
-no_caller caller owner word none (Vfy image) asks = asks
-no_caller caller owner word none (Init to count slots_is label_is max_is) asks = asks
-no_caller caller owner word none (RtList image) asks = asks
-no_caller caller owner word none (RtVfy image) asks = asks
-no_caller caller owner word none (RtInit to count segments_are) asks = asks
-no_caller caller owner word none (Rights c o w) asks = none c asks.0
-
-pub no_owner : (caller owner word : Text) → ((uic : Uic) → SpellsUic owner uic → ⊥) → AskNoRights caller owner word
-no_owner caller owner word none (Dump image number) asks = asks
-no_owner caller owner word none (Home image) asks = asks
-no_owner caller owner word none (Name text) asks = asks
-no_owner caller owner word none (Vfy image) asks = asks
-no_owner caller owner word none (Init to count slots_is label_is max_is) asks = asks
-no_owner caller owner word none (RtList image) asks = asks
-no_owner caller owner word none (RtVfy image) asks = asks
-no_owner caller owner word none (RtInit to count segments_are) asks = asks
-no_owner caller owner word none (Rights c o w) asks = none o asks.1
 
 pub at_err : {T E Q : Type 0} (P : T → Type 0) (F : E → Type 0) (r : Result T E) → IsErrAnd r F → Q → MatchResult r P (λ _. Q)
 at_err P F (Ok x) fails holds = absurd fails

@@ -1,5 +1,5 @@
 -- The commands as `clap` is told of them (profile).
-use Rattle.std.specs.Prelude.{◌≡◌, List, Bool, true, false, Option, Some, codes, option_map}
+use Rattle.std.specs.Prelude.{◌≡◌, List, [], ◌∷◌, Bool, true, false, Option, Some, codes, map, option_map}
 use Rattle.clap.specs.Words.{App, Row, Rule, Text, first_of, first_value, found_of, new_app, new_rule, with_rule, with_subcommand}
 use Rattle.clap.specs.declared.parser.matches.ArgMatches.{ArgMatches}
 use Rattle.clap.specs.declared.builder.action.ArgAction.TheVariants.{Set}
@@ -80,6 +80,30 @@ MeetsRights caller owner word met = MeetsWord (codes "rights") (codes "uic") cal
 -- `dump` was met, with these two words
 abbrev pub MeetsDump : Text → Text → Option (Text × List Row) → Type 0
 MeetsDump image number met = MeetsWord (codes "dump") (codes "image") image met × MeetsWord (codes "dump") (codes "number") number met
+
+-- the first words of these names, where there are such
+abbrev pub words_in : List Text → List Row → List (Option Text)
+words_in ids rows = map (λ id. first_of id rows) ids
+
+-- the name of the command that was met, and its words of these names
+abbrev pub command_and_words : List Text → Option (Text × List Row) → Option (Text × List (Option Text))
+command_and_words ids = option_map (λ p. (p.0, words_in ids p.1))
+
+-- the names of the words of `init`, and of those of `rt-init`
+abbrev pub init_names : List Text
+init_names = codes "blocks" ∷ codes "slots" ∷ codes "label" ∷ codes "max" ∷ codes "image" ∷ []
+
+abbrev pub rt_init_names : List Text
+rt_init_names = codes "blocks" ∷ codes "segments" ∷ codes "image" ∷ []
+
+-- `init` was met, with these words, the greatest number of files among them or not
+abbrev pub MeetsInit : Text → Text → Text → Option Text → Text → Option (Text × List Row) → Type 0
+MeetsInit blocks slots label max image met =
+    command_and_words init_names met ≡ Some (codes "init", Some blocks ∷ Some slots ∷ Some label ∷ max ∷ Some image ∷ [])
+
+-- `rt-init` was met, with these words
+abbrev pub MeetsRtInit : Text → Text → Text → Option (Text × List Row) → Type 0
+MeetsRtInit blocks segments image met = command_and_words rt_init_names met ≡ Some (codes "rt-init", Some blocks ∷ Some segments ∷ Some image ∷ [])
 
 -- a command has this word of this name
 abbrev pub HasWord : Text → Text → ArgMatches → Type 0

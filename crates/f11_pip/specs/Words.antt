@@ -1,7 +1,8 @@
 -- The words of the command line (profile).
-use Rattle.std.specs.Prelude.{◌≡◌, ◌⊎◌, ℕ, ◌==◌, Bool, false, List, [], ◌∷◌, Option, Some, None, codes}
-use Rattle.f11_pip.specs.Decimal.{IsNumber, SpellsNumber, SpellsCount}
-use Rattle.f11_pip.specs.Octal.{SpellsProtection, SpellsUic}
+use Rattle.std.specs.Prelude.{◌≡◌, ◌⊎◌, ℕ, ◌==◌, All, Bool, false, List, [], ◌∷◌, Option, Some, None, codes}
+use Rattle.f11_store.specs.declared.callers.Uic.{Uic}
+use Rattle.f11_pip.specs.Decimal.{IsCount, IsNumber, SpellsNumber, SpellsCount}
+use Rattle.f11_pip.specs.Octal.{IsProtection, SpellsProtection, SpellsUic}
 use Rattle.f11_pip.specs.declared.outcome.Failure.{Failure}
 use Rattle.f11_pip.specs.declared.outcome.Failure.TheVariants.{NoMemory}
 use Rattle.f11_pip.specs.declared.words.Words.{Words}
@@ -12,35 +13,49 @@ abbrev pub is_option : List ℕ → Bool
 is_option [] = false
 is_option (b ∷ bs) = b == 45
 
--- A command line of this command and this word: the program's name stands before them, and the word is no option.
-pub record IsLine (command word : List ℕ) (line : List (List ℕ)) : Type 0 where
-  pub program : List ℕ
-  pub is_line : line ≡ program ∷ command ∷ word ∷ []
-  pub plain : is_option word ≡ false
+-- A command, with its words. `init` isn't among them.
+pub data CommandLine : Type 0 where
+  dump_line : (image number : List ℕ) → CommandLine
+  home_line : (image : List ℕ) → CommandLine
+  name_line : (text : List ℕ) → CommandLine
+  rights_line : (caller owner word : List ℕ) → CommandLine
+  rt_init_line : (blocks segments image : List ℕ) → CommandLine
+  rt_list_line : (image : List ℕ) → CommandLine
+  rt_vfy_line : (image : List ℕ) → CommandLine
+  vfy_line : (image : List ℕ) → CommandLine
 
--- A command line of `rights` and these three words, none of which is an option.
-pub record IsRightsLine (caller owner word : List ℕ) (line : List (List ℕ)) : Type 0 where
-  pub program : List ℕ
-  pub is_line : line ≡ program ∷ codes "rights" ∷ caller ∷ owner ∷ word ∷ []
-  pub plain_caller : is_option caller ≡ false
-  pub plain_owner : is_option owner ≡ false
-  pub plain_word : is_option word ≡ false
+-- the words of a command line behind the program's name, in the order of the usage text
+abbrev pub words_of : CommandLine → List (List ℕ)
+words_of (dump_line image number) = codes "dump" ∷ image ∷ number ∷ []
+words_of (home_line image) = codes "home" ∷ image ∷ []
+words_of (name_line text) = codes "name" ∷ text ∷ []
+words_of (rights_line caller owner word) = codes "rights" ∷ caller ∷ owner ∷ word ∷ []
+words_of (rt_init_line blocks segments image) = codes "rt-init" ∷ codes "--blocks" ∷ blocks ∷ codes "--segments" ∷ segments ∷ image ∷ []
+words_of (rt_list_line image) = codes "rt-list" ∷ image ∷ []
+words_of (rt_vfy_line image) = codes "rt-vfy" ∷ image ∷ []
+words_of (vfy_line image) = codes "vfy" ∷ image ∷ []
 
--- A command line of `dump` and these two words, none of which is an option.
-pub record IsDumpLine (image number : List ℕ) (line : List (List ℕ)) : Type 0 where
+-- those of its words that no rule names
+abbrev pub texts_of : CommandLine → List (List ℕ)
+texts_of (dump_line image number) = image ∷ number ∷ []
+texts_of (home_line image) = image ∷ []
+texts_of (name_line text) = text ∷ []
+texts_of (rights_line caller owner word) = caller ∷ owner ∷ word ∷ []
+texts_of (rt_init_line blocks segments image) = blocks ∷ segments ∷ image ∷ []
+texts_of (rt_list_line image) = image ∷ []
+texts_of (rt_vfy_line image) = image ∷ []
+texts_of (vfy_line image) = image ∷ []
+
+-- A line of words is that of a command: the program's name stands before its words, none of whose texts is an option.
+pub record IsLineOf (command : CommandLine) (line : List (List ℕ)) : Type 0 where
   pub program : List ℕ
-  pub is_line : line ≡ program ∷ codes "dump" ∷ image ∷ number ∷ []
-  pub plain_image : is_option image ≡ false
-  pub plain_number : is_option number ≡ false
+  pub is_line : line ≡ program ∷ words_of command
+  pub plain : All (λ text. is_option text ≡ false) (texts_of command)
 
 -- the words ask for the header of this number of this image
 abbrev pub AsksDump : List ℕ → List ℕ → Words → Type 0
 AsksDump name text (Dump image number) = (image.now ≡ name) × SpellsNumber text number
 AsksDump name text _ = ⊥
-
--- memory ran out, or the text is no number
-abbrev pub FailsToAskDump : List ℕ → Failure → Type 0
-FailsToAskDump text failure = (failure ≡ NoMemory) ⊎ ¬ IsNumber text
 
 -- the words ask for the home block of this image
 abbrev pub AsksHome : List ℕ → Words → Type 0
@@ -88,10 +103,41 @@ abbrev pub AsksRights : List ℕ → List ℕ → List ℕ → Words → Type 0
 AsksRights caller owner word (Rights c o w) = SpellsUic caller c × SpellsUic owner o × SpellsProtection word w
 AsksRights caller owner word _ = ⊥
 
--- one of the three texts isn't as it has to be
-abbrev pub AskNoRights : List ℕ → List ℕ → List ℕ → Type 0
-AskNoRights caller owner word = (words : Words) → AsksRights caller owner word words → ⊥
+-- the words ask what the command line says
+abbrev pub Asks : CommandLine → Words → Type 0
+Asks (dump_line image number) words = AsksDump image number words
+Asks (home_line image) words = AsksHome image words
+Asks (name_line text) words = AsksName text words
+Asks (rights_line caller owner word) words = AsksRights caller owner word words
+Asks (rt_init_line blocks segments image) words = AsksRtInit blocks segments image words
+Asks (rt_list_line image) words = AsksRtList image words
+Asks (rt_vfy_line image) words = AsksRtVfy image words
+Asks (vfy_line image) words = AsksVfy image words
 
--- no rights are asked for: no memory is left, or one of the three texts isn't as it has to be
-abbrev pub FailsToAskRights : List ℕ → List ℕ → List ℕ → Failure → Type 0
-FailsToAskRights caller owner word failure = (failure ≡ NoMemory) ⊎ AskNoRights caller owner word
+-- a text spells no user's code
+abbrev pub IsNoUic : List ℕ → Type 0
+IsNoUic text = (uic : Uic) → ¬ SpellsUic text uic
+
+-- a text is there, and no number
+abbrev pub IsNoMax : Option (List ℕ) → Type 0
+IsNoMax None = ⊥
+IsNoMax (Some text) = ¬ IsNumber text
+
+-- one of the numbers of `init` isn't one
+abbrev pub IsNoInit : List ℕ → List ℕ → Option (List ℕ) → Type 0
+IsNoInit blocks slots max = ¬ IsCount blocks ⊎ (¬ IsNumber slots ⊎ IsNoMax max)
+
+-- one of its texts isn't as it has to be
+abbrev pub IsUnreadable : CommandLine → Type 0
+IsUnreadable (dump_line image number) = ¬ IsNumber number
+IsUnreadable (home_line image) = ⊥
+IsUnreadable (name_line text) = ⊥
+IsUnreadable (rights_line caller owner word) = IsNoUic caller ⊎ (IsNoUic owner ⊎ ¬ IsProtection word)
+IsUnreadable (rt_init_line blocks segments image) = ¬ IsNumber blocks ⊎ ¬ IsNumber segments
+IsUnreadable (rt_list_line image) = ⊥
+IsUnreadable (rt_vfy_line image) = ⊥
+IsUnreadable (vfy_line image) = ⊥
+
+-- memory ran out, or one of its texts isn't as it has to be
+abbrev pub FailsToAsk : CommandLine → Failure → Type 0
+FailsToAsk command failure = (failure ≡ NoMemory) ⊎ IsUnreadable command

@@ -2,9 +2,8 @@
 ghost use Rattle.std.specs.Prelude.{◌≡◌, ◌≤◌, ◌⊎◌, length, ℕ, List, false, codes, map, option_map, Option, None, IfOk, IfErr, IsErr, IsOkAnd, MatchResult};
 ghost use Rattle.std.specs.Result.{result_ok};
 ghost use Rattle.clap.specs.Words.{app_of, first_value, found_of, rule_of, subcommand_rows_of};
-ghost use Rattle.f11_store.specs.declared.callers.Uic.{Uic};
-ghost use Rattle.f11_pip.specs.Words.{AskNoRights, AsksDump, AsksHome, AsksInit, AsksName, AsksRights, AsksRtInit, AsksRtList, AsksRtVfy, AsksVfy, SpellsMax, FailsToAskDump, FailsToAskRights, IsDumpLine, IsLine, IsRightsLine};
-ghost use Rattle.f11_pip.specs.Commands.{HasDumpWords, HasInitWords, HasRightsWords, HasRtInitWords, HasWord, MeetsDump, MeetsRights, MeetsWord, dump_app, files_app, home_app, init_app, init_options, name_app, needed_rule, option_rule, program_app, rights_app, rt_init_app, rt_list_app, rt_vfy_app, vfy_app};
+ghost use Rattle.f11_pip.specs.Words.{Asks, AsksDump, AsksHome, AsksInit, AsksName, AsksRights, AsksRtInit, AsksRtList, AsksRtVfy, AsksVfy, CommandLine, FailsToAsk, IsLineOf, IsNoInit, IsNoMax, IsNoUic, IsUnreadable, SpellsMax, rights_line, rt_init_line};
+ghost use Rattle.f11_pip.specs.Commands.{HasDumpWords, HasInitWords, HasRightsWords, HasRtInitWords, HasWord, MeetsDump, MeetsInit, MeetsRights, MeetsRtInit, MeetsWord, dump_app, files_app, home_app, init_app, init_options, name_app, needed_rule, option_rule, program_app, rights_app, rt_init_app, rt_list_app, rt_vfy_app, vfy_app};
 ghost use Rattle.f11_pip.specs.Decimal.{IsNumber, SpellsNumber};
 ghost use Rattle.f11_pip.specs.Octal.{IsProtection, SpellsProtection, SpellsUic};
 
@@ -74,22 +73,8 @@ const MAX_FILES: u16 = 4000;
 /// Words that don't parse, that ask for help, or that are none at all are [`Failure::Usage`], and so are numbers, users' codes and
 /// protection words that [`read_number`], [`read_uic`] and [`read_protection`] don't read.
 pub fn parse<'a, S: AsStr>(alloc: Global, words: &'a [S]) -> Result<Words<'a>, Failure>
-    ensures dump { (image number : List ℕ)
-        → IsDumpLine image number (map S.text words.entry.now)
-        → MatchResult result (AsksDump image number) (FailsToAskDump number) }
-    ensures home { (image : List ℕ) → IsLine (codes "home") image (map S.text words.entry.now)
-        → MatchResult result (AsksHome image) (λ failure. failure ≡ Failure.NoMemory) }
-    ensures name { (text : List ℕ) → IsLine (codes "name") text (map S.text words.entry.now)
-        → MatchResult result (AsksName text) (λ failure. failure ≡ Failure.NoMemory) }
-    ensures rights { (caller owner word : List ℕ)
-        → IsRightsLine caller owner word (map S.text words.entry.now)
-        → MatchResult result (AsksRights caller owner word) (FailsToAskRights caller owner word) }
-    ensures rt_list { (image : List ℕ) → IsLine (codes "rt-list") image (map S.text words.entry.now)
-        → MatchResult result (AsksRtList image) (λ failure. failure ≡ Failure.NoMemory) }
-    ensures rt_vfy { (image : List ℕ) → IsLine (codes "rt-vfy") image (map S.text words.entry.now)
-        → MatchResult result (AsksRtVfy image) (λ failure. failure ≡ Failure.NoMemory) }
-    ensures vfy { (image : List ℕ) → IsLine (codes "vfy") image (map S.text words.entry.now)
-        → MatchResult result (AsksVfy image) (λ failure. failure ≡ Failure.NoMemory) }
+    ensures asks { (command : CommandLine) → IsLineOf command (map S.text words.entry.now)
+        → MatchResult result (Asks command) (FailsToAsk command) }
     ensures none { length words.entry.now ≤ 1 → IsErr result }
     ensures failures { IfErr result (λ failure. (failure ≡ Failure.Usage)
         ⊎ (failure ≡ Failure.NoMemory)) }
@@ -135,7 +120,15 @@ fn command_of<'a>(matches: &ArgMatches<'a>) -> Result<Words<'a>, Failure>
     ensures rights { (caller owner word : List ℕ)
         → MeetsRights caller owner word (subcommand_rows_of matches.now)
         → MatchResult result (AsksRights caller owner word)
-        (λ _. AskNoRights caller owner word) }
+        (λ _. IsUnreadable (rights_line caller owner word)) }
+    ensures init { (blocks slots label image : List ℕ) → (max : Option (List ℕ))
+        → MeetsInit blocks slots label max image (subcommand_rows_of matches.now)
+        → MatchResult result (AsksInit blocks slots label max image)
+        (λ _. IsNoInit blocks slots max) }
+    ensures rt_init { (blocks segments image : List ℕ)
+        → MeetsRtInit blocks segments image (subcommand_rows_of matches.now)
+        → MatchResult result (AsksRtInit blocks segments image)
+        (λ _. IsUnreadable (rt_init_line blocks segments image)) }
     ensures rt_list { (image : List ℕ)
         → MeetsWord (codes "rt-list") (codes "image") image (subcommand_rows_of matches.now)
         → IsOkAnd result (AsksRtList image) }
@@ -226,7 +219,8 @@ fn init_options<'a>(alloc: Global) -> Result<Command<'a>, AllocError>
 fn init_of<'a>(given: &ArgMatches<'a>) -> Result<Words<'a>, Failure>
     ensures init { (blocks slots label image : List ℕ) → (max : Option (List ℕ))
         → HasInitWords blocks slots label max image given.now
-        → IfOk result (AsksInit blocks slots label max image) }
+        → MatchResult result (AsksInit blocks slots label max image)
+        (λ _. IsNoInit blocks slots max) }
     ensures usage { IfErr result (λ failure. failure ≡ Failure.Usage) }
 {
     Ok(Words::Init {
@@ -241,7 +235,7 @@ fn init_of<'a>(given: &ArgMatches<'a>) -> Result<Words<'a>, Failure>
 /// How many files a volume may have, among the words of `init`.
 fn max_files_of(given: &ArgMatches<'_>) -> Result<u16, Failure>
     ensures max { (max : Option (List ℕ)) → first_value (found_of given.now) (codes "max") ≡ max
-        → IfOk result (SpellsMax max) }
+        → MatchResult result (SpellsMax max) (λ _. IsNoMax max) }
     ensures usage { IfErr result (λ failure. failure ≡ Failure.Usage) }
 {
     match given.get_str("max") {
@@ -277,7 +271,7 @@ fn rights<'a>(alloc: Global) -> Result<Command<'a>, AllocError>
 fn rights_of<'a>(given: &ArgMatches<'a>) -> Result<Words<'a>, Failure>
     ensures rights { (caller owner word : List ℕ) → HasRightsWords caller owner word given.now
         → MatchResult result (AsksRights caller owner word)
-        (λ _. AskNoRights caller owner word) }
+        (λ _. IsUnreadable (rights_line caller owner word)) }
     ensures usage { IfErr result (λ failure. failure ≡ Failure.Usage) }
 {
     Ok(Words::Rights {
@@ -290,7 +284,7 @@ fn rights_of<'a>(given: &ArgMatches<'a>) -> Result<Words<'a>, Failure>
 /// The user's code that a word spells.
 fn uic_of(given: &ArgMatches<'_>, name: &str) -> Result<Uic, Failure>
     ensures uic { (text : List ℕ) → HasWord name.now text given.now
-        → MatchResult result (SpellsUic text) (λ _. (uic : Uic) → ¬ SpellsUic text uic) }
+        → MatchResult result (SpellsUic text) (λ _. IsNoUic text) }
     ensures usage { IfErr result (λ failure. failure ≡ Failure.Usage) }
 {
     read_uic(word_of(given, name)?).ok_or(Failure::Usage)
@@ -317,7 +311,8 @@ fn rt_init<'a>(alloc: Global) -> Result<Command<'a>, AllocError>
 fn rt_init_of<'a>(given: &ArgMatches<'a>) -> Result<Words<'a>, Failure>
     ensures rt_init { (blocks segments image : List ℕ)
         → HasRtInitWords blocks segments image given.now
-        → IfOk result (AsksRtInit blocks segments image) }
+        → MatchResult result (AsksRtInit blocks segments image)
+        (λ _. IsUnreadable (rt_init_line blocks segments image)) }
     ensures usage { IfErr result (λ failure. failure ≡ Failure.Usage) }
 {
     Ok(Words::RtInit {

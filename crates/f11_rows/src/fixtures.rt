@@ -1,5 +1,5 @@
 //! What the tests have in common.
-use f11_bytes::{BLOCK_SIZE, Block, NoMemory, write_word, zeros};
+use f11_bytes::{BLOCK_SIZE, Block, NoMemory, read_word, write_word, zeros};
 use f11_dev::{Device, DeviceFault, Memory};
 use f11_findings::{Finding, Findings};
 use f11_header::{HeaderMut, blank};
@@ -84,10 +84,10 @@ pub fn linked(id: FileId, segment: u8, link: FileId, pointers: &[(u16, u8)]) -> 
 }
 
 /// Room for some lines.
-pub type Lines = Cursor<[u8; 200]>;
+pub type Lines = Cursor<[u8; 300]>;
 
 pub fn lines() -> Lines {
-    Cursor::new([0; 200])
+    Cursor::new([0; 300])
 }
 
 /// What was written.
@@ -154,4 +154,19 @@ pub fn are_found(findings: &Findings, wanted: &[(u8, u32, u32)]) -> bool {
         }
     }
     findings.len() == wanted.len()
+}
+
+/// Whether a block of a device has these words, each at its byte.
+pub fn has_words(
+    device: &mut impl Device,
+    lbn: u32,
+    words: &[(usize, u16)],
+) -> Result<bool, DeviceFault> {
+    let block = get(device, lbn)?;
+    for (at, word) in words {
+        if *at >= 511 || read_word(&block, *at) != *word {
+            return Ok(false);
+        }
+    }
+    Ok(true)
 }

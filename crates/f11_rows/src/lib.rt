@@ -17,6 +17,8 @@ mod index;
 #[cfg(test)]
 mod lines;
 #[cfg(test)]
+mod longest;
+#[cfg(test)]
 mod names;
 #[cfg(test)]
 mod pointers;
@@ -24,6 +26,12 @@ mod pointers;
 mod refused;
 #[cfg(test)]
 mod requests;
+#[cfg(test)]
+mod rt_files;
+#[cfg(test)]
+mod rt_segments;
+#[cfg(test)]
+mod rt_transfers;
 #[cfg(test)]
 mod rt_volumes;
 #[cfg(test)]

@@ -364,8 +364,8 @@ fn interrupts_have_an_end(rt: HostRuntime) -> Result<(), Fail> {
 
 /// A reader of so many line feeds.
 #[derive(Drop)]
-struct LineFeeds {
-    left: u64,
+pub struct LineFeeds {
+    pub left: u64,
 }
 
 impl Read for LineFeeds {

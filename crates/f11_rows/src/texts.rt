@@ -11,7 +11,7 @@ use f11_flx::{
 use std::test::Fail;
 
 /// Attributes with this record type, record attributes, record size, and end.
-fn attributes(kind: u8, carriage: u8, size: u16, block: u16, byte: u16) -> [u8; 32] {
+pub fn attributes(kind: u8, carriage: u8, size: u16, block: u16, byte: u16) -> [u8; 32] {
     let mut attr = [0; 32];
     (attr[0], attr[1]) = (kind, carriage);
     (attr[2], attr[3]) = ((size % 256) as u8, (size / 256) as u8);
@@ -243,7 +243,12 @@ fn lines_cross_the_ends_of_blocks(rt: HostRuntime) -> Result<(), Fail> {
 }
 
 /// How many bytes the text of a file has whose first block is this and each other one that.
-fn text_length(attr: &[u8; 32], blocks: u32, first: &Block, other: &Block) -> Result<u64, BadRecord>
+pub fn text_length(
+    attr: &[u8; 32],
+    blocks: u32,
+    first: &Block,
+    other: &Block,
+) -> Result<u64, BadRecord>
     requires { blocks ≤ 516096 }
 {
     let mut conversion = ToText::new(attr, blocks)?;

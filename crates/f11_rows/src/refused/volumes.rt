@@ -2,10 +2,10 @@
 use crate::fixtures::{are_found, file, keep, lines, linked, memory, put_words, text_of};
 use crate::{rt_volumes, volumes};
 use f11_bytes::NoMemory;
-use f11_commands::{Answer, Failure, print_rt_vfy, print_vfy};
+use f11_commands::{Answer, Failure, print_rt_list, print_rt_vfy, print_vfy};
 use f11_dev::{DeviceFault, Memory};
 use f11_vfy::{Report, VfyError};
-use rt11_volume::{RtName, RtReport, RtVfyError};
+use rt11_volume::{RtAccepted, RtArea, RtKind, RtName, RtRefusal, RtReport, RtVfyError};
 use std::alloc::Global;
 use std::io::Cursor;
 use std::test::Fail;
@@ -101,6 +101,73 @@ fn an_rt_report_is_written(rt: HostRuntime) -> Result<(), Fail> {
     Ok(())
 }
 
+/// A volume with file `A.TXT` of two blocks, and four empty areas of none.
+fn with_areas(alloc: Global) -> Result<Memory, Fail> {
+    let mut device = rt_volumes::made(memory(alloc, rt_volumes::BLOCKS)?)?;
+    put_words(&mut device, 6, &[(10, 0o2000), (12, 1600), (16, 32980)])?;
+    for i in 0..4 {
+        put_words(
+            &mut device,
+            6,
+            &[(24 + 14 * i, 0o1000), (38 + 14 * i, 0o4000)],
+        )?;
+    }
+    Ok(device)
+}
+
+/// The areas of a volume, asked for again where there was no memory.
+fn listed(alloc: Global, volume: &mut RtAccepted<Memory>) -> Result<Vec<RtArea>, RtRefusal> {
+    match volume.list(alloc) {
+        Err(RtRefusal::NoMemory) => volume.list(alloc),
+        done => done,
+    }
+}
+
+#[test]
+fn an_rt_volume_is_listed(rt: HostRuntime) -> Result<(), Fail> {
+    let device = with_areas(rt.alloc())?;
+    let Ok(RtReport::Accepted(mut volume, _)) = rt_verified(rt.alloc(), device) else {
+        return Err(DeviceFault)?;
+    };
+    let areas = listed(rt.alloc(), &mut volume)?;
+    let name: Option<RtName> = Some(RtName::parse(b"A.TXT")?);
+    for (i, (kind, name, start, length)) in [
+        (RtKind::Permanent, name, 16, 2),
+        (RtKind::Empty, None, 18, 0),
+        (RtKind::Empty, None, 18, 0),
+        (RtKind::Empty, None, 18, 0),
+        (RtKind::Empty, None, 18, 0),
+    ]
+    .into_iter()
+    .enumerate()
+    {
+        let area = RtArea {
+            kind,
+            name,
+            start,
+            length,
+            protected: false,
+        };
+        assert_eq!(rt; areas.get(i), Some(&area), "{i}");
+    }
+    assert_eq!(rt; areas.len(), 5);
+    Ok(())
+}
+
+#[test]
+fn an_rt_list_is_written(rt: HostRuntime) -> Result<(), Fail> {
+    let mut lines = lines();
+    let (device, mut answer) = print_rt_list(rt.alloc(), with_areas(rt.alloc())?, &mut lines);
+    if answer == Err(Failure::NoMemory) {
+        assert_eq!(rt; lines.position(), 0);
+        answer = print_rt_list(rt.alloc(), device, &mut lines).1;
+    }
+    assert_eq!(rt; answer, Ok(Answer::Done));
+    let text = b"perm A.TXT 16 2\nempty 18 0\nempty 18 0\nempty 18 0\nempty 18 0\n";
+    assert_eq!(rt; text_of(&lines), text.as_slice());
+    Ok(())
+}
+
 /// The text of a name, asked for again where memory was refused once.
 fn spelled(alloc: Global, name: &RtName) -> Result<String, NoMemory> {
     match name.text(alloc) {
@@ -114,6 +181,7 @@ fn rt_names(rt: HostRuntime) -> Result<(), Fail> {
     for (text, words) in [
         ("A.TXT", [1600, 0, 32980]),
         ("B.TXT", [3200, 0, 32980]),
+        ("C.TXT", [4800, 0, 32980]),
         ("ABCDEF.", [1683, 6606, 0]),
     ] {
         let name = RtName::parse(text.as_bytes())?;

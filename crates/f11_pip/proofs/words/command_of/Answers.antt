@@ -1,7 +1,8 @@
-use Rattle.std.proofs.Common.{◌∙◌, codes}
-use Rattle.clap.specs.Words.{found_of}
+use Rattle.std.proofs.Common.{◌∙◌, ap, codes, List, Option, None, slice_index_or}
+use Rattle.clap.specs.Words.{Text, found_of}
+use Rattle.f11_pip.specs.Commands.{init_names, rt_init_names}
 use Rattle.clap.proofs.WalkLemmas.{first_value-rows}
-use Rattle.f11_pip.proofs.WordsLemmas.{first_of-met}
+use Rattle.f11_pip.proofs.WordsLemmas.{first_of-met, words_met}
 use Rattle.f11_pip.proofs.words.command_of.Goals as goal
 
 pub returns-in-Some-home-default-clause-home : goal.returns-in-Some-home-default-clause-home
@@ -43,3 +44,25 @@ pub returns-in-Some-text-default-3-clause-rt_vfy : goal.returns-in-Some-text-def
 returns-in-Some-text-default-3-clause-rt_vfy c image met =
     c.rt_vfy_of.ensures.rt_vfy image (first_value-rows (found_of c.in-Some-text-default-3.given.now) (codes "image")
     ∙ first_of-met _ _ _ _ image c.in-Some-text-default-3.ensures.rows met)
+
+pub returns-in-Some-init-default-clause-init : goal.returns-in-Some-init-default-clause-init
+returns-in-Some-init-default-clause-init c blocks slots label image max met =
+    let given = c.in-Some-init-default.given.now in
+    let words = words_met _ _ _ init_names _ c.in-Some-init-default.ensures.rows met in
+    c.init_of.ensures.init blocks slots label image max (record {
+      blocks_are = first_value-rows (found_of given) (codes "blocks") ∙ ap (λ (l : List (Option Text)). slice_index_or l 0 None) words;
+      slots_are = first_value-rows (found_of given) (codes "slots") ∙ ap (λ (l : List (Option Text)). slice_index_or l 1 None) words;
+      label_is = first_value-rows (found_of given) (codes "label") ∙ ap (λ (l : List (Option Text)). slice_index_or l 2 None) words;
+      max_is = first_value-rows (found_of given) (codes "max") ∙ ap (λ (l : List (Option Text)). slice_index_or l 3 None) words;
+      image_is = first_value-rows (found_of given) (codes "image") ∙ ap (λ (l : List (Option Text)). slice_index_or l 4 None) words;
+    })
+
+pub returns-in-Some-text-default-clause-rt_init : goal.returns-in-Some-text-default-clause-rt_init
+returns-in-Some-text-default-clause-rt_init c blocks segments image met =
+    let given = c.in-Some-text-default.given.now in
+    let words = words_met _ _ _ rt_init_names _ c.in-Some-text-default.ensures.rows met in
+    c.rt_init_of.ensures.rt_init blocks segments image (record {
+      blocks_are = first_value-rows (found_of given) (codes "blocks") ∙ ap (λ (l : List (Option Text)). slice_index_or l 0 None) words;
+      segments_are = first_value-rows (found_of given) (codes "segments") ∙ ap (λ (l : List (Option Text)). slice_index_or l 1 None) words;
+      image_is = first_value-rows (found_of given) (codes "image") ∙ ap (λ (l : List (Option Text)). slice_index_or l 2 None) words;
+    })

@@ -1,0 +1,40 @@
+-- What clap makes of the words of `rt-init`, and of each command's.
+use Rattle.std.proofs.Common.{All, arith, ◌≡◌, [], ◌∷◌, None, true, false, codes, refl}
+use Rattle.std.specs.Str.{bytes_eq}
+use Rattle.clap.specs.Lexer.{strip_byte}
+use Rattle.clap.specs.Words.{Text, subcommand_of, takes}
+use Rattle.clap.proofs.OnLiterals.{clap_on_literals}
+use Rattle.f11_pip.specs.Commands.{MeetsRtInit, program_app}
+use Rattle.f11_pip.specs.Words.{CommandLine, dump_line, home_line, is_option, name_line, rights_line, rt_init_line, rt_list_line, rt_vfy_line, texts_of, vfy_line, words_of}
+use Rattle.f11_pip.proofs.WordsLemmas.{takes-dump, takes-home, takes-name, takes-rights, takes-rt_list, takes-rt_vfy, takes-vfy}
+
+-- a word that is no option begins with no hyphen, and isn't two of them
+pub no_hyphens : (word : Text) → is_option word ≡ false → strip_byte 45 word ≡ None
+no_hyphens [] plain = refl
+no_hyphens (b ∷ bs) plain = rw plain refl
+
+pub not_two : (word : Text) → is_option word ≡ false → bytes_eq word (45 ∷ 45 ∷ []) ≡ false
+not_two [] plain = refl
+not_two (b ∷ bs) plain = rw plain refl
+
+pub takes-rt_init : (program blocks segments image : Text) → is_option blocks ≡ false → is_option segments ≡ false → is_option image ≡ false
+    → takes program_app (program ∷ codes "rt-init" ∷ codes "--blocks" ∷ blocks ∷ codes "--segments" ∷ segments ∷ image ∷ []) ≡ true
+unfolding clap_on_literals
+takes-rt_init program blocks segments image p q r = rw (not_two blocks p, no_hyphens blocks p, no_hyphens blocks p, not_two segments q, no_hyphens segments q, no_hyphens segments q, not_two image r, no_hyphens image r, no_hyphens image r) refl
+
+pub subcommand_of-rt_init : (program blocks segments image : Text) → is_option blocks ≡ false → is_option segments ≡ false → is_option image ≡ false
+    → MeetsRtInit blocks segments image (subcommand_of program_app (program ∷ codes "rt-init" ∷ codes "--blocks" ∷ blocks ∷ codes "--segments" ∷ segments ∷ image ∷ []))
+unfolding clap_on_literals
+subcommand_of-rt_init program blocks segments image p q r = rw (not_two blocks p, no_hyphens blocks p, no_hyphens blocks p, not_two segments q, no_hyphens segments q, no_hyphens segments q, not_two image r, no_hyphens image r, no_hyphens image r) refl
+
+-- clap takes the words of a command line
+pub takes-line : (command : CommandLine) (program : Text) → All (λ text. is_option text ≡ false) (texts_of command)
+    → takes program_app (program ∷ words_of command) ≡ true
+takes-line (dump_line image number) program plain = takes-dump program image number (plain 0 [] (omega arith)) (plain 1 [] (omega arith))
+takes-line (home_line image) program plain = takes-home program image (plain 0 [] (omega arith))
+takes-line (name_line text) program plain = takes-name program text (plain 0 [] (omega arith))
+takes-line (rights_line caller owner word) program plain = takes-rights program caller owner word (plain 0 [] (omega arith)) (plain 1 [] (omega arith)) (plain 2 [] (omega arith))
+takes-line (rt_init_line blocks segments image) program plain = takes-rt_init program blocks segments image (plain 0 [] (omega arith)) (plain 1 [] (omega arith)) (plain 2 [] (omega arith))
+takes-line (rt_list_line image) program plain = takes-rt_list program image (plain 0 [] (omega arith))
+takes-line (rt_vfy_line image) program plain = takes-rt_vfy program image (plain 0 [] (omega arith))
+takes-line (vfy_line image) program plain = takes-vfy program image (plain 0 [] (omega arith))
