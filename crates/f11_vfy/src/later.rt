@@ -69,7 +69,8 @@ impl Later {
     ) -> Result<(), NoMemory>
         requires { limit_of self.old.entered ≡ length slots.now + 1 }
         ensures { OnOk result (TakesOn slots.now d
-            (λ blocks. record.now ≡ record_of_bytes (record_at blocks i)) i (i + 1) self.old self.new) }
+            (λ blocks. record.now ≡ record_of_bytes (record_at blocks i)) i (i + 1)
+            self.old self.new) }
     {
         if record.is_empty() {
             return Ok(());
@@ -97,7 +98,8 @@ impl Later {
     ) -> Result<(), NoMemory>
         requires limit { limit_of self.old.entered ≡ length slots.now + 1 }
         requires few { at < 8323072 }
-        ensures { OnOk result (TakesOn slots.now dir.d (λ blocks. slice_index_or blocks at [] ≡ block.now)
+        ensures { OnOk result (TakesOn slots.now dir.d
+            (λ blocks. slice_index_or blocks at [] ≡ block.now)
             (until dir.end at) (until dir.end (at + 1)) self.old self.new) }
     {
         for k in 0..dir.end.saturating_sub(u64::from(32 * at)).min(32) as u32 {

@@ -42,8 +42,8 @@ impl Later {
         requires limit { limit_of self.old.entered ≡ length slots.now + 1 }
         requires few { at + run.1 ≤ 8323072 }
         requires lbn { run.0 < 2 ^ 24 }
-        ensures takes { OnOk result (TakesBlocks slots.now dir at (range_with_len run.0 run.1) self.old self.new
-            (D.disk device.old) (D.disk device.new)) }
+        ensures takes { OnOk result (TakesBlocks slots.now dir at (range_with_len run.0 run.1)
+            self.old self.new (D.disk device.old) (D.disk device.new)) }
         ensures failed { IsErrOf result ReadFault.DeviceFault
             → Looked (D.disk device.old) (D.disk device.new) (wanted dir.end at run.1) 1 }
         ensures no_memory { IsErrOf result ReadFault.NoMemory
@@ -76,8 +76,8 @@ impl Later {
         requires few { at + 32512 ≤ 8323072 }
         ensures count { IfOk result (λ count. count ≡ length (blocks_named block.now)) }
         ensures few { IfOk result (λ count. count ≤ 32512) }
-        ensures takes { OnOk result (TakesBlocks slots.now dir at (blocks_named block.now) self.old self.new
-            (D.disk device.old) (D.disk device.new)) }
+        ensures takes { OnOk result (TakesBlocks slots.now dir at (blocks_named block.now)
+            self.old self.new (D.disk device.old) (D.disk device.new)) }
         ensures failed { IsErrOf result ReadFault.DeviceFault
             → Looked (D.disk device.old) (D.disk device.new)
             (wanted dir.end at (length (blocks_named block.now))) 1 }
@@ -114,7 +114,8 @@ impl Later {
         requires within { LiesWithin (index_kept index.now) (length (D.disk device.old).image) }
         requires limit { limit_of self.old.entered ≡ length slots.now + 1 }
         requires few { at + 32512 ≤ 8323072 }
-        ensures takes { IfOk result (λ count. TakesHeader (index_kept index.now) slots.now dir at n count
+        ensures takes { IfOk result (λ count.
+            TakesHeader (index_kept index.now) slots.now dir at n count
             self.old self.new (D.disk device.old) (D.disk device.new)) }
         ensures failed { IsErrOf result ReadFault.DeviceFault → LooksAtHeader (index_kept index.now)
             dir.end at n (D.disk device.old) (D.disk device.new) 1 }
@@ -149,12 +150,15 @@ impl Later {
         requires within { LiesWithin (index_kept index.now) (length (D.disk device.old).image) }
         requires limit { limit_of self.old.entered ≡ length slots.now + 1 }
         requires few { at ≤ 32512 }
-        ensures takes { OnOk result (TakesHeaders (index_kept index.now) slots.now nexts.now dir at second 255
+        ensures takes { OnOk result
+            (TakesHeaders (index_kept index.now) slots.now nexts.now dir at second 255
             self.old self.new (D.disk device.old) (D.disk device.new)) }
-        ensures failed { IsErrOf result ReadFault.DeviceFault → LooksAtHeaders (index_kept index.now)
-            nexts.now dir at second 255 (D.disk device.old) (D.disk device.new) 1 }
-        ensures no_memory { IsErrOf result ReadFault.NoMemory → LooksAtHeaders (index_kept index.now)
-            nexts.now dir at second 255 (D.disk device.old) (D.disk device.new) 0 }
+        ensures failed { IsErrOf result ReadFault.DeviceFault
+            → LooksAtHeaders (index_kept index.now) nexts.now dir at second 255
+            (D.disk device.old) (D.disk device.new) 1 }
+        ensures no_memory { IsErrOf result ReadFault.NoMemory
+            → LooksAtHeaders (index_kept index.now) nexts.now dir at second 255
+            (D.disk device.old) (D.disk device.new) 0 }
     {
         let mut behind = at;
         let mut n = second;
@@ -192,9 +196,11 @@ impl Later {
         ensures takes { OnOk result (TakesDirectory (index_kept index.now) slots.now nexts.now d
             self.old self.new (D.disk device.old) (D.disk device.new)) }
         ensures failed { IsErrOf result ReadFault.DeviceFault
-            → LooksFor (index_kept index.now) nexts.now d (D.disk device.old) (D.disk device.new) 1 }
+            → LooksFor (index_kept index.now) nexts.now d
+            (D.disk device.old) (D.disk device.new) 1 }
         ensures no_memory { IsErrOf result ReadFault.NoMemory
-            → LooksFor (index_kept index.now) nexts.now d (D.disk device.old) (D.disk device.new) 0 }
+            → LooksFor (index_kept index.now) nexts.now d
+            (D.disk device.old) (D.disk device.new) 0 }
     {
         let mut block = [0; BLOCK_SIZE];
         let state = read_slot(device, index, d, &mut block)?;
