@@ -138,7 +138,10 @@ fn blocks_are_found_by_number(rt: HostRuntime) -> Result<(), Fail> {
     assert!(rt; block == SEVENS);
     assert_eq!(rt; files.read_block(f, 3, &mut block), Err(Refusal::EndOfFile));
     assert_eq!(rt; files.write_block(f, 3, &ZEROS), Err(Refusal::EndOfFile));
-    assert_eq!(rt; files.read_block(id(6, 1), 1, &mut block), Err(Refusal::NoSuchFile));
+    assert_eq!(rt;
+        files.read_block(id(6, 1), 1, &mut block),
+        Err(Refusal::NoSuchFile)
+    );
     assert!(rt; block == SEVENS && !files.failed());
     let mut device = files.abandon();
     assert!(rt; get(&mut device, 23)? == SEVENS && get(&mut device, 22)? == ZEROS);
@@ -153,10 +156,16 @@ fn a_header_that_is_lost_is_damage(rt: HostRuntime) -> Result<(), Fail> {
     files.lent().begin();
     let mut block: Block = SEVENS;
     assert_eq!(rt; files.read_block(id(5, 5), 1, &mut block), Ok(()));
-    assert_eq!(rt; files.read_block(id(5, 5), 2, &mut block), Err(Refusal::Damaged));
+    assert_eq!(rt;
+        files.read_block(id(5, 5), 2, &mut block),
+        Err(Refusal::Damaged)
+    );
     assert!(rt; files.failed());
     assert_eq!(rt; files.length(id(4, 4)), Err(Refusal::VolumeFailed));
-    assert_eq!(rt; files.create(USER, 0, &[0; 46], &[0; 32]), Err(Refusal::VolumeFailed));
+    assert_eq!(rt;
+        files.create(USER, 0, &[0; 46], &[0; 32]),
+        Err(Refusal::VolumeFailed)
+    );
     Ok(())
 }
 
