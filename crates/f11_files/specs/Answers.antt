@@ -24,9 +24,9 @@ is_grave refusal = nat_lt 18 (refusal_number refusal)
 abbrev pub is_fault : Refusal → Bool
 is_fault refusal = refusal_number refusal == 19
 
--- a cause of the store was met: neither did an earlier call fail the volume, nor was there no memory
+-- any other than these and VolumeFailed is that of a cause
 abbrev pub is_cause : Refusal → Bool
-is_cause refusal = nat_lt 1 (refusal_number refusal) && nat_lt (refusal_number refusal) 18
+is_cause refusal = nat_lt 1 (refusal_number refusal) && nat_lt (refusal_number refusal) 19
 
 -- what a test says of an answer's refusal, if it has one
 abbrev pub is_refused : {T : Type 0} → (Refusal → Bool) → Result T Refusal → Bool
