@@ -14,3 +14,5 @@ pub mod FieldLaws
 pub mod NewFileLaws
 pub mod Fields
 pub mod FreshStore
+pub mod Drops
+pub mod Deletes

@@ -8,6 +8,8 @@
 mod answer;
 mod attributes;
 mod blocks;
+mod delete;
+mod drops;
 mod fields;
 mod files;
 mod first;
