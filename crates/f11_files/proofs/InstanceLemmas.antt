@@ -28,7 +28,7 @@ set-same f k x is m = go (cases_eq m k)
     go (inl same) = ap (λ (b : Bool). cond b x (f m)) (eq-eqb m k same) ∙ sym is ∙ ap f (sym same)
     go (inr apart) = ap (λ (b : Bool). cond b x (f m)) (ne_eqb m k apart)
 
-with_file-same : (s : Store) (k : ℕ) (f : Option File) → s.file k ≡ f → with_file s k f ≡ s
+pub with_file-same : (s : Store) (k : ℕ) (f : Option File) → s.file k ≡ f → with_file s k f ≡ s
 with_file-same s k f is = λ i. record s { file = λ m. set-same s.file k f is m i }
 
 with_use-same : (s : Store) (n : ℕ) (used : Bool) → s.in_use n ≡ used → with_use s n used ≡ s
@@ -52,7 +52,7 @@ not-first : (v : Table) (f n : ℕ) → n ≢ f → IsHeaderOf v f n → ¬ IsFi
 not-first v f n apart of file = first-alone v f n (λ same. apart (sym same)) file of
 
 -- a header out of use, or a dead one, is one of no file
-unlive-loose : (v : Table) (n : ℕ) → ¬ IsLive v n → IsLoose v n
+pub unlive-loose : (v : Table) (n : ℕ) → ¬ IsLive v n → IsLoose v n
 unlive-loose v n none f of = none (live_of-header of)
 
 loose-no-file : (v : Table) (n : ℕ) → IsLoose v n → ¬ IsFile v n

@@ -19,3 +19,10 @@ pub mod FileLemmas
 pub mod GrowthLemmas
 pub mod NewFileLemmas
 pub mod FreshStoreLemmas
+pub mod FreeingLemmas
+pub mod GivingLemmas
+pub mod BuryLemmas
+pub mod DropLemmas
+pub mod TailLemmas
+pub mod DroppingLemmas
+pub mod GoneLemmas

@@ -49,7 +49,7 @@ module _ (s : Structure) (f : FileId) (block : List ℕ) (disk : Disk) (for : Is
   abbrev named : File
   named = file_named (store_on s disk) f
 
-  same : table (index_in s) disk ≡ t
+  pub same : table (index_in s) disk ≡ t
   same = table-of s disk for honest
 
   -- the file is sound
@@ -59,7 +59,7 @@ module _ (s : Structure) (f : FileId) (block : List ℕ) (disk : Disk) (for : Is
       subst (λ (u : Table). IsSoundFile u f.number (length disk.image)) (sym same)
       ((image-files disk.image (home_of s) (for.sound honest)).each f.number (subst (λ (u : Table). IsFile u f.number) same file))
 
-  whole : IsWholeFile t f.number
+  pub whole : IsWholeFile t f.number
   whole = subst (λ (u : Table). IsWholeFile u f.number) same sound-file.whole
 
   -- the store has its headers,

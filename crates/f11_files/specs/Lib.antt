@@ -17,3 +17,5 @@ pub mod FreshStore
 pub mod Create
 pub mod Opening
 pub mod Opened
+pub mod Drops
+pub mod Deletes

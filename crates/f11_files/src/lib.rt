@@ -1,14 +1,17 @@
-//! The files of a Files-11 volume as a plain store, without tasks: so far its definitions, and laws in [`laws`] of what each kind
-//! of write makes of it.
+//! The files of an open Files-11 volume as a plain store, without tasks.
 //!
-//! The store of an image (`store_of`) is the plain store of [`f11_store`] that its headers and its storage bitmap tell. The crate
-//! stands on [`f11_vfy`], which says when an image is sound, and on `f11_writes`, which says what each kind of write leaves of it.
+//! [`Files`] owns the device of an accepted volume, and its calls are the requests of the plain store of [`f11_store`] on the store of
+//! the image (`store_of`): what its headers and its storage bitmap tell. Each image that stands meanwhile is accepted. What each kind
+//! of write makes of the store are laws in [`laws`]. The crate stands on [`f11_vfy`], which says when an image is sound, and on
+//! `f11_writes`, which says what each kind of write leaves of it.
 #![tactic(auto)]
 
 mod answer;
 mod attributes;
 mod blocks;
 mod create;
+mod delete;
+mod drops;
 mod fields;
 mod files;
 mod first;

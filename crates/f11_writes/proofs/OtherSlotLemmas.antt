@@ -117,7 +117,7 @@ module _ (t u : Table) (n : ℕ) (others : KeepsOtherSlots n t u) where
   pub file-was : (f : ℕ) → f ≢ n → IsFile u f → IsFile t f
   file-was f away file = record { live = live-was f away file.live; first = ap segment_number (sym (same-now f away file.live.in_use)) ∙ file.first }
 
-  next-was : (a b : ℕ) → a ≢ n → b ≢ n → IsNext u a b → IsNext t a b
+  pub next-was : (a b : ℕ) → a ≢ n → b ≢ n → IsNext u a b → IsNext t a b
   next-was a b away too goes =
       let from = same-now a away goes.from.in_use in
       let to = same-now b too goes.to.in_use in
@@ -137,7 +137,7 @@ module _ (t u : Table) (n : ℕ) (others : KeepsOtherSlots n t u) where
       (next-was a b (λ here. gone (subst (IsLive u) here goes.from)) (λ here. gone (subst (IsLive u) here goes.to)) goes)
 
   -- where it links to none, the others of a file were in one
-  in-file-was : (f : ℕ) {m : ℕ} → link_number u n ≡ 0 → m ≢ n → IsHeaderOf u f m → IsInFile t m
+  pub in-file-was : (f : ℕ) {m : ℕ} → link_number u n ≡ 0 → m ≢ n → IsHeaderOf u f m → IsInFile t m
   in-file-was f none away (first file) = record { file = f; of = first (file-was f away file) }
   in-file-was f none away (next {n = a} {m = b} of goes) =
       let before : a ≢ n = λ here. nowhere (ap (link_number u) here ∙ none) goes in

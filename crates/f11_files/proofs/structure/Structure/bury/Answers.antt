@@ -1,0 +1,52 @@
+use Rattle.std.proofs.Common.{refl}
+use Rattle.f11_index.proofs.InUseLemmas.{in_use-some, in_use-slot, header-within}
+use Rattle.f11_files.specs.Structure.{index_in}
+use Rattle.f11_files.proofs.BuryLemmas.{fails-killed, fails-bit, buries, buried-stays}
+use Rattle.f11_files.proofs.FreeingLemmas.{broken-stays}
+use Rattle.f11_files.proofs.structure.Structure.bury.Goals as goal
+
+pub lbn_of_header-requires-clause-some : goal.lbn_of_header-requires-clause-some
+lbn_of_header-requires-clause-some g c = in_use-some (index_in c.args.self.now) c.args.n c.requires.holds.in_use
+
+pub lbn_of_header-requires-clause-slot : goal.lbn_of_header-requires-clause-slot
+lbn_of_header-requires-clause-slot g c = in_use-slot (index_in c.args.self.now) c.args.n c.requires.holds.in_use
+
+pub write-requires : goal.write-requires
+write-requires g c =
+    let index = index_in c.args.self.now in
+    let in_use = c.requires.holds.in_use in
+    rw c.lbn_of_header.ensures (header-within index c.args.n _ c.requires.is_for.lies.index (in_use-some index c.args.n in_use) (in_use-slot index c.args.n in_use))
+
+pub returns-in-Err-clause-refused : goal.returns-in-Err-clause-refused
+returns-in-Err-clause-refused g c =
+    fails-killed c.args.self.now c.args.n _ c.args.block.now _ _ c.requires.is_for c.requires.holds c.requires.may c.kill.ensures.block c.kill.ensures.dead c.lbn_of_header.ensures _ c.in-Err.ensures.writes.err
+
+pub returns-in-Err-clause-stays : goal.returns-in-Err-clause-stays
+returns-in-Err-clause-stays g c =
+    broken-stays c.args.self.now _ _ _ _ refl c.requires.is_for
+    (fails-killed c.args.self.now c.args.n _ c.args.block.now _ _ c.requires.is_for c.requires.holds c.requires.may c.kill.ensures.block c.kill.ensures.dead c.lbn_of_header.ensures _ c.in-Err.ensures.writes.err)
+
+pub clear-requires-clause-slot : goal.clear-requires-clause-slot
+clear-requires-clause-slot g c =
+    (in_use-some (index_in c.args.self.now) c.args.n c.requires.holds.in_use, in_use-slot (index_in c.args.self.now) c.args.n c.requires.holds.in_use)
+
+pub returns-in-Ok-clear-clause-buried : goal.returns-in-Ok-clear-clause-buried
+returns-in-Ok-clear-clause-buried g c =
+    buries c.args.self.now c.args.n _ c.args.block.now _ _ c.requires.is_for c.requires.holds c.requires.may c.kill.ensures.block c.kill.ensures.dead c.lbn_of_header.ensures _ c.in-Ok.ensures.writes.ok _
+    c.clear.new.self c.in-Ok-clear.ensures.done
+
+pub returns-in-Ok-clear-clause-stays : goal.returns-in-Ok-clear-clause-stays
+returns-in-Ok-clear-clause-stays g c =
+    buried-stays c.args.self.now c.args.n _ c.args.block.now _ _ c.requires.is_for c.requires.holds c.requires.may c.kill.ensures.block c.kill.ensures.dead c.lbn_of_header.ensures _ c.in-Ok.ensures.writes.ok _
+    c.clear.new.self c.in-Ok-clear.ensures.done
+
+pub returns-in-Err-clear-clause-refused : goal.returns-in-Err-clear-clause-refused
+returns-in-Err-clear-clause-refused g c =
+    fails-bit c.args.self.now c.args.n _ c.args.block.now _ _ c.requires.is_for c.requires.holds c.requires.may c.kill.ensures.block c.kill.ensures.dead c.lbn_of_header.ensures _ c.in-Ok.ensures.writes.ok _
+    c.in-Err-clear.ensures.failed
+
+pub returns-in-Err-clear-clause-stays : goal.returns-in-Err-clear-clause-stays
+returns-in-Err-clear-clause-stays g c =
+    broken-stays c.args.self.now _ _ _ _ refl c.requires.is_for
+    (fails-bit c.args.self.now c.args.n _ c.args.block.now _ _ c.requires.is_for c.requires.holds c.requires.may c.kill.ensures.block c.kill.ensures.dead c.lbn_of_header.ensures _ c.in-Ok.ensures.writes.ok _
+    c.in-Err-clear.ensures.failed)

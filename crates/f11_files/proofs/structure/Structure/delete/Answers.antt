@@ -1,0 +1,29 @@
+use Rattle.std.proofs.lemmas.Result.{on_ok_weaker, IfErr-weaker}
+use Rattle.f11_files.proofs.AnswerLemmas.{handed}
+use Rattle.f11_files.proofs.GoneLemmas.{gone-first, behind-hangs, deletes-file, gone-behind}
+use Rattle.f11_files.proofs.structure.Structure.delete.Goals as goal
+
+pub returns-in_err-drop_header-clause-refused : goal.returns-in_err-drop_header-clause-refused
+returns-in_err-drop_header-clause-refused g c =
+    handed _ c.from_residual-in_err-drop_header.result _ c.from_residual-in_err-drop_header.ensures.1
+    (gone-first c.args.self.now c.args.f _ _ _ c.requires.is_for c.requires.late c.in_ok-read_first.ensures.found (g.met.D.Device.is_image c.args.device.now) _ (g.D.Device.disk c.drop_header.new.device)
+    c.in_err-drop_header.ensures.refused)
+
+pub drop_behind-requires-clause-hangs : goal.drop_behind-requires-clause-hangs
+drop_behind-requires-clause-hangs g c =
+    behind-hangs c.args.self.now c.args.f _ _ _ c.requires.is_for c.requires.late c.in_ok-read_first.ensures.found (g.met.D.Device.is_image c.args.device.now) c.drop_header.new.self _
+    c.in_ok-drop_header.ensures.dropped c.in_ok-drop_header.ensures.stays.home (g.met.D.Device.is_image c.drop_header.new.device)
+
+pub returns-clause-deleted : goal.returns-clause-deleted
+returns-clause-deleted g c =
+    on_ok_weaker c.drop_behind.result
+    (deletes-file c.args.self.now c.args.f _ _ _ c.requires.is_for c.requires.late c.in_ok-read_first.ensures.found (g.met.D.Device.is_image c.args.device.now) c.drop_header.new.self _
+    c.in_ok-drop_header.ensures.dropped c.in_ok-drop_header.ensures.stays.home (g.met.D.Device.is_image c.drop_header.new.device) (g.D.Device.disk c.drop_behind.new.device))
+    c.drop_behind.ensures.dropped
+
+pub returns-clause-refused : goal.returns-clause-refused
+returns-clause-refused g c =
+    IfErr-weaker c.drop_behind.result _ _
+    (λ r. gone-behind c.args.self.now c.args.f _ _ _ c.requires.is_for c.requires.late c.in_ok-read_first.ensures.found (g.met.D.Device.is_image c.args.device.now) c.drop_header.new.self _
+    c.in_ok-drop_header.ensures.dropped c.in_ok-drop_header.ensures.stays.home (g.met.D.Device.is_image c.drop_header.new.device) r (g.D.Device.disk c.drop_behind.new.device))
+    c.drop_behind.ensures.refused

@@ -1,0 +1,12 @@
+use Rattle.std.proofs.Common.{◌≡◌, ◌⊎◌, ◌<◌, ◌≤◌}
+use Rattle.f11_index.specs.HeaderBlock.{segment_number}
+use Rattle.f11_files.proofs.DroppingLemmas.{Dropping}
+use Rattle.f11_files.proofs.structure.Structure.drop_behind.Given as goal
+
+-- the headers up to the one in the block went, each of a segment of its own
+abbrev pub invariant-loop : goal.invariant-loop
+invariant-loop g l = record {
+  dropping : Dropping l.fn.self l.self l.fn.block l.block (g.D.Device.disk l.fn.device) (g.D.Device.disk l.device);
+  passed : l.counter ≤ segment_number l.block;
+  early : (l.counter ≡ 0) ⊎ (segment_number l.block < 256);
+}

@@ -1,0 +1,9 @@
+use Rattle.std.proofs.lemmas.Result.{on_ok_weaker, IfErr-weaker}
+use Rattle.f11_files.proofs.DropLemmas.{drops-header, drop-breaks}
+use Rattle.f11_files.proofs.structure.Structure.drop_header.Goals as goal
+
+pub returns-clause-dropped : goal.returns-clause-dropped
+returns-clause-dropped g c = on_ok_weaker c.give_from.result (drops-header _ _ _ _ _ _ _ c.in_ok-bury.ensures.stays.home c.in_ok-bury.ensures.buried) c.give_from.ensures.given
+
+pub returns-clause-refused : goal.returns-clause-refused
+returns-clause-refused g c = IfErr-weaker c.give_from.result _ _ (drop-breaks _ _ _ _ _ _ _ c.in_ok-bury.ensures.stays.home c.in_ok-bury.ensures.buried) c.give_from.ensures.refused
