@@ -32,7 +32,7 @@ use Rattle.f11_writes.specs.Kept.{file_in, WritesHeader}
 use Rattle.f11_writes.specs.Volumes.{MayName, MayBecome, links_as_before}
 use Rattle.f11_writes.proofs.HeaderLemmas.{file-rewrite-keeps}
 use Rattle.f11_writes.proofs.NameLemmas.{own-names}
-use Rattle.f11_files.specs.FieldLaws.{said_by, SaysBut, Writes, AttributesAreReplaced, IdentIsReplaced, ProtectionIsReplaced, DeleteMarkIsSet, ContiguousMarkIsCleared, ChangesFile}
+use Rattle.f11_files.specs.FieldLaws.{said_by, SaysBut, WrittenSays, AttributesAreReplaced, IdentIsReplaced, ProtectionIsReplaced, DeleteMarkIsSet, ContiguousMarkIsCleared, ChangesFile}
 use Rattle.f11_files.proofs.FileLemmas.{sum-same}
 use Rattle.f11_files.proofs.InstanceLemmas.{file-stored}
 
@@ -170,7 +170,7 @@ as_said h f = record f { owner = h.owner; protection = h.protection; characteris
 -- fields were written
 pub says-written : (fields : HeaderFields → HeaderFields) (change : File → File) (old : List ℕ) → (fields (header_fields old)).number ≡ file_number old
     → (fields (header_fields old)).sequence ≡ file_sequence old → (fields (header_fields old)).map ≡ map_area old
-    → ((f : File) → as_said (fields (header_fields old)) f ≡ change (said_by old f)) → Writes fields change old
+    → ((f : File) → as_said (fields (header_fields old)) f ≡ change (said_by old f)) → WrittenSays fields change old
 says-written fields change old number sequence map file new held is sum =
     let now = held-from new (fields (header_fields old)) (is ∙ ap (option_map fields) (header_in-held old held)) in
     record {

@@ -36,24 +36,24 @@ pub record SaysBut (change : File → File) (old new : List ℕ) : Type 0 where
   pub file : (f : File) → said_by new f ≡ change (said_by old f)
 
 -- so does one that is sealed with fields written anew, where these change the file so
-abbrev pub Writes : (HeaderFields → HeaderFields) → (File → File) → List ℕ → Type 0
-Writes fields change old =
+abbrev pub WrittenSays : (HeaderFields → HeaderFields) → (File → File) → List ℕ → Type 0
+WrittenSays fields change old =
     (new : List ℕ) → IsTrue (holds_header old) → header_in new ≡ header_with fields old → check_word new ≡ word_sum new 255 → SaysBut change old new
 
 abbrev pub AttributesAreReplaced : Type 0
-AttributesAreReplaced = (old attr : List ℕ) → Writes (λ h. record h { attributes = attr }) (with_replacement (change.Attr attr)) old
+AttributesAreReplaced = (old attr : List ℕ) → WrittenSays (λ h. record h { attributes = attr }) (with_replacement (change.Attr attr)) old
 
 abbrev pub IdentIsReplaced : Type 0
-IdentIsReplaced = (old ident : List ℕ) → Writes (λ h. record h { ident = ident }) (with_replacement (change.Ident ident)) old
+IdentIsReplaced = (old ident : List ℕ) → WrittenSays (λ h. record h { ident = ident }) (with_replacement (change.Ident ident)) old
 
 abbrev pub ProtectionIsReplaced : Type 0
-ProtectionIsReplaced = (old : List ℕ) (protects : ℕ) → Writes (λ h. record h { protection = protects }) (with_replacement (change.Protect protects)) old
+ProtectionIsReplaced = (old : List ℕ) (protects : ℕ) → WrittenSays (λ h. record h { protection = protects }) (with_replacement (change.Protect protects)) old
 
 abbrev pub DeleteMarkIsSet : Type 0
-DeleteMarkIsSet = (old : List ℕ) → Writes (λ h. record h { characteristics = with_mark (characteristics old) }) with_delete_mark old
+DeleteMarkIsSet = (old : List ℕ) → WrittenSays (λ h. record h { characteristics = with_mark (characteristics old) }) with_delete_mark old
 
 abbrev pub ContiguousMarkIsCleared : Type 0
-ContiguousMarkIsCleared = (old : List ℕ) → Writes (λ h. record h { characteristics = without_contiguous (characteristics old) }) with_no_mark old
+ContiguousMarkIsCleared = (old : List ℕ) → WrittenSays (λ h. record h { characteristics = without_contiguous (characteristics old) }) with_no_mark old
 
 -- This was written as the first header of file f: the volume is sound, and its store has the file with this change.
 pub record ChangesFile (f : ℕ) (block : List ℕ) (change : File → File) (home : HomeFields) (old new : Image) : Type 0 where

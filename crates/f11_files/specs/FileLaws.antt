@@ -75,14 +75,17 @@ with_more_blocks more blocks f = record f { pointers = f.pointers + more; room =
 abbrev pub held_from : Image → ℕ → ℕ → List (List ℕ)
 held_from image lbn count = map (block_or_zeros image) (range_with_len lbn count)
 
--- a file with this header more, and what its blocks hold
-abbrev pub with_header_more : Image → Table → ℕ → File → File
-with_header_more image t m f = record f {
+-- a file with this header more
+abbrev pub with_header_linked : Table → ℕ → File → File
+with_header_linked t m f = record f {
   held = f.held ++ m ∷ [];
   pointers = f.pointers + pointer_count t m;
   room = places (map_area (t.header m)) - pointer_count t m;
-  blocks = f.blocks ++ map (block_or_zeros image) (blocks_named (t.header m));
 }
+
+-- and what its blocks hold
+abbrev pub with_header_more : Image → Table → ℕ → File → File
+with_header_more image t m f = record (with_header_linked t m f) { blocks = f.blocks ++ map (block_or_zeros image) (blocks_named (t.header m)) }
 
 -- a file with the first of its headers, so many pointers and places, and the first of its blocks
 abbrev pub with_first_headers : ℕ → ℕ → ℕ → ℕ → File → File
