@@ -65,3 +65,9 @@ abbrev pub FirstHeaderMayChange : Type 0
 FirstHeaderMayChange =
     (image : Image) (home : HomeFields) (f : ℕ) (block : List ℕ) (change : File → File) → HasSoundVolume image home → 4 ≤ f → IsFile (table_of image home) f →
     SaysBut change ((table_of image home).header f) block → ChangesFile f block change home image (with_header image home f block)
+
+-- and over that of the index file
+abbrev pub IndexHeaderMayChange : Type 0
+IndexHeaderMayChange =
+    (image : Image) (home : HomeFields) (block : List ℕ) (change : File → File) → HasSoundVolume image home →
+    SaysBut change ((table_of image home).header 1) block → ChangesFile 1 block change home image (with_header image home 1 block)

@@ -9,13 +9,13 @@ use Rattle.f11_map.specs.MapArea.{runs_of}
 use Rattle.f11_index.specs.Growth.{IsGoodFor}
 use Rattle.f11_index.specs.HeaderBlock.{segment_number, link_of, blocks_named}
 use Rattle.f11_index.specs.Headers.{headers_of}
-use Rattle.f11_index.specs.Table.{Table, table_of, IsLive, IsHeaderOf}
+use Rattle.f11_index.specs.Table.{Table, table_of, last_sequence, IsLive, IsHeaderOf}
 use Rattle.f11_chain.specs.FileHeaders.{blocks_before}
-use Rattle.f11_store.specs.Changes.{with_change}
+use Rattle.f11_store.specs.Changes.{with_change, with_more_slots}
 use Rattle.f11_store.specs.File.{File}
 use Rattle.f11_vfy.specs.Contents.{block_or_zeros, pointer_count}
 use Rattle.f11_vfy.specs.Sound.{HasSoundVolume}
-use Rattle.f11_writes.specs.Kept.{file_in, WritesHeader}
+use Rattle.f11_writes.specs.Kept.{file_in, WritesHeader, WritesGrowth}
 use Rattle.f11_files.specs.StoreOf.{store_of}
 
 -- A header says what another does of its file, but for its map.
@@ -130,3 +130,22 @@ FileEndsThere =
     file_in home f new ≡
     with_first_headers (segment_number ((table_of old home).header n) + 1) (pointers_before (table_of old home) f n + pointers_in block) (room_in block)
     (blocks_before (table_of old home) f n + left) (file_in home f old)
+
+-- There are so many slots more, none of which was given a sequence number.
+pub record HasSlotsMore (count : ℕ) (old new : Table) : Type 0 where
+  pub slots : new.slots ≡ old.slots + count
+  pub unnumbered : (m : ℕ) → old.slots < m → m ≤ old.slots + count → last_sequence new m ≡ 0
+
+-- an index file whose last header names more blocks gives as many slots, and has so many pointers more
+abbrev pub IndexFileHasMore : Type 0
+IndexFileHasMore =
+    (old new : Image) (home : HomeFields) (n : ℕ) (block : List ℕ) (more lbn count : ℕ) → WritesGrowth n block lbn count home old new →
+    HasSlotsMore count (table_of old home) (table_of new home) → NamesMoreOf (table_of old home) 1 n block more lbn count →
+    store_of new home ≡ with_more_slots (with_change (store_of old home) 1 (with_more_blocks more [])) count
+
+-- and one whose last header links on to a header that names them has that header more
+abbrev pub IndexFileHasHeaderMore : Type 0
+IndexFileHasHeaderMore =
+    (old new : Image) (home : HomeFields) (n m : ℕ) (block : List ℕ) (lbn count : ℕ) → WritesGrowth n block lbn count home old new →
+    HasSlotsMore count (table_of old home) (table_of new home) → LinksOnTo (table_of old home) 1 n m block →
+    store_of new home ≡ with_more_slots (with_change (store_of old home) 1 (with_header_linked (table_of old home) m)) count

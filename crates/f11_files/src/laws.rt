@@ -52,7 +52,9 @@ pub fn cuts()
 
 /// An index file that grows.
 pub fn index_growth()
-    ensures { slots.IndexFileIsStored }
+    ensures any { slots.IndexFileIsStored }
+    ensures names { files.IndexFileHasMore }
+    ensures links { files.IndexFileHasHeaderMore }
 {}
 
 /// What a header says of its file once a field of it was written.
@@ -66,7 +68,8 @@ pub fn written_fields()
 
 /// A file whose first header says another thing of it.
 pub fn field_writes()
-    ensures { fields.FirstHeaderMayChange }
+    ensures file { fields.FirstHeaderMayChange }
+    ensures index_file { fields.IndexHeaderMayChange }
 {}
 
 /// A new file, whose header is written and then entered.
