@@ -25,15 +25,12 @@ use Rattle.f11_index.proofs.UpLemmas.{header-up}
 use Rattle.f11_chain.specs.FileHeaders.{file_blocks, blocks_before}
 use Rattle.f11_chain.specs.Laws.{HasMore, HasHeaderMore}
 use Rattle.f11_chain.proofs.ChangeLemmas.{has-more, has-header, ends-with, is-cut}
-use Rattle.f11_store.specs.Changes.{with_change}
 use Rattle.f11_vfy.specs.Contents.{block_or_zeros, file_of, headers_reached, pointer_count, room_left}
 use Rattle.f11_vfy.proofs.FileLemmas.{image-files, reached-are, file-blocks-are}
 use Rattle.f11_vfy.specs.Sound.{HasSoundVolume}
 use Rattle.f11_writes.specs.Kept.{file_in, said_of, KeepsButSlot, WritesHeader, WritesGrowth}
 use Rattle.f11_writes.proofs.OtherSlotLemmas.{stay-before, stay-up-to}
 use Rattle.f11_files.specs.FileLaws.{SaysAlike, MayStand, NamesMoreOf, LinksOnTo, EndsThere, with_more_blocks, with_header_linked, with_header_more, with_first_headers, held_from, pointers_before, pointers_in, room_in}
-use Rattle.f11_files.specs.StoreOf.{store_of}
-use Rattle.f11_files.proofs.InstanceLemmas.{file-stored}
 
 -- sums of what is equal for each
 pub sum-same : (p q : ℕ → ℕ) (xs : List ℕ) → ((i x : ℕ) → slice_get xs i ≡ Some x → p x ≡ q x) → sum_by p xs ≡ sum_by q xs
@@ -236,12 +233,6 @@ module _ (old new : Image) (home : HomeFields) (f n : ℕ) (block : List ℕ) (m
 pub file-more : (old new : Image) (home : HomeFields) (f n : ℕ) (block : List ℕ) (more lbn count : ℕ) → 2 ≤ f → WritesHeader n block home old new
     → NamesMoreOf (table_of old home) f n block more lbn count → file_in home f new ≡ with_more_blocks more (held_from old lbn count) (file_in home f old)
 file-more old new home f n block more lbn count late wrote may = more-file old new home f n block more lbn count (as-header n block home old new wrote) may late
-
-pub file-grows : (old new : Image) (home : HomeFields) (f n : ℕ) (block : List ℕ) (more lbn count : ℕ) → 4 ≤ f → WritesHeader n block home old new
-    → NamesMoreOf (table_of old home) f n block more lbn count → store_of new home ≡ with_change (store_of old home) f (with_more_blocks more (held_from old lbn count))
-file-grows old new home f n block more lbn count late wrote may =
-    file-stored old new home n block wrote may.stands.good.sequence f (with_more_blocks more (held_from old lbn count)) late may.stands.of
-    (of-now old new home f n block (as-header n block home old new wrote) may.stands) (file-more old new home f n block more lbn count (omega (arith, late)) wrote may)
 
 -- its last header links on to header m
 module _ (old new : Image) (home : HomeFields) (f n m : ℕ) (block : List ℕ) (wrote : HasWritten n block home old new) (may : LinksOnTo (table_of old home) f n m block) where

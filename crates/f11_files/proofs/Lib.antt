@@ -6,3 +6,4 @@ pub mod FileLemmas
 pub mod GrowthLemmas
 pub mod NewFileLemmas
 pub mod FreshStoreLemmas
+pub mod StepLemmas

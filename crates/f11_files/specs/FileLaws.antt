@@ -6,16 +6,18 @@ use Rattle.f11_header.specs.Fields.{file_sequence, owner, protection, characteri
 use Rattle.f11_header.specs.MapFields.{places}
 use Rattle.f11_home.specs.Home.{HomeFields}
 use Rattle.f11_map.specs.MapArea.{runs_of}
-use Rattle.f11_index.specs.Growth.{IsGoodFor}
+use Rattle.f11_index.specs.Growth.{IsGoodFor, with_header}
 use Rattle.f11_index.specs.HeaderBlock.{segment_number, link_of, blocks_named}
-use Rattle.f11_index.specs.Headers.{headers_of}
-use Rattle.f11_index.specs.Table.{Table, table_of, last_sequence, IsLive, IsHeaderOf}
+use Rattle.f11_index.specs.Headers.{headers_of, IsInFile}
+use Rattle.f11_index.specs.Table.{Table, table_of, last_sequence, IsLive, IsNext, IsHeaderOf}
 use Rattle.f11_chain.specs.FileHeaders.{blocks_before}
 use Rattle.f11_store.specs.Changes.{with_change, with_more_slots}
 use Rattle.f11_store.specs.File.{File}
 use Rattle.f11_vfy.specs.Contents.{block_or_zeros, pointer_count}
 use Rattle.f11_vfy.specs.Sound.{HasSoundVolume}
+use Rattle.f11_vfy.specs.Volume.{volume_of}
 use Rattle.f11_writes.specs.Kept.{file_in, WritesHeader, WritesGrowth}
+use Rattle.f11_writes.specs.NameLaws.{AreSpare}
 use Rattle.f11_files.specs.StoreOf.{store_of}
 
 -- A header says what another does of its file, but for its map.
@@ -130,6 +132,34 @@ FileEndsThere =
     file_in home f new ≡
     with_first_headers (segment_number ((table_of old home).header n) + 1) (pointers_before (table_of old home) f n + pointers_in block) (room_in block)
     (blocks_before (table_of old home) f n + left) (file_in home f old)
+
+-- This was written as header n of file f: the volume is sound, and its store has the file with this change.
+pub record ChangesFile (f n : ℕ) (block : List ℕ) (change : File → File) (home : HomeFields) (old new : Image) : Type 0 where
+  pub header : WritesHeader n block home old new
+  pub store : store_of new home ≡ with_change (store_of old home) f change
+
+-- a block that names spare blocks more may be written over the last header of a file from 4 on
+abbrev pub LastMayNameMore : Type 0
+LastMayNameMore =
+    (image : Image) (home : HomeFields) (f n : ℕ) (block : List ℕ) (more lbn count : ℕ) → HasSoundVolume image home → 4 ≤ f →
+    NamesMoreOf (table_of image home) f n block more lbn count → AreSpare (volume_of image home) lbn count →
+    ChangesFile f n block (with_more_blocks more (held_from image lbn count)) home image (with_header image home n block)
+
+-- and so may one that links on to a header which is no other's next
+abbrev pub LastMayLinkOn : Type 0
+LastMayLinkOn =
+    (image : Image) (home : HomeFields) (f n m : ℕ) (block : List ℕ) → HasSoundVolume image home → 4 ≤ f → LinksOnTo (table_of image home) f n m block →
+    (link_of block).volume ≡ 0 → ((other : ℕ) → IsInFile (table_of image home) other → ¬ IsNext (table_of image home) other m) →
+    ChangesFile f n block (with_header_more image (table_of image home) m) home image (with_header image home n block)
+
+-- and one that ends the file over any of its headers
+abbrev pub HeaderMayEnd : Type 0
+HeaderMayEnd =
+    (image : Image) (home : HomeFields) (f n : ℕ) (block : List ℕ) (left : ℕ) → HasSoundVolume image home → 4 ≤ f → EndsThere (table_of image home) f n block left →
+    ChangesFile f n block
+    (with_first_headers (segment_number ((table_of image home).header n) + 1) (pointers_before (table_of image home) f n + pointers_in block) (room_in block)
+    (blocks_before (table_of image home) f n + left))
+    home image (with_header image home n block)
 
 -- There are so many slots more, none of which was given a sequence number.
 pub record HasSlotsMore (count : ℕ) (old new : Table) : Type 0 where

@@ -50,6 +50,13 @@ pub fn cuts()
     ensures { files.FileEndsThere }
 {}
 
+/// A file that grows or is cut by one write of one of its headers, which may be made.
+pub fn map_writes()
+    ensures names { files.LastMayNameMore }
+    ensures links { files.LastMayLinkOn }
+    ensures ends { files.HeaderMayEnd }
+{}
+
 /// An index file that grows.
 pub fn index_growth()
     ensures any { slots.IndexFileIsStored }
