@@ -52,7 +52,7 @@ not-first : (v : Table) (f n : ℕ) → n ≢ f → IsHeaderOf v f n → ¬ IsFi
 not-first v f n apart of file = first-alone v f n (λ same. apart (sym same)) file of
 
 -- a header out of use, or a dead one, is one of no file
-unlive-loose : (v : Table) (n : ℕ) → ¬ IsLive v n → IsLoose v n
+pub unlive-loose : (v : Table) (n : ℕ) → ¬ IsLive v n → IsLoose v n
 unlive-loose v n none f of = none (live_of-header of)
 
 loose-no-file : (v : Table) (n : ℕ) → IsLoose v n → ¬ IsFile v n

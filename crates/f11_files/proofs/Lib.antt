@@ -7,3 +7,4 @@ pub mod GrowthLemmas
 pub mod NewFileLemmas
 pub mod FreshStoreLemmas
 pub mod StepLemmas
+pub mod ExtensionLemmas

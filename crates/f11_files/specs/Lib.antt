@@ -5,3 +5,4 @@ pub mod FileLaws
 pub mod FieldLaws
 pub mod NewFileLaws
 pub mod FreshStore
+pub mod ExtensionLaws

@@ -1,4 +1,5 @@
 //! Laws of the store of an image, each the contract of a function that does nothing.
+ghost use Rattle.f11_files.specs.ExtensionLaws as extensions;
 ghost use Rattle.f11_files.specs.FieldLaws as fields;
 ghost use Rattle.f11_files.specs.FileLaws as files;
 ghost use Rattle.f11_files.specs.FreshStore as fresh;
@@ -84,6 +85,12 @@ pub fn new_files()
     ensures free { new.FreeSlotsAreStored }
     ensures written { new.NewFirstMayBeWritten }
     ensures entered { new.NewFileMayBeEntered }
+{}
+
+/// A header for a file that grows, which is written and entered.
+pub fn extensions()
+    ensures taken { extensions.SlotIsTaken }
+    ensures entered { extensions.ExtensionMayBeEntered }
 {}
 
 /// The store of a fresh volume.
