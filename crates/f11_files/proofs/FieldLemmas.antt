@@ -32,8 +32,7 @@ use Rattle.f11_writes.specs.Kept.{file_in, said_of, WritesHeader}
 use Rattle.f11_writes.specs.Volumes.{MayName, MayBecome, links_as_before}
 use Rattle.f11_writes.proofs.HeaderLemmas.{rewrite-keeps, file-rewrite-keeps}
 use Rattle.f11_writes.proofs.NameLemmas.{own-names}
-use Rattle.f11_files.specs.FieldLaws.{said_by, SaysBut, WrittenSays, AttributesAreReplaced, IdentIsReplaced, ProtectionIsReplaced, DeleteMarkIsSet, ContiguousMarkIsCleared}
-use Rattle.f11_files.specs.FileLaws.{ChangesFile}
+use Rattle.f11_files.specs.FieldLaws.{said_by, SaysBut, WrittenSays, AttributesAreReplaced, IdentIsReplaced, ProtectionIsReplaced, DeleteMarkIsSet, ContiguousMarkIsCleared, ChangesFile}
 use Rattle.f11_files.proofs.FileLemmas.{sum-same}
 use Rattle.f11_files.proofs.InstanceLemmas.{first-alone, seen-stored, file-stored}
 
@@ -155,7 +154,7 @@ module _ (image : Image) (home : HomeFields) (f : ℕ) (block : List ℕ) (chang
         said ∙ says.file (file_in home f image)
 
 pub changes-file : (image : Image) (home : HomeFields) (f : ℕ) (block : List ℕ) (change : File → File) → HasSoundVolume image home → 4 ≤ f → IsFile (table_of image home) f
-    → SaysBut change ((table_of image home).header f) block → ChangesFile f f block change home image (with_header image home f block)
+    → SaysBut change ((table_of image home).header f) block → ChangesFile f block change home image (with_header image home f block)
 changes-file image home f block change is late file says =
     let wrote = file-rewrite-keeps image home is f block f late (first file) (becomes image home f block change is file says) in
     record {
@@ -167,7 +166,7 @@ changes-file image home f block change is late file says =
 
 -- the first header of the index file
 pub changes-index : (image : Image) (home : HomeFields) (block : List ℕ) (change : File → File) → HasSoundVolume image home
-    → SaysBut change ((table_of image home).header 1) block → ChangesFile 1 1 block change home image (with_header image home 1 block)
+    → SaysBut change ((table_of image home).header 1) block → ChangesFile 1 block change home image (with_header image home 1 block)
 changes-index image home block change is says =
     let t : Table = table_of image home in
     let file : IsFile t 1 = is.framed.indexed.file.whole.file in

@@ -42,7 +42,7 @@ pub free-stored : FreeSlotsAreStored
 unfolding store_of free_slots table_in
 free-stored image home = refl
 
-least-stored : (image : Image) (home : HomeFields) (n : ℕ) → IsLeastFree (index_of image home) n → least_free (store_of image home) ≡ n
+pub least-stored : (image : Image) (home : HomeFields) (n : ℕ) → IsLeastFree (index_of image home) n → least_free (store_of image home) ≡ n
 least-stored image home n least =
     ap (λ (l : List ℕ). slice_index l 0) (free-stored image home) ∙ get_or_from_slice_get (free_in_index (index_of image home)) 0 n 0 least.first
 

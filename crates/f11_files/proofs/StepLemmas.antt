@@ -18,7 +18,7 @@ use Rattle.f11_writes.specs.NameLaws.{AreSpare}
 use Rattle.f11_writes.specs.Volumes.{MayName, MayLink, links_to_none, links_anew}
 use Rattle.f11_writes.proofs.HeaderLemmas.{file-rewrite-keeps}
 use Rattle.f11_writes.proofs.NameLemmas.{own-names, more-names, fewer-names}
-use Rattle.f11_files.specs.FileLaws.{MayStand, NamesMoreOf, LinksOnTo, EndsThere, with_more_blocks, with_header_more, with_first_headers, held_from, pointers_before, pointers_in, room_in, ChangesFile}
+use Rattle.f11_files.specs.FileLaws.{MayStand, NamesMoreOf, LinksOnTo, EndsThere, with_more_blocks, with_header_more, with_first_headers, held_from, pointers_before, pointers_in, room_in, ChangesFileAt}
 use Rattle.f11_files.specs.StoreOf.{store_of}
 use Rattle.f11_files.proofs.FileLemmas.{as-header, of-now, file-more, file-linked, file-ends}
 use Rattle.f11_files.proofs.InstanceLemmas.{file-stored}
@@ -53,14 +53,14 @@ module _ (image : Image) (home : HomeFields) (f n : ℕ) (block : List ℕ) (is 
   wrote stands names link = file-rewrite-keeps image home is n block f late stands.of (record { valid = stands.good.valid; good = λ _. stands.good; names = names; link = link })
 
   pub names-more : (more lbn count : ℕ) → NamesMoreOf t f n block more lbn count → AreSpare v lbn count
-      → ChangesFile f n block (with_more_blocks more (held_from image lbn count)) home image new
+      → ChangesFileAt f n block (with_more_blocks more (held_from image lbn count)) home image new
   unfolding volume_of
   names-more more lbn count may spare =
       let writes = wrote may.stands (subst (MayName v n) (sym may.blocks) (more-names v n lbn count is.sound (live may.stands.of) spare)) (links_to_none may.no_link) in
       record { header = writes; store = file-grows image new home f n block more lbn count late writes may }
 
   pub links-on : (m : ℕ) → LinksOnTo t f n m block → (link_of block).volume ≡ 0 → ((other : ℕ) → IsInFile t other → ¬ IsNext t other m)
-      → ChangesFile f n block (with_header_more image t m) home image new
+      → ChangesFileAt f n block (with_header_more image t m) home image new
   unfolding volume_of
   links-on m may here loose =
       let writes = wrote may.stands (subst (MayName v n) (sym may.blocks) (own-names v n is.sound (live may.stands.of)))
@@ -79,7 +79,7 @@ module _ (image : Image) (home : HomeFields) (f n : ℕ) (block : List ℕ) (is 
       }
 
   pub may-end : (left : ℕ) → EndsThere t f n block left
-      → ChangesFile f n block (with_first_headers (segment_number (t.header n) + 1) (pointers_before t f n + pointers_in block) (room_in block) (blocks_before t f n + left)) home image new
+      → ChangesFileAt f n block (with_first_headers (segment_number (t.header n) + 1) (pointers_before t f n + pointers_in block) (room_in block) (blocks_before t f n + left)) home image new
   unfolding volume_of
   may-end left may =
       let writes = wrote may.stands (subst (MayName v n) (sym may.blocks) (fewer-names v n left (blocks_named (t.header n)) (own-names v n is.sound (live may.stands.of)))) (links_to_none may.no_link) in

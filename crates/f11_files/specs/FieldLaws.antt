@@ -13,7 +13,7 @@ use Rattle.f11_store.specs.File.{File, with_mark, without_contiguous}
 use Rattle.f11_store.specs.Lags.{with_no_mark}
 use Rattle.f11_store.specs.declared.files.Change.TheVariants as change
 use Rattle.f11_vfy.specs.Sound.{HasSoundVolume}
-use Rattle.f11_files.specs.FileLaws.{ChangesFile}
+use Rattle.f11_files.specs.FileLaws.{ChangesFileAt}
 
 -- a file of which its first header says this
 abbrev pub said_by : List ℕ → File → File
@@ -54,14 +54,18 @@ DeleteMarkIsSet = (old : List ℕ) → WrittenSays (λ h. record h { characteris
 abbrev pub ContiguousMarkIsCleared : Type 0
 ContiguousMarkIsCleared = (old : List ℕ) → WrittenSays (λ h. record h { characteristics = without_contiguous (characteristics old) }) with_no_mark old
 
+-- the first header of file f was written, and the store has the file with this change
+abbrev pub ChangesFile : ℕ → List ℕ → (File → File) → HomeFields → Image → Image → Type 0
+ChangesFile f = ChangesFileAt f f
+
 -- such a block may be written over the first header of a file from 4 on
 abbrev pub FirstHeaderMayChange : Type 0
 FirstHeaderMayChange =
     (image : Image) (home : HomeFields) (f : ℕ) (block : List ℕ) (change : File → File) → HasSoundVolume image home → 4 ≤ f → IsFile (table_of image home) f →
-    SaysBut change ((table_of image home).header f) block → ChangesFile f f block change home image (with_header image home f block)
+    SaysBut change ((table_of image home).header f) block → ChangesFile f block change home image (with_header image home f block)
 
 -- and over that of the index file
 abbrev pub IndexHeaderMayChange : Type 0
 IndexHeaderMayChange =
     (image : Image) (home : HomeFields) (block : List ℕ) (change : File → File) → HasSoundVolume image home →
-    SaysBut change ((table_of image home).header 1) block → ChangesFile 1 1 block change home image (with_header image home 1 block)
+    SaysBut change ((table_of image home).header 1) block → ChangesFile 1 block change home image (with_header image home 1 block)

@@ -134,7 +134,7 @@ FileEndsThere =
     (blocks_before (table_of old home) f n + left) (file_in home f old)
 
 -- This was written as header n of file f: the volume is sound, and its store has the file with this change.
-pub record ChangesFile (f n : ℕ) (block : List ℕ) (change : File → File) (home : HomeFields) (old new : Image) : Type 0 where
+pub record ChangesFileAt (f n : ℕ) (block : List ℕ) (change : File → File) (home : HomeFields) (old new : Image) : Type 0 where
   pub header : WritesHeader n block home old new
   pub store : store_of new home ≡ with_change (store_of old home) f change
 
@@ -143,20 +143,20 @@ abbrev pub LastMayNameMore : Type 0
 LastMayNameMore =
     (image : Image) (home : HomeFields) (f n : ℕ) (block : List ℕ) (more lbn count : ℕ) → HasSoundVolume image home → 4 ≤ f →
     NamesMoreOf (table_of image home) f n block more lbn count → AreSpare (volume_of image home) lbn count →
-    ChangesFile f n block (with_more_blocks more (held_from image lbn count)) home image (with_header image home n block)
+    ChangesFileAt f n block (with_more_blocks more (held_from image lbn count)) home image (with_header image home n block)
 
 -- and so may one that links on to a header which is no other's next
 abbrev pub LastMayLinkOn : Type 0
 LastMayLinkOn =
     (image : Image) (home : HomeFields) (f n m : ℕ) (block : List ℕ) → HasSoundVolume image home → 4 ≤ f → LinksOnTo (table_of image home) f n m block →
     (link_of block).volume ≡ 0 → ((other : ℕ) → IsInFile (table_of image home) other → ¬ IsNext (table_of image home) other m) →
-    ChangesFile f n block (with_header_more image (table_of image home) m) home image (with_header image home n block)
+    ChangesFileAt f n block (with_header_more image (table_of image home) m) home image (with_header image home n block)
 
 -- and one that ends the file over any of its headers
 abbrev pub HeaderMayEnd : Type 0
 HeaderMayEnd =
     (image : Image) (home : HomeFields) (f n : ℕ) (block : List ℕ) (left : ℕ) → HasSoundVolume image home → 4 ≤ f → EndsThere (table_of image home) f n block left →
-    ChangesFile f n block
+    ChangesFileAt f n block
     (with_first_headers (segment_number ((table_of image home).header n) + 1) (pointers_before (table_of image home) f n + pointers_in block) (room_in block)
     (blocks_before (table_of image home) f n + left))
     home image (with_header image home n block)
