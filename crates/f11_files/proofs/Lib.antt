@@ -8,3 +8,4 @@ pub mod NewFileLemmas
 pub mod FreshStoreLemmas
 pub mod StepLemmas
 pub mod ExtensionLemmas
+pub mod LooseLemmas

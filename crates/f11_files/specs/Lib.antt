@@ -6,3 +6,4 @@ pub mod FieldLaws
 pub mod NewFileLaws
 pub mod FreshStore
 pub mod ExtensionLaws
+pub mod LooseLaws

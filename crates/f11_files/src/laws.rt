@@ -3,6 +3,7 @@ ghost use Rattle.f11_files.specs.ExtensionLaws as extensions;
 ghost use Rattle.f11_files.specs.FieldLaws as fields;
 ghost use Rattle.f11_files.specs.FileLaws as files;
 ghost use Rattle.f11_files.specs.FreshStore as fresh;
+ghost use Rattle.f11_files.specs.LooseLaws as loose;
 ghost use Rattle.f11_files.specs.NewFileLaws as new;
 ghost use Rattle.f11_files.specs.SlotLaws as slots;
 ghost use Rattle.f11_files.specs.StoreLaws as laws;
@@ -85,6 +86,14 @@ pub fn new_files()
     ensures free { new.FreeSlotsAreStored }
     ensures written { new.NewFirstMayBeWritten }
     ensures entered { new.NewFileMayBeEntered }
+{}
+
+/// Headers of no file, behind one that a file was cut at, or of a file that was killed.
+pub fn loose_headers()
+    ensures unlinked { loose.LooseIsUnlinked }
+    ensures stays { loose.LooseStays }
+    ensures killed { loose.KilledLeavesLoose }
+    ensures cut { loose.CutLeavesLoose }
 {}
 
 /// A header for a file that grows, which is written and entered.

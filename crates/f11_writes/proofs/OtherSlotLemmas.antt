@@ -117,7 +117,7 @@ module _ (t u : Table) (n : ℕ) (others : KeepsOtherSlots n t u) where
   pub file-was : (f : ℕ) → f ≢ n → IsFile u f → IsFile t f
   file-was f away file = record { live = live-was f away file.live; first = ap segment_number (sym (same-now f away file.live.in_use)) ∙ file.first }
 
-  next-was : (a b : ℕ) → a ≢ n → b ≢ n → IsNext u a b → IsNext t a b
+  pub next-was : (a b : ℕ) → a ≢ n → b ≢ n → IsNext u a b → IsNext t a b
   next-was a b away too goes =
       let from = same-now a away goes.from.in_use in
       let to = same-now b too goes.to.in_use in
