@@ -32,7 +32,8 @@ pub fn first<D: Device>(
     requires within { LiesWithin (index_kept index.now) (length (D.disk device.old).image) }
     ensures reads { OnOk result (ReadsFirst (index_kept index.now) n block.new
         (D.disk device.old) (D.disk device.new)) }
-    ensures in_hand { OnOk result (HoldsFirst (index_kept index.now) n block.new (D.disk device.new)) }
+    ensures in_hand { OnOk result (HoldsFirst (index_kept index.now) n block.new
+        (D.disk device.new)) }
     ensures damaged { IsErrOf result ChainFault.Damaged
         → FindsNoFile (index_kept index.now) n (D.disk device.old) (D.disk device.new) }
     ensures failed { IsErrOf result ChainFault.DeviceFault

@@ -1,5 +1,5 @@
 -- A file whose first header was written with the map that it had.
-use Rattle.std.proofs.Common.{◌≡◌, ◌≢◌, ◌⊎◌, ◌≤◌, ◌<◌, ◌-◌, inl, inr, ℕ, Bool, true, false, IsTrue, List, Some, option_map, refl, ap, sym, subst, ◌∙◌, length, map, get_or, arith}
+use Rattle.std.proofs.Common.{◌≡◌, ◌≢◌, ◌⊎◌, ◌≤◌, ◌<◌, ◌-◌, inl, inr, ℕ, Bool, true, false, IsTrue, List, [], Some, option_map, refl, ap, sym, subst, ◌∙◌, length, map, get_or, arith}
 use Rattle.std.specs.Prelude.{Contains}
 use Rattle.std.specs.List.{sum_by}
 use Rattle.std.proofs.lemmas.Bool.{cases_eq, cond-false}
@@ -28,13 +28,13 @@ use Rattle.f11_vfy.specs.Contents.{block_or_zeros, file_of, headers_reached, poi
 use Rattle.f11_vfy.specs.Sound.{HasSoundVolume}
 use Rattle.f11_vfy.specs.Volume.{volume_of}
 use Rattle.f11_vfy.proofs.FileLemmas.{image-files, reached-are, file-blocks-are}
-use Rattle.f11_writes.specs.Kept.{file_in, WritesHeader}
+use Rattle.f11_writes.specs.Kept.{file_in, said_of, WritesHeader}
 use Rattle.f11_writes.specs.Volumes.{MayName, MayBecome, links_as_before}
-use Rattle.f11_writes.proofs.HeaderLemmas.{file-rewrite-keeps}
+use Rattle.f11_writes.proofs.HeaderLemmas.{rewrite-keeps, file-rewrite-keeps}
 use Rattle.f11_writes.proofs.NameLemmas.{own-names}
-use Rattle.f11_files.specs.FieldLaws.{said_by, SaysBut, Writes, AttributesAreReplaced, IdentIsReplaced, ProtectionIsReplaced, DeleteMarkIsSet, ContiguousMarkIsCleared, ChangesFile}
+use Rattle.f11_files.specs.FieldLaws.{said_by, SaysBut, WrittenSays, AttributesAreReplaced, IdentIsReplaced, ProtectionIsReplaced, DeleteMarkIsSet, ContiguousMarkIsCleared, ChangesFile}
 use Rattle.f11_files.proofs.FileLemmas.{sum-same}
-use Rattle.f11_files.proofs.InstanceLemmas.{file-stored}
+use Rattle.f11_files.proofs.InstanceLemmas.{first-alone, seen-stored, file-stored}
 
 -- a file has a header
 headers-some : (t : Table) (f : ℕ) → 0 < f → 0 < length (headers_of t f)
@@ -54,7 +54,7 @@ module _ (change : File → File) (old new : List ℕ) (says : SaysBut change ol
   unfolding blocks_named
   blocks-same = ap blocks_of says.map
 
-module _ (image : Image) (home : HomeFields) (f : ℕ) (block : List ℕ) (change : File → File) (is : HasSoundVolume image home) (late : 4 ≤ f) (file : IsFile (table_of image home) f)
+module _ (image : Image) (home : HomeFields) (f : ℕ) (block : List ℕ) (change : File → File) (is : HasSoundVolume image home) (file : IsFile (table_of image home) f)
     (says : SaysBut change ((table_of image home).header f) block) where
   abbrev t : Table
   t = table_of image home
@@ -74,85 +74,113 @@ module _ (image : Image) (home : HomeFields) (f : ℕ) (block : List ℕ) (chang
   abbrev new : Image
   new = with_header image home f block
 
-  wrote : WritesHeader f block home image new
-  wrote = file-rewrite-keeps image home is f block f late (first file) becomes
+  module _ (wrote : WritesHeader f block home image new) where
+    abbrev u : Table
+    u = table_of new home
 
-  abbrev u : Table
-  u = table_of new home
+    here : u.header f ≡ block
+    here = wrote.index_file.header
 
-  here : u.header f ≡ block
-  here = wrote.index_file.header
+    file-now : IsFile u f
+    file-now = record {
+      live = record { in_use = ap (λ (g : ℕ → Bool). g f) wrote.in_use ∙ file.live.in_use; valid = subst (λ (b : List ℕ). IsHeader b f) (sym here) valid };
+      first = ap segment_number here ∙ segment-same change (t.header f) block says ∙ file.first;
+    }
 
-  file-now : IsFile u f
-  file-now = record {
-    live = record { in_use = ap (λ (g : ℕ → Bool). g f) wrote.in_use ∙ file.live.in_use; valid = subst (λ (b : List ℕ). IsHeader b f) (sym here) valid };
-    first = ap segment_number here ∙ segment-same change (t.header f) block says ∙ file.first;
-  }
+    was-whole : IsWholeFile t f
+    was-whole = ((image-files image home is).each f file).whole
 
-  was-whole : IsWholeFile t f
-  was-whole = ((image-files image home is).each f file).whole
+    is-whole : IsWholeFile u f
+    is-whole = ((image-files new home wrote.slot.sound).each f file-now).whole
 
-  is-whole : IsWholeFile u f
-  is-whole = ((image-files new home wrote.slot.sound).each f file-now).whole
+    -- each header of the file has the map that it had
+    map-stays : (m : ℕ) → IsHeaderOf t f m → map_area (u.header m) ≡ map_area (t.header m)
+    map-stays m of = go (cases_eq m f)
+      where
+        go : (m ≡ f) ⊎ (m ≢ f) → map_area (u.header m) ≡ map_area (t.header m)
+        go (inl same) = ap (λ (k : ℕ). map_area (u.header k)) same ∙ ap map_area here ∙ says.map ∙ ap (λ (k : ℕ). map_area (t.header k)) (sym same)
+        go (inr apart) = ap map_area (wrote.slot.others.header m apart (live_of-header of).in_use)
 
-  -- each header of the file has the map that it had
-  map-stays : (m : ℕ) → IsHeaderOf t f m → map_area (u.header m) ≡ map_area (t.header m)
-  map-stays m of = go (cases_eq m f)
-    where
-      go : (m ≡ f) ⊎ (m ≢ f) → map_area (u.header m) ≡ map_area (t.header m)
-      go (inl same) = ap (λ (k : ℕ). map_area (u.header k)) same ∙ ap map_area here ∙ says.map ∙ ap (λ (k : ℕ). map_area (t.header k)) (sym same)
-      go (inr apart) = ap map_area (wrote.slot.others.header m apart (live_of-header of).in_use)
+    listed : (m : ℕ) → Contains (headers_of t f) m → map_area (u.header m) ≡ map_area (t.header m)
+    listed m in_list = map-stays m (listed-are t f m was-whole in_list)
 
-  listed : (m : ℕ) → Contains (headers_of t f) m → map_area (u.header m) ≡ map_area (t.header m)
-  listed m in_list = map-stays m (listed-are t f m was-whole in_list)
+    same : (headers_of u f ≡ headers_of t f) × (file_blocks u f ≡ file_blocks t f)
+    unfolding link_of blocks_named
+    same = file-alike t u f (λ m in_list. ap (λ (a : List ℕ). (link a).number) (listed m in_list)) (λ m in_list. ap blocks_of (listed m in_list))
 
-  same : (headers_of u f ≡ headers_of t f) × (file_blocks u f ≡ file_blocks t f)
-  unfolding link_of blocks_named
-  same = file-alike t u f (λ m in_list. ap (λ (a : List ℕ). (link a).number) (listed m in_list)) (λ m in_list. ap blocks_of (listed m in_list))
+    headers-were : headers_reached t f ≡ headers_of t f
+    headers-were = reached-are 256 t f was-whole (first file)
 
-  headers-were : headers_reached t f ≡ headers_of t f
-  headers-were = reached-are 256 t f was-whole (first file)
+    headers-stay : headers_reached u f ≡ headers_of t f
+    headers-stay = reached-are 256 u f is-whole (first file-now) ∙ same.0
 
-  headers-stay : headers_reached u f ≡ headers_of t f
-  headers-stay = reached-are 256 u f is-whole (first file-now) ∙ same.0
+    pointers-stay : sum_by (pointer_count u) (headers_of t f) ≡ sum_by (pointer_count t) (headers_of t f)
+    pointers-stay =
+        sum-same (pointer_count u) (pointer_count t) (headers_of t f) (λ i m at.
+        ap (λ (a : List ℕ). length (runs_of a)) (listed m (i, slice_get_within (headers_of t f) i m at, get_or_from_slice_get (headers_of t f) i m m at)))
 
-  pointers-stay : sum_by (pointer_count u) (headers_of t f) ≡ sum_by (pointer_count t) (headers_of t f)
-  pointers-stay =
-      sum-same (pointer_count u) (pointer_count t) (headers_of t f) (λ i m at.
-      ap (λ (a : List ℕ). length (runs_of a)) (listed m (i, slice_get_within (headers_of t f) i m at, get_or_from_slice_get (headers_of t f) i m m at)))
+    room-stays : room_left u (headers_of t f) ≡ room_left t (headers_of t f)
+    room-stays =
+        let hs : List ℕ = headers_of t f in
+        let some : 0 < length hs = headers-some t f (live-some file.live) in
+        let within : length hs - 1 < length hs = omega (arith, some) in
+        let last : ℕ = get_or hs (length hs - 1) 0 in
+        ap (λ (a : List ℕ). places a - length (runs_of a)) (listed last (length hs - 1, within, get_or_default_zero hs (length hs - 1) last within))
 
-  room-stays : room_left u (headers_of t f) ≡ room_left t (headers_of t f)
-  room-stays =
-      let hs : List ℕ = headers_of t f in
-      let some : 0 < length hs = headers-some t f (live-some file.live) in
-      let within : length hs - 1 < length hs = omega (arith, some) in
-      let last : ℕ = get_or hs (length hs - 1) 0 in
-      ap (λ (a : List ℕ). places a - length (runs_of a)) (listed last (length hs - 1, within, get_or_default_zero hs (length hs - 1) last within))
+    seen-said : said_of home f new ≡ said_by block (said_of home f image)
+    unfolding file_of
+    seen-said = λ i. record {
+      sequence = (ap file_sequence here ∙ says.sequence) i;
+      owner = ap owner here i;
+      protection = ap protection here i;
+      characteristics = ap characteristics here i;
+      ident = ap ident_area here i;
+      attr = ap attributes here i;
+      held = (headers-stay ∙ sym headers-were) i;
+      pointers = (ap (sum_by (pointer_count u)) headers-stay ∙ pointers-stay ∙ ap (sum_by (pointer_count t)) (sym headers-were)) i;
+      room = (ap (room_left u) headers-stay ∙ room-stays ∙ ap (room_left t) (sym headers-were)) i;
+      blocks = [];
+    }
 
-  said : file_in home f new ≡ said_by block (file_in home f image)
-  unfolding file_of
-  said = λ i. record {
-    sequence = (ap file_sequence here ∙ says.sequence) i;
-    owner = ap owner here i;
-    protection = ap protection here i;
-    characteristics = ap characteristics here i;
-    ident = ap ident_area here i;
-    attr = ap attributes here i;
-    held = (headers-stay ∙ sym headers-were) i;
-    pointers = (ap (sum_by (pointer_count u)) headers-stay ∙ pointers-stay ∙ ap (sum_by (pointer_count t)) (sym headers-were)) i;
-    room = (ap (room_left u) headers-stay ∙ room-stays ∙ ap (room_left t) (sym headers-were)) i;
-    blocks = (wrote.slot.contents f file-now (λ one. omega (arith, one, late)) ∙ ap (map (block_or_zeros image)) same.1 ∙ sym (file-blocks-are image t f was-whole)) i;
-  }
+    pub seen-changes : said_of home f new ≡ change (said_of home f image)
+    unfolding file_of
+    seen-changes = seen-said ∙ says.file (said_of home f image)
 
-  changed : file_in home f new ≡ change (file_in home f image)
-  unfolding file_of
-  changed = said ∙ says.file (file_in home f image)
+    pub file-changes : f ≢ 1 → file_in home f new ≡ change (file_in home f image)
+    unfolding file_of
+    file-changes other =
+        let blocks = wrote.slot.contents f file-now other ∙ ap (map (block_or_zeros image)) same.1 ∙ sym (file-blocks-are image t f was-whole) in
+        let said : file_in home f new ≡ said_by block (file_in home f image) = λ i. record (seen-said i) { blocks = blocks i } in
+        said ∙ says.file (file_in home f image)
 
-  pub changes-file : ChangesFile f block change home image new
-  changes-file = record {
-    header = wrote;
-    store = file-stored image new home f block wrote says.sequence f change late (first file) (first file-now) changed;
-  }
+pub changes-file : (image : Image) (home : HomeFields) (f : ℕ) (block : List ℕ) (change : File → File) → HasSoundVolume image home → 4 ≤ f → IsFile (table_of image home) f
+    → SaysBut change ((table_of image home).header f) block → ChangesFile f block change home image (with_header image home f block)
+changes-file image home f block change is late file says =
+    let wrote = file-rewrite-keeps image home is f block f late (first file) (becomes image home f block change is file says) in
+    record {
+      header = wrote;
+      store =
+          file-stored image (with_header image home f block) home f block wrote says.sequence f change late (first file) (first (file-now image home f block change is file says wrote))
+          (file-changes image home f block change is file says wrote (λ one. omega (arith, one, late)));
+    }
+
+-- the first header of the index file
+pub changes-index : (image : Image) (home : HomeFields) (block : List ℕ) (change : File → File) → HasSoundVolume image home
+    → SaysBut change ((table_of image home).header 1) block → ChangesFile 1 block change home image (with_header image home 1 block)
+changes-index image home block change is says =
+    let t : Table = table_of image home in
+    let file : IsFile t 1 = is.framed.indexed.file.whole.file in
+    let wrote = rewrite-keeps image home is 1 block file.live (becomes image home 1 block change is file says) (record {
+      two = first-alone t 2 1 (λ two. omega (arith, two)) file;
+      three = first-alone t 3 1 (λ three. omega (arith, three)) file;
+      one = λ of. record { blocks = blocks-same change (t.header 1) block says; link = link-same change (t.header 1) block says };
+    }) in
+    record {
+      header = wrote;
+      store =
+          seen-stored image (with_header image home 1 block) home 1 block wrote says.sequence 1 change (first file) (first (file-now image home 1 block change is file says wrote))
+          (seen-changes image home 1 block change is file says wrote);
+    }
 
 -- what a block that holds a header says
 held-from : (b : List ℕ) (h : HeaderFields) → header_in b ≡ Some h → IsTrue (holds_header b) × (header_fields b ≡ h)
@@ -170,7 +198,7 @@ as_said h f = record f { owner = h.owner; protection = h.protection; characteris
 -- fields were written
 pub says-written : (fields : HeaderFields → HeaderFields) (change : File → File) (old : List ℕ) → (fields (header_fields old)).number ≡ file_number old
     → (fields (header_fields old)).sequence ≡ file_sequence old → (fields (header_fields old)).map ≡ map_area old
-    → ((f : File) → as_said (fields (header_fields old)) f ≡ change (said_by old f)) → Writes fields change old
+    → ((f : File) → as_said (fields (header_fields old)) f ≡ change (said_by old f)) → WrittenSays fields change old
 says-written fields change old number sequence map file new held is sum =
     let now = held-from new (fields (header_fields old)) (is ∙ ap (option_map fields) (header_in-held old held)) in
     record {

@@ -1,5 +1,5 @@
 -- The store of an image whose index file has grown.
-use Rattle.std.proofs.Common.{◌≡◌, ◌≢◌, ◌⊎◌, ◌≤◌, ◌<◌, ◌+◌, ◌&&◌, inl, inr, ℕ, Bool, false, cond, List, Some, refl, ap, sym, subst, ◌∙◌, length, eqb, ltb, leb, arith}
+use Rattle.std.proofs.Common.{◌≡◌, ◌≢◌, ◌⊎◌, ◌≤◌, ◌<◌, ◌+◌, ◌&&◌, inl, inr, ℕ, Bool, false, cond, List, [], Some, refl, ap, sym, subst, ◌∙◌, length, eqb, ltb, leb, arith}
 use Rattle.std.proofs.lemmas.Bool.{and_right, cases_lt, cases_eq, eq-eqb, ne_eqb, lt-leb, le-leb, lt-ltb, le-ltb}
 use Rattle.f11_bits.specs.Bitmap.{Bitmap}
 use Rattle.f11_dev.specs.Image.{Image}
@@ -8,14 +8,18 @@ use Rattle.f11_home.specs.Home.{HomeFields}
 use Rattle.f11_index.specs.Table.{Table, table_in, table_of, last_sequence, IsFile, IsHeaderOf}
 use Rattle.f11_index.proofs.ChainLemmas.{file_of-header, live_of-header}
 use Rattle.f11_index.proofs.HeadersLemmas.{chained-apart}
-use Rattle.f11_store.specs.Changes.{with_file, with_more_slots}
+use Rattle.f11_store.specs.Changes.{with_change, with_file, with_more_slots}
+use Rattle.f11_store.specs.File.{File}
+use Rattle.f11_store.specs.Store.{Store}
 use Rattle.f11_vfy.proofs.FileLemmas.{image-files}
-use Rattle.f11_writes.specs.Kept.{file_in, WritesGrowth}
+use Rattle.f11_writes.specs.Kept.{file_in, said_of, WritesGrowth}
 use Rattle.f11_files.specs.StoreOf.{as_seen, file_at, last_given, store_of}
 use Rattle.f11_files.specs.SlotLaws.{GivesSlots}
+use Rattle.f11_files.specs.FileLaws.{MayStand, NamesMoreOf, LinksOnTo, HasSlotsMore, with_more_blocks, with_header_linked}
 use Rattle.f11_files.proofs.StoreLemmas.{same-store, file-at}
 use Rattle.f11_files.proofs.SlotLemmas.{other-file, free-stays}
-use Rattle.f11_files.proofs.InstanceLemmas.{first-alone, last-at}
+use Rattle.f11_files.proofs.InstanceLemmas.{first-alone, last-at, seen-changed}
+use Rattle.f11_files.proofs.FileLemmas.{as-growth, of-now, more-said, linked-said}
 
 -- where there is no such slot
 last-none : (v : Table) (m : ℕ) → m ≤ 0 → last_given v m ≡ 0
@@ -78,3 +82,32 @@ module _ (old new : Image) (home : HomeFields) (n : ℕ) (block : List ℕ) (lbn
             λ is. first-alone t 1 g (λ e. apart (sym e)) is (subst (λ (k : ℕ). IsHeaderOf t 1 k) (sym same) gives.of_old),
             λ is. first-alone u 1 g (λ e. apart (sym e)) is (subst (λ (k : ℕ). IsHeaderOf u 1 k) (sym same) gives.of_new),
           )
+
+-- file 1 as it is seen has changed so
+grown-so : (old new : Image) (home : HomeFields) (n : ℕ) (block : List ℕ) (lbn count : ℕ) (change : File → File) → WritesGrowth n block lbn count home old new
+    → HasSlotsMore count (table_of old home) (table_of new home) → MayStand (table_of old home) 1 n block → said_of home 1 new ≡ change (said_of home 1 old)
+    → store_of new home ≡ with_more_slots (with_change (store_of old home) 1 change) count
+grown-so old new home n block lbn count change wrote slots stands changed =
+    let written = as-growth n block lbn count home old new (live_of-header stands.of) wrote in
+    index-stored old new home n block lbn count wrote (record {
+      of_old = stands.of;
+      of_new = of-now old new home 1 n block written stands;
+      sequence = ap file_sequence wrote.index_file.header ∙ stands.good.sequence;
+      slots = slots.slots;
+      unnumbered = slots.unnumbered;
+    })
+    ∙ ap (λ (s : Store). with_more_slots s count) (seen-changed old new home n 1 change (file_of-header stands.of) changed)
+
+pub index-more : (old new : Image) (home : HomeFields) (n : ℕ) (block : List ℕ) (more lbn count : ℕ) → WritesGrowth n block lbn count home old new
+    → HasSlotsMore count (table_of old home) (table_of new home) → NamesMoreOf (table_of old home) 1 n block more lbn count
+    → store_of new home ≡ with_more_slots (with_change (store_of old home) 1 (with_more_blocks more [])) count
+index-more old new home n block more lbn count wrote slots may =
+    let written = as-growth n block lbn count home old new (live_of-header may.stands.of) wrote in
+    grown-so old new home n block lbn count (with_more_blocks more []) wrote slots may.stands (more-said old new home 1 n block more lbn count written may)
+
+pub index-linked : (old new : Image) (home : HomeFields) (n m : ℕ) (block : List ℕ) (lbn count : ℕ) → WritesGrowth n block lbn count home old new
+    → HasSlotsMore count (table_of old home) (table_of new home) → LinksOnTo (table_of old home) 1 n m block
+    → store_of new home ≡ with_more_slots (with_change (store_of old home) 1 (with_header_linked (table_of old home) m)) count
+index-linked old new home n m block lbn count wrote slots may =
+    let written = as-growth n block lbn count home old new (live_of-header may.stands.of) wrote in
+    grown-so old new home n block lbn count (with_header_linked (table_of old home) m) wrote slots may.stands (linked-said old new home 1 n m block written may)

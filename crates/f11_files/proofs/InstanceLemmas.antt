@@ -82,6 +82,13 @@ module _ (old new : Image) (home : HomeFields) (n : ℕ) where
     loose-file = with_file-same s n (file_at new u n)
         (file-at old t n _ (λ file. absurd (before n (first file))) (λ _. refl) ∙ sym (file-at new u n None (λ file. absurd (now n (first file))) (λ _. refl)))
 
+  -- a file that has changed so
+  pub seen-changed : (f : ℕ) (change : File → File) → IsFile t f → as_seen f (file_in home f new) ≡ change (as_seen f (file_in home f old))
+      → with_file s f (Some (as_seen f (file_in home f new))) ≡ with_change s f change
+  unfolding store_of
+  seen-changed f change file changed =
+      ap (with_file s f) (ap Some changed ∙ sym (ap (option_map change) (file-at old t f _ (λ _. refl) (λ none. absurd (none file)))))
+
   -- the sequence number that the slot was last given stays
   last-kept : u.slots ≡ t.slots → last_sequence u n ≡ last_sequence t n → last_given u n ≡ last_given t n
   unfolding last_given
@@ -138,15 +145,14 @@ module _ (old new : Image) (home : HomeFields) (n : ℕ) where
           ∙ ap (with_file s f) (file-at new u f _ (λ _. refl) (λ none. absurd (none (file_of-header is))))
 
       -- where it has changed so, it has in the store
+      pub seen-stored : (f : ℕ) (change : File → File) → IsHeaderOf t f n → IsHeaderOf u f n → as_seen f (file_in home f new) ≡ change (as_seen f (file_in home f old))
+          → store_of new home ≡ with_change (store_of old home) f change
+      seen-stored f change of is changed = file-rewritten f of is ∙ seen-changed f change (file_of-header of) changed
+
       pub file-stored : (f : ℕ) (change : File → File) → 4 ≤ f → IsHeaderOf t f n → IsHeaderOf u f n → file_in home f new ≡ change (file_in home f old)
           → store_of new home ≡ with_change (store_of old home) f change
-      unfolding store_of
       file-stored f change late of is changed =
-          file-rewritten f of is
-          ∙ ap (with_file s f) (
-          ap Some (seen-own f (file_in home f new) late ∙ changed ∙ ap change (sym (seen-own f (file_in home f old) late)))
-          ∙ sym (ap (option_map change) (file-at old t f _ (λ _. refl) (λ none. absurd (none (file_of-header of)))))
-          )
+          seen-stored f change of is (seen-own f (file_in home f new) late ∙ changed ∙ ap change (sym (seen-own f (file_in home f old) late)))
 
   -- a bit was written
   module _ (after : Index) (wrote : WritesSlotBit n after home old new) where

@@ -26,3 +26,6 @@ pub mod DropLemmas
 pub mod TailLemmas
 pub mod DroppingLemmas
 pub mod GoneLemmas
+pub mod StepLemmas
+pub mod ExtensionLemmas
+pub mod LooseLemmas

@@ -17,7 +17,7 @@ use Rattle.f11_index.specs.HeaderBlock.{segment_number, link_of, blocks_named}
 use Rattle.f11_index.specs.IndexFile.{Index, index_of, slots, is_in_use, free_slots as free_in_index}
 use Rattle.f11_index.specs.Slots.{IsLeastFree}
 use Rattle.f11_index.specs.Table.{Table, table_in, table_of, last_sequence, IsFile, IsWholeFile, first}
-use Rattle.f11_store.specs.Changes.{new_file, file_created, next_sequence, with_file, with_new_file}
+use Rattle.f11_store.specs.Changes.{new_file, file_created, next_sequence, with_file, with_new_file, with_slots}
 use Rattle.f11_store.specs.File.{File, no_file}
 use Rattle.f11_store.specs.Store.{Store, least_free, free_slots}
 use Rattle.f11_store.specs.declared.callers.Uic.{Uic}
@@ -29,6 +29,7 @@ use Rattle.f11_writes.specs.Kept.{file_in}
 use Rattle.f11_writes.specs.Worked.{IsNewHeader, with_new_header}
 use Rattle.f11_writes.proofs.HeaderLemmas.{unused-keeps}
 use Rattle.f11_writes.proofs.MadeLemmas.{two, here-now, is-file, one-header, makes-file}
+use Rattle.f11_files.specs.ExtensionLaws.{SlotIsTaken}
 use Rattle.f11_files.specs.FieldLaws.{SaysBut}
 use Rattle.f11_files.specs.NewFileLaws.{FreeSlotsAreStored, IsNewFirst, WritesNewFirst, EntersNewFile}
 use Rattle.f11_files.specs.SlotLaws.{with_last, with_use}
@@ -45,11 +46,10 @@ pub least-stored : (image : Image) (home : HomeFields) (n : ℕ) → IsLeastFree
 least-stored image home n least =
     ap (λ (l : List ℕ). slice_index l 0) (free-stored image home) ∙ get_or_from_slice_get (free_in_index (index_of image home)) 0 n 0 least.first
 
--- a slot that comes into use with its next sequence number, and a file there
-entered-store : (s : Store) (n sequence : ℕ) (f : File) → sequence ≡ next_sequence (s.last n)
-    → with_use (with_file (with_last s n sequence) n (Some f)) n true ≡ with_new_file s n f
-entered-store s n sequence f next =
-    same-store (with_use (with_file (with_last s n sequence) n (Some f)) n true) (with_new_file s n f)
+-- a slot that comes into use with its next sequence number
+pub slot-taken : SlotIsTaken
+slot-taken s n sequence next =
+    same-store (with_use (with_last s n sequence) n true) (with_slots s (n ∷ []))
     (λ m. refl) refl refl (λ m. used m (cases_eq m n)) (λ m. last m (cases_eq m n)) refl refl refl refl
   where
     used : (m : ℕ) → (m ≡ n) ⊎ (m ≢ n) → cond (eqb m n) true (s.in_use m) ≡ ((eqb n m || false) || s.in_use m)
@@ -175,7 +175,7 @@ module _ (id : FileId) (owned : Uic) (protects : ℕ) (ident attr empty block : 
                 ∙ ap (λ (x : Store). with_use (with_file x id.number (Some (as_seen id.number (file_in home id.number second)))) id.number true) writes-first.store
                 ∙ ap (λ (f : File). with_use (with_file (with_last s id.number id.sequence) id.number (Some f)) id.number true)
                 (seen-own id.number (file_in home id.number second) (omega (arith, least.low)) ∙ file-made)
-                ∙ entered-store s id.number id.sequence (new_file id.number id.sequence owned protects ident attr) new_last
+                ∙ ap (λ (x : Store). with_file x id.number (Some (new_file id.number id.sequence owned protects ident attr))) (slot-taken s id.number id.sequence new_last)
                 ∙ ap (λ (q : ℕ). with_new_file s id.number (new_file id.number q owned protects ident attr)) new_last
                 ∙ ap made (sym (least-stored image home id.number least));
           }

@@ -8,13 +8,12 @@ use Rattle.f11_header.specs.Header.{holds_header, header_in, header_with}
 use Rattle.f11_home.specs.Home.{HomeFields}
 use Rattle.f11_index.specs.Growth.{with_header}
 use Rattle.f11_index.specs.Table.{table_of, IsFile}
-use Rattle.f11_store.specs.Changes.{with_change, with_delete_mark, with_replacement}
+use Rattle.f11_store.specs.Changes.{with_delete_mark, with_replacement}
 use Rattle.f11_store.specs.File.{File, with_mark, without_contiguous}
 use Rattle.f11_store.specs.Lags.{with_no_mark}
 use Rattle.f11_store.specs.declared.files.Change.TheVariants as change
 use Rattle.f11_vfy.specs.Sound.{HasSoundVolume}
-use Rattle.f11_writes.specs.Kept.{WritesHeader}
-use Rattle.f11_files.specs.StoreOf.{store_of}
+use Rattle.f11_files.specs.FileLaws.{ChangesFileAt}
 
 -- a file of which its first header says this
 abbrev pub said_by : List ℕ → File → File
@@ -36,32 +35,37 @@ pub record SaysBut (change : File → File) (old new : List ℕ) : Type 0 where
   pub file : (f : File) → said_by new f ≡ change (said_by old f)
 
 -- so does one that is sealed with fields written anew, where these change the file so
-abbrev pub Writes : (HeaderFields → HeaderFields) → (File → File) → List ℕ → Type 0
-Writes fields change old =
+abbrev pub WrittenSays : (HeaderFields → HeaderFields) → (File → File) → List ℕ → Type 0
+WrittenSays fields change old =
     (new : List ℕ) → IsTrue (holds_header old) → header_in new ≡ header_with fields old → check_word new ≡ word_sum new 255 → SaysBut change old new
 
 abbrev pub AttributesAreReplaced : Type 0
-AttributesAreReplaced = (old attr : List ℕ) → Writes (λ h. record h { attributes = attr }) (with_replacement (change.Attr attr)) old
+AttributesAreReplaced = (old attr : List ℕ) → WrittenSays (λ h. record h { attributes = attr }) (with_replacement (change.Attr attr)) old
 
 abbrev pub IdentIsReplaced : Type 0
-IdentIsReplaced = (old ident : List ℕ) → Writes (λ h. record h { ident = ident }) (with_replacement (change.Ident ident)) old
+IdentIsReplaced = (old ident : List ℕ) → WrittenSays (λ h. record h { ident = ident }) (with_replacement (change.Ident ident)) old
 
 abbrev pub ProtectionIsReplaced : Type 0
-ProtectionIsReplaced = (old : List ℕ) (protects : ℕ) → Writes (λ h. record h { protection = protects }) (with_replacement (change.Protect protects)) old
+ProtectionIsReplaced = (old : List ℕ) (protects : ℕ) → WrittenSays (λ h. record h { protection = protects }) (with_replacement (change.Protect protects)) old
 
 abbrev pub DeleteMarkIsSet : Type 0
-DeleteMarkIsSet = (old : List ℕ) → Writes (λ h. record h { characteristics = with_mark (characteristics old) }) with_delete_mark old
+DeleteMarkIsSet = (old : List ℕ) → WrittenSays (λ h. record h { characteristics = with_mark (characteristics old) }) with_delete_mark old
 
 abbrev pub ContiguousMarkIsCleared : Type 0
-ContiguousMarkIsCleared = (old : List ℕ) → Writes (λ h. record h { characteristics = without_contiguous (characteristics old) }) with_no_mark old
+ContiguousMarkIsCleared = (old : List ℕ) → WrittenSays (λ h. record h { characteristics = without_contiguous (characteristics old) }) with_no_mark old
 
--- This was written as the first header of file f: the volume is sound, and its store has the file with this change.
-pub record ChangesFile (f : ℕ) (block : List ℕ) (change : File → File) (home : HomeFields) (old new : Image) : Type 0 where
-  pub header : WritesHeader f block home old new
-  pub store : store_of new home ≡ with_change (store_of old home) f change
+-- the first header of file f was written, and the store has the file with this change
+abbrev pub ChangesFile : ℕ → List ℕ → (File → File) → HomeFields → Image → Image → Type 0
+ChangesFile f = ChangesFileAt f f
 
 -- such a block may be written over the first header of a file from 4 on
 abbrev pub FirstHeaderMayChange : Type 0
 FirstHeaderMayChange =
     (image : Image) (home : HomeFields) (f : ℕ) (block : List ℕ) (change : File → File) → HasSoundVolume image home → 4 ≤ f → IsFile (table_of image home) f →
     SaysBut change ((table_of image home).header f) block → ChangesFile f block change home image (with_header image home f block)
+
+-- and over that of the index file
+abbrev pub IndexHeaderMayChange : Type 0
+IndexHeaderMayChange =
+    (image : Image) (home : HomeFields) (block : List ℕ) (change : File → File) → HasSoundVolume image home →
+    SaysBut change ((table_of image home).header 1) block → ChangesFile 1 block change home image (with_header image home 1 block)

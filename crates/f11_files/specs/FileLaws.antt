@@ -6,16 +6,18 @@ use Rattle.f11_header.specs.Fields.{file_sequence, owner, protection, characteri
 use Rattle.f11_header.specs.MapFields.{places}
 use Rattle.f11_home.specs.Home.{HomeFields}
 use Rattle.f11_map.specs.MapArea.{runs_of}
-use Rattle.f11_index.specs.Growth.{IsGoodFor}
+use Rattle.f11_index.specs.Growth.{IsGoodFor, with_header}
 use Rattle.f11_index.specs.HeaderBlock.{segment_number, link_of, blocks_named}
-use Rattle.f11_index.specs.Headers.{headers_of}
-use Rattle.f11_index.specs.Table.{Table, table_of, IsLive, IsHeaderOf}
+use Rattle.f11_index.specs.Headers.{headers_of, IsInFile}
+use Rattle.f11_index.specs.Table.{Table, table_of, last_sequence, IsLive, IsNext, IsHeaderOf}
 use Rattle.f11_chain.specs.FileHeaders.{blocks_before}
-use Rattle.f11_store.specs.Changes.{with_change}
+use Rattle.f11_store.specs.Changes.{with_change, with_more_slots}
 use Rattle.f11_store.specs.File.{File}
 use Rattle.f11_vfy.specs.Contents.{block_or_zeros, pointer_count}
 use Rattle.f11_vfy.specs.Sound.{HasSoundVolume}
-use Rattle.f11_writes.specs.Kept.{file_in, WritesHeader}
+use Rattle.f11_vfy.specs.Volume.{volume_of}
+use Rattle.f11_writes.specs.Kept.{file_in, WritesHeader, WritesGrowth}
+use Rattle.f11_writes.specs.NameLaws.{AreSpare}
 use Rattle.f11_files.specs.StoreOf.{store_of}
 
 -- A header says what another does of its file, but for its map.
@@ -75,14 +77,17 @@ with_more_blocks more blocks f = record f { pointers = f.pointers + more; room =
 abbrev pub held_from : Image → ℕ → ℕ → List (List ℕ)
 held_from image lbn count = map (block_or_zeros image) (range_with_len lbn count)
 
--- a file with this header more, and what its blocks hold
-abbrev pub with_header_more : Image → Table → ℕ → File → File
-with_header_more image t m f = record f {
+-- a file with this header more
+abbrev pub with_header_linked : Table → ℕ → File → File
+with_header_linked t m f = record f {
   held = f.held ++ m ∷ [];
   pointers = f.pointers + pointer_count t m;
   room = places (map_area (t.header m)) - pointer_count t m;
-  blocks = f.blocks ++ map (block_or_zeros image) (blocks_named (t.header m));
 }
+
+-- and what its blocks hold
+abbrev pub with_header_more : Image → Table → ℕ → File → File
+with_header_more image t m f = record (with_header_linked t m f) { blocks = f.blocks ++ map (block_or_zeros image) (blocks_named (t.header m)) }
 
 -- a file with the first of its headers, so many pointers and places, and the first of its blocks
 abbrev pub with_first_headers : ℕ → ℕ → ℕ → ℕ → File → File
@@ -127,3 +132,50 @@ FileEndsThere =
     file_in home f new ≡
     with_first_headers (segment_number ((table_of old home).header n) + 1) (pointers_before (table_of old home) f n + pointers_in block) (room_in block)
     (blocks_before (table_of old home) f n + left) (file_in home f old)
+
+-- This was written as header n of file f: the volume is sound, and its store has the file with this change.
+pub record ChangesFileAt (f n : ℕ) (block : List ℕ) (change : File → File) (home : HomeFields) (old new : Image) : Type 0 where
+  pub header : WritesHeader n block home old new
+  pub store : store_of new home ≡ with_change (store_of old home) f change
+
+-- a block that names spare blocks more may be written over the last header of a file from 4 on
+abbrev pub LastMayNameMore : Type 0
+LastMayNameMore =
+    (image : Image) (home : HomeFields) (f n : ℕ) (block : List ℕ) (more lbn count : ℕ) → HasSoundVolume image home → 4 ≤ f →
+    NamesMoreOf (table_of image home) f n block more lbn count → AreSpare (volume_of image home) lbn count →
+    ChangesFileAt f n block (with_more_blocks more (held_from image lbn count)) home image (with_header image home n block)
+
+-- and so may one that links on to a header which is no other's next
+abbrev pub LastMayLinkOn : Type 0
+LastMayLinkOn =
+    (image : Image) (home : HomeFields) (f n m : ℕ) (block : List ℕ) → HasSoundVolume image home → 4 ≤ f → LinksOnTo (table_of image home) f n m block →
+    (link_of block).volume ≡ 0 → ((other : ℕ) → IsInFile (table_of image home) other → ¬ IsNext (table_of image home) other m) →
+    ChangesFileAt f n block (with_header_more image (table_of image home) m) home image (with_header image home n block)
+
+-- and one that ends the file over any of its headers
+abbrev pub HeaderMayEnd : Type 0
+HeaderMayEnd =
+    (image : Image) (home : HomeFields) (f n : ℕ) (block : List ℕ) (left : ℕ) → HasSoundVolume image home → 4 ≤ f → EndsThere (table_of image home) f n block left →
+    ChangesFileAt f n block
+    (with_first_headers (segment_number ((table_of image home).header n) + 1) (pointers_before (table_of image home) f n + pointers_in block) (room_in block)
+    (blocks_before (table_of image home) f n + left))
+    home image (with_header image home n block)
+
+-- There are so many slots more, none of which was given a sequence number.
+pub record HasSlotsMore (count : ℕ) (old new : Table) : Type 0 where
+  pub slots : new.slots ≡ old.slots + count
+  pub unnumbered : (m : ℕ) → old.slots < m → m ≤ old.slots + count → last_sequence new m ≡ 0
+
+-- an index file whose last header names more blocks gives as many slots, and has so many pointers more
+abbrev pub IndexFileHasMore : Type 0
+IndexFileHasMore =
+    (old new : Image) (home : HomeFields) (n : ℕ) (block : List ℕ) (more lbn count : ℕ) → WritesGrowth n block lbn count home old new →
+    HasSlotsMore count (table_of old home) (table_of new home) → NamesMoreOf (table_of old home) 1 n block more lbn count →
+    store_of new home ≡ with_more_slots (with_change (store_of old home) 1 (with_more_blocks more [])) count
+
+-- and one whose last header links on to a header that names them has that header more
+abbrev pub IndexFileHasHeaderMore : Type 0
+IndexFileHasHeaderMore =
+    (old new : Image) (home : HomeFields) (n m : ℕ) (block : List ℕ) (lbn count : ℕ) → WritesGrowth n block lbn count home old new →
+    HasSlotsMore count (table_of old home) (table_of new home) → LinksOnTo (table_of old home) 1 n m block →
+    store_of new home ≡ with_more_slots (with_change (store_of old home) 1 (with_header_linked (table_of old home) m)) count

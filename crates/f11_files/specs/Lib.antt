@@ -19,3 +19,5 @@ pub mod Opening
 pub mod Opened
 pub mod Drops
 pub mod Deletes
+pub mod ExtensionLaws
+pub mod LooseLaws

@@ -1,7 +1,9 @@
 //! Laws of the store of an image, each the contract of a function that does nothing.
+ghost use Rattle.f11_files.specs.ExtensionLaws as extensions;
 ghost use Rattle.f11_files.specs.FieldLaws as fields;
 ghost use Rattle.f11_files.specs.FileLaws as files;
 ghost use Rattle.f11_files.specs.FreshStore as fresh;
+ghost use Rattle.f11_files.specs.LooseLaws as loose;
 ghost use Rattle.f11_files.specs.NewFileLaws as new;
 ghost use Rattle.f11_files.specs.SlotLaws as slots;
 ghost use Rattle.f11_files.specs.StoreLaws as laws;
@@ -50,9 +52,18 @@ pub fn cuts()
     ensures { files.FileEndsThere }
 {}
 
+/// A file that grows or is cut by one write of one of its headers, which may be made.
+pub fn map_writes()
+    ensures names { files.LastMayNameMore }
+    ensures links { files.LastMayLinkOn }
+    ensures ends { files.HeaderMayEnd }
+{}
+
 /// An index file that grows.
 pub fn index_growth()
-    ensures { slots.IndexFileIsStored }
+    ensures any { slots.IndexFileIsStored }
+    ensures names { files.IndexFileHasMore }
+    ensures links { files.IndexFileHasHeaderMore }
 {}
 
 /// What a header says of its file once a field of it was written.
@@ -66,7 +77,8 @@ pub fn written_fields()
 
 /// A file whose first header says another thing of it.
 pub fn field_writes()
-    ensures { fields.FirstHeaderMayChange }
+    ensures file { fields.FirstHeaderMayChange }
+    ensures index_file { fields.IndexHeaderMayChange }
 {}
 
 /// A new file, whose header is written and then entered.
@@ -74,6 +86,20 @@ pub fn new_files()
     ensures free { new.FreeSlotsAreStored }
     ensures written { new.NewFirstMayBeWritten }
     ensures entered { new.NewFileMayBeEntered }
+{}
+
+/// Headers of no file, behind one that a file was cut at, or of a file that was killed.
+pub fn loose_headers()
+    ensures unlinked { loose.LooseIsUnlinked }
+    ensures stays { loose.LooseStays }
+    ensures killed { loose.KilledLeavesLoose }
+    ensures cut { loose.CutLeavesLoose }
+{}
+
+/// A header for a file that grows, which is written and entered.
+pub fn extensions()
+    ensures taken { extensions.SlotIsTaken }
+    ensures entered { extensions.ExtensionMayBeEntered }
 {}
 
 /// The store of a fresh volume.

@@ -8,7 +8,7 @@ ghost use Rattle.f11_index.specs.Kept.{index_kept, LiesWithin};
 
 use crate::fixtures::{SEVENS, ZEROS, file, get, keep, linked, memory, put};
 use f11_bytes::{Block, write_word};
-use f11_chain::{ChainFault, FileEnd, first, last, locate, next};
+use f11_chain::{ChainFault, FileEnd, Place, first, last, locate, next, seek};
 use f11_dev::{Device, DeviceFault, FailOnce, Liar, Memory};
 use f11_header::HeaderMut;
 use f11_home::{find, seal};
@@ -268,6 +268,52 @@ fn blocks_are_found_by_number(rt: HostRuntime) -> Result<(), Fail> {
         let made = device.transfers().saturating_sub(before);
         assert_eq!(rt; made, transfers, "{vbn}");
     }
+    Ok(())
+}
+
+/// Loads the index file, and gives where block number `at` of file `n`, from 0, is named, and the header that names it, where there is
+/// such a slot.
+fn sought<D: Device>(
+    alloc: Global,
+    device: &mut D,
+    n: u16,
+    at: u32,
+) -> Result<(Place, Block), ChainFault> {
+    let Ok(index) = load(alloc, device) else {
+        return Err(ChainFault::DeviceFault);
+    };
+    if n == 0 || u32::from(n) > index.slots() {
+        return Err(ChainFault::DeviceFault);
+    }
+    let mut block = ZEROS;
+    first(device, &index, n, &mut block)?;
+    let place = seek(device, &index, n, at, &mut block)?;
+    Ok((place, block))
+}
+
+#[test]
+fn headers_are_sought(rt: HostRuntime) -> Result<(), Fail> {
+    let mut device = two_headers(rt.alloc())?;
+    for (at, number, segment, left, transfers) in [
+        (0, 6, 0, 0, 4),
+        (5, 6, 0, 5, 4),
+        (6, 7, 1, 0, 5),
+        (9, 7, 1, 3, 5),
+    ] {
+        let header = get(&mut device, u32::from(number) + 2)?;
+        let before = device.transfers();
+        let found = sought(rt.alloc(), &mut device, 6, at);
+        let made = device.transfers().saturating_sub(before);
+        let place = Place {
+            number,
+            segment,
+            left,
+        };
+        assert!(rt; found == Ok((place, header)), "{at}");
+        assert_eq!(rt; made, transfers, "{at}");
+    }
+    let end = sought(rt.alloc(), &mut device, 6, 10);
+    assert!(rt; end == Err(ChainFault::EndOfFile));
     Ok(())
 }
 

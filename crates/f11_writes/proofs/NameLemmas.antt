@@ -87,20 +87,23 @@ more-names v n lbn count sound live spare =
     let row = in-row lbn count j k there in
     spare.unnamed k row.0 row.1 (record { header = n; place = i; cell = record { live = live; names = at } }))
 
+-- what stands among the first
+take-at : (count : ℕ) (xs : List ℕ) (i k : ℕ) → slice_get (take count xs) i ≡ Some k → (i < count) × (slice_get xs i ≡ Some k)
+take-at count xs i k at =
+    let within = slice_get_within (take count xs) i k at in
+    let size = length-take count xs in (
+      omega (arith, within, size),
+      slice_get-get_or xs i k (omega (arith, within, size))
+          ∙ ap Some (sym (get_or-take count xs i k (omega (arith, within, size))) ∙ get_or_from_slice_get (take count xs) i k k at),
+    )
+
 pub fewer-names : (v : Volume) (n count : ℕ) (lbns : List ℕ) → MayName v n lbns → MayName v n (take count lbns)
 fewer-names v n count lbns may = record {
-  inside = λ i k at. may.inside i k (before i k at);
-  used = λ i k at. may.used i k (before i k at);
-  alone = λ i k m place at. may.alone i k m place (before i k at);
-  apart = λ i j k one other. may.apart i j k (before i k one) (before j k other);
+  inside = λ i k at. may.inside i k (take-at count lbns i k at).1;
+  used = λ i k at. may.used i k (take-at count lbns i k at).1;
+  alone = λ i k m place at. may.alone i k m place (take-at count lbns i k at).1;
+  apart = λ i j k one other. may.apart i j k (take-at count lbns i k one).1 (take-at count lbns j k other).1;
 }
-  where
-    before : (i k : ℕ) → slice_get (take count lbns) i ≡ Some k → slice_get lbns i ≡ Some k
-    before i k at =
-        let within = slice_get_within (take count lbns) i k at in
-        let size = length-take count lbns in
-        slice_get-get_or lbns i k (omega (arith, within, size))
-        ∙ ap Some (sym (get_or-take count lbns i k (omega (arith, within, size))) ∙ get_or_from_slice_get (take count lbns) i k k at)
 
 -- where the other slots are as they were, a block that another header names was so before
 cell-was : (old new : Table) (n m place lbn : ℕ) → KeepsOtherSlots n old new → m ≢ n → IsCell new m place lbn → IsCell old m place lbn
@@ -118,6 +121,18 @@ lost-unnamed old new n place lbn sound others was gone named = elim (cases_eq na
   | inl here ↦ gone named.place (subst (λ (m : ℕ). IsCell new.table m named.place lbn) here named.cell)
   | inr away ↦ away (sound.apart named.header named.place n place lbn (cell-was old.table new.table n named.header named.place lbn others away named.cell) was).0
 ]
+
+pub killed-unnamed : (old new : Volume) (n place lbn : ℕ) → IsSoundVolume old → KeepsOtherSlots n old.table new.table → IsCell old.table n place lbn → ¬ IsLive new.table n
+    → ¬ IsNamed new.table lbn
+killed-unnamed old new n place lbn sound others was gone = lost-unnamed old new n place lbn sound others was (λ i cell. gone cell.live)
+
+pub cut-unnamed : (old new : Volume) (n left place lbn : ℕ) → IsSoundVolume old → KeepsOtherSlots n old.table new.table → IsCell old.table n place lbn → left ≤ place
+    → blocks_named (new.table.header n) ≡ take left (blocks_named (old.table.header n)) → ¬ IsNamed new.table lbn
+cut-unnamed old new n left place lbn sound others was behind names =
+    lost-unnamed old new n place lbn sound others was (λ i cell.
+    let there = take-at left (blocks_named (old.table.header n)) i lbn (ap (λ (bs : List ℕ). slice_get bs i) (sym names) ∙ cell.names) in
+    let same = (sound.apart n i n place lbn (record { live = was.live; names = there.1 }) was).1 in
+    omega (arith, there.0, same, behind))
 
 pub part-spare : (v : Volume) (lbn count from some : ℕ) → AreSpare v lbn count → lbn ≤ from → from + some ≤ lbn + count → AreSpare v from some
 part-spare v lbn count from some spare low high = record {

@@ -65,6 +65,8 @@ pub fn unnamed_blocks()
     ensures free { names.FreeIsUnnamed }
     ensures taken { names.TakenAreSpare }
     ensures lost { names.LostIsUnnamed }
+    ensures killed { names.KilledIsUnnamed }
+    ensures cut { names.CutIsUnnamed }
 {}
 
 /// Spare blocks, in use and named by no header, which are spare still.

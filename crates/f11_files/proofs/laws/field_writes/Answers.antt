@@ -1,5 +1,5 @@
-use Rattle.f11_files.proofs.FieldLemmas.{changes-file}
+use Rattle.f11_files.proofs.FieldLemmas.{changes-file, changes-index}
 use Rattle.f11_files.proofs.laws.field_writes.Goals as goal
 
 pub returns : goal.returns
-returns c = changes-file
+returns c = record { file = changes-file; index_file = changes-index }

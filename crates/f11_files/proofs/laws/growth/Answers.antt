@@ -1,4 +1,5 @@
-use Rattle.f11_files.proofs.FileLemmas.{file-more, file-linked, file-grows}
+use Rattle.f11_files.proofs.FileLemmas.{file-more, file-linked}
+use Rattle.f11_files.proofs.StepLemmas.{file-grows}
 use Rattle.f11_files.proofs.laws.growth.Goals as goal
 
 pub returns-clause-file : goal.returns-clause-file
