@@ -30,7 +30,7 @@ fn id(number: u16, sequence: u16) -> FileId
 }
 
 /// Opens the volume of a device, once more where there was no memory.
-pub fn opened<D: Device>(alloc: Global, device: D) -> Result<Files<D>, Fail> {
+pub fn opened<D: Device + Drop>(alloc: Global, device: D) -> Result<Files<D>, Fail> {
     let accepted = match verify(alloc, device) {
         Ok(Report::Accepted(accepted, _)) => accepted,
         _ => return Err(DeviceFault)?,
@@ -46,7 +46,7 @@ pub fn opened<D: Device>(alloc: Global, device: D) -> Result<Files<D>, Fail> {
 }
 
 /// Whether the volume of a device is accepted.
-fn is_accepted<D: Device>(alloc: Global, device: D) -> bool {
+fn is_accepted<D: Device + Drop>(alloc: Global, device: D) -> bool {
     matches!(verify(alloc, device), Ok(Report::Accepted(_, _)))
 }
 
@@ -111,30 +111,34 @@ fn attributes_are_written(rt: HostRuntime) -> Result<(), Fail> {
     Ok(())
 }
 
-/// A volume where file 5 has blocks 22 in its own header and 23 in header 6.
-fn in_two_headers(alloc: Global) -> Result<Memory, Fail> {
+/// A volume where a file, 5 or 6, has block 22 in its own header and 23 in that of the next slot.
+fn in_two_headers(alloc: Global, first: u16, sequence: u16) -> Result<Memory, Fail> {
     let mut device = small(alloc, &[])?;
-    keep(&mut device, 7, &linked(id(5, 5), 0, id(6, 1), &[(22, 0)]))?;
-    keep(&mut device, 8, &linked(id(6, 1), 1, id(0, 0), &[(23, 0)]))?;
-    // header 6 is in use, and blocks 22 and 23 are
-    put_words(&mut device, 2, &[(0, 0x3f)])?;
+    let next = first.saturating_add(1);
+    let header = linked(id(first, sequence), 0, id(next, 1), &[(22, 0)]);
+    keep(&mut device, u32::from(first) + 2, &header)?;
+    let header = linked(id(next, 1), 1, id(0, 0), &[(23, 0)]);
+    keep(&mut device, u32::from(next) + 2, &header)?;
+    // the slots up to the next one are in use, and blocks 22 and 23 are
+    let slots = if first == 5 { 0x3f } else { 0x7f };
+    put_words(&mut device, 2, &[(0, slots)])?;
     put_words(&mut device, 20, &[(2, 0)])?;
     Ok(device)
 }
 
 #[test]
 fn blocks_are_found_by_number(rt: HostRuntime) -> Result<(), Fail> {
-    let mut files = opened(rt.alloc(), in_two_headers(rt.alloc())?)?;
+    let mut files = opened(rt.alloc(), in_two_headers(rt.alloc(), 5, 5)?)?;
     let f = id(5, 5);
     assert_eq!(rt; (files.length(f), files.length(id(4, 4))), (Ok(2), Ok(1)));
     assert_eq!(rt; files.write_block(f, 2, &SEVENS), Ok(()));
     let mut block: Block = SEVENS;
     let before = files.lent().transfers();
     assert_eq!(rt; files.read_block(f, 1, &mut block), Ok(()));
-    assert_eq!(rt; files.lent().transfers(), before + 2);
+    assert_eq!(rt; files.lent().transfers(), before.saturating_add(2));
     assert!(rt; block == ZEROS);
     assert_eq!(rt; files.read_block(f, 2, &mut block), Ok(()));
-    assert_eq!(rt; files.lent().transfers(), before + 5);
+    assert_eq!(rt; files.lent().transfers(), before.saturating_add(5));
     assert!(rt; block == SEVENS);
     assert_eq!(rt; files.read_block(f, 3, &mut block), Err(Refusal::EndOfFile));
     assert_eq!(rt; files.write_block(f, 3, &ZEROS), Err(Refusal::EndOfFile));
@@ -151,7 +155,7 @@ fn blocks_are_found_by_number(rt: HostRuntime) -> Result<(), Fail> {
 
 #[test]
 fn a_header_that_is_lost_is_damage(rt: HostRuntime) -> Result<(), Fail> {
-    let device = Liar::new(in_two_headers(rt.alloc())?, 8);
+    let device = Liar::new(in_two_headers(rt.alloc(), 5, 5)?, 8);
     let mut files = opened(rt.alloc(), device)?;
     files.lent().begin();
     let mut block: Block = SEVENS;
@@ -169,6 +173,22 @@ fn a_header_that_is_lost_is_damage(rt: HostRuntime) -> Result<(), Fail> {
     Ok(())
 }
 
+#[test]
+fn headers_and_blocks_of_a_file_go(rt: HostRuntime) -> Result<(), Fail> {
+    let mut files = opened(rt.alloc(), in_two_headers(rt.alloc(), 6, 1)?)?;
+    assert_eq!(rt; files.space(), (0, 9, 16));
+    let before = files.lent().transfers();
+    assert_eq!(rt; files.delete(id(6, 1)), Ok(()));
+    assert_eq!(rt; files.lent().transfers(), before.saturating_add(10));
+    assert_eq!(rt; files.space(), (2, 11, 16));
+    assert_eq!(rt; files.delete(id(6, 1)), Err(Refusal::NoSuchFile));
+    assert_eq!(rt; files.create(USER, 0, &[0; 46], &[0; 32]), Ok(id(6, 2)));
+    assert_eq!(rt; files.create(USER, 0, &[0; 46], &[0; 32]), Ok(id(7, 2)));
+    assert_eq!(rt; files.read_attr(id(6, 1)).err(), Some(Refusal::NoSuchFile));
+    assert!(rt; is_accepted(rt.alloc(), files.abandon()));
+    Ok(())
+}
+
 /// A call of each kind, and whether one answered `DeviceFault` and each after it `VolumeFailed`.
 fn calls<D: Device>(files: &mut Files<D>) -> bool {
     let mut block: Block = ZEROS;
@@ -180,6 +200,7 @@ fn calls<D: Device>(files: &mut Files<D>) -> bool {
         files.length(id(4, 4)).err(),
         files.read_block(id(4, 4), 1, &mut block).err(),
         files.write_block(id(4, 4), 1, &block).err(),
+        files.delete(id(6, 1)).err(),
     ];
     let failed = answers
         .iter()
@@ -204,10 +225,10 @@ fn a_transfer_of_a_call_fails(rt: HostRuntime) -> Result<(), Fail> {
     let opened_at = files.lent().transfers();
     assert!(rt; calls(&mut files) && !files.failed());
     let done = files.lent().transfers().saturating_sub(opened_at);
-    // three of create, one or two of each call on a header, one or two on blocks
-    assert_eq!(rt; done, 13);
+    // three each of create and delete, one or two of each other
+    assert_eq!(rt; done, 16);
     let first = opened_at.saturating_sub(made);
-    for k in 1..=13 {
+    for k in 1..=16 {
         for lands in [false, true] {
             let device = FailOnce::new(small(rt.alloc(), &[])?, first.saturating_add(k), lands);
             let mut files = opened(rt.alloc(), device)?;
