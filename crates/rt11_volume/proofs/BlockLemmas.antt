@@ -133,6 +133,7 @@ block-written name image place lbn block sound at within =
       file = at.file;
       inside = at.inside;
       store_is = store-written image lbn block sound within behind ∙ ap (λ n. with_block (rt_store_of image) n block) at.lbn_is;
+      image_is = ap (λ n. slice_set image n block) at.lbn_is;
       accepted = accepted_from (slice_set image lbn block) (sound-written image lbn block sound behind);
     }
 

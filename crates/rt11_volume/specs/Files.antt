@@ -1,5 +1,5 @@
 -- What the calls on an RT-11 volume's files answer, and what they do to its disk.
-use Rattle.std.specs.Prelude.{◌≡◌, ◌↔◌, ℕ, ◌+◌, ◌<◌, ◌≤◌, Bool, true, false, ◌||◌, if◌then◌else◌, List, Result, Ok, Err, IsErrOf, Some, ⊤}
+use Rattle.std.specs.Prelude.{◌≡◌, ◌↔◌, ℕ, ◌+◌, ◌<◌, ◌≤◌, Bool, true, false, ◌||◌, if◌then◌else◌, List, Result, Ok, Err, IsErrOf, Some, ⊤, slice_set}
 use Rattle.std.specs.List.{slice_get}
 use Rattle.f11_dev.specs.Disk.{Disk}
 use Rattle.f11_dev.specs.Image.{Image}
@@ -112,6 +112,7 @@ pub record WritesBlock (name : List ℕ) (place : ℕ) (block : List ℕ) (old n
   pub file : HasFile name (rt_store_of old)
   pub inside : place < (file_area file).length
   pub store_is : rt_store_of new ≡ with_block (rt_store_of old) ((file_area file).start + place) block
+  pub image_is : new ≡ slice_set old ((file_area file).start + place) block
   pub accepted : IsRtAccepted new
 
 -- the images that stand while it is written
