@@ -1,5 +1,5 @@
 -- What is right to answer.
-use Rattle.std.proofs.Common.{◌≡◌, ◌≢◌, ◌≤◌, ◌+◌, ℕ, Bool, false, IsTrue, List, Some, Result, Ok, Err, sym, ap, subst, ◌∙◌, arith}
+use Rattle.std.proofs.Common.{true, ◌≡◌, ◌≢◌, ◌≤◌, ◌+◌, ℕ, Bool, false, IsTrue, List, Some, Result, Ok, Err, sym, ap, subst, ◌∙◌, arith}
 use Rattle.std.specs.Prelude.{IsErrAnd, IfErr}
 use Rattle.f11_dev.specs.Disk.{Disk}
 use Rattle.f11_dev.specs.Looked.{Looked}
@@ -8,7 +8,7 @@ use Rattle.f11_store.specs.Causes.{Cause, first_of}
 use Rattle.f11_store.specs.Refusal.{refusal_number}
 use Rattle.f11_store.specs.declared.refusals.Refusal.{Refusal}
 use Rattle.f11_store.specs.declared.refusals.Refusal.TheVariants.{VolumeFailed, DeviceFault, Damaged}
-use Rattle.f11_files.specs.Answers.{IsRight, Reads, FailsToRead}
+use Rattle.f11_files.specs.Answers.{is_among, IsRight, Reads}
 
 -- an error that is handed on
 pub handed : {T E : Type 0} (P : E → Type 0) (r : Result T E) (x : E) → IsErrAnd r (λ y. y ≡ x) → P x → IfErr r P
@@ -20,8 +20,10 @@ apart : (r s : Refusal) → refusal_number r ≢ refusal_number s → r ≢ s
 apart r s other same = other (ap refusal_number same)
 
 -- that of the first cause
-pub right-cause : (honest : Bool) (causes : List Cause) (r : Refusal) → refusal_number r ≢ 1 → refusal_number r ≢ 20 → (IsTrue honest → first_of causes ≡ Some r) → IsRight false honest causes r
-right-cause honest causes r not_failed not_damaged first = record {
+pub right-cause : (honest : Bool) (causes : List Cause) (r : Refusal) → refusal_number r ≢ 1 → refusal_number r ≢ 20 → is_among causes r ≡ true → (IsTrue honest → first_of causes ≡ Some r)
+    → IsRight false honest causes r
+right-cause honest causes r not_failed not_damaged among first = record {
+  among = λ _. among;
   volume = λ is. absurd (not_failed (ap refusal_number is));
   cause = λ sure _. first sure;
   undamaged = λ _. apart r Damaged not_damaged;
@@ -30,6 +32,7 @@ right-cause honest causes r not_failed not_damaged first = record {
 -- that of a transfer
 pub right-fault : (honest : Bool) (causes : List Cause) → IsRight false honest causes DeviceFault
 right-fault honest causes = record {
+  among = λ is. absurd cc;
   volume = λ is. absurd (apart DeviceFault VolumeFailed (λ same. omega (arith, same)) is);
   cause = λ _ is. absurd cc;
   undamaged = λ _. apart DeviceFault Damaged (λ same. omega (arith, same));
@@ -38,14 +41,11 @@ right-fault honest causes = record {
 -- that of a device which isn't honest
 pub right-damaged : (honest : Bool) (causes : List Cause) → ¬ IsTrue honest → IsRight false honest causes Damaged
 right-damaged honest causes never = record {
+  among = λ is. absurd cc;
   volume = λ is. absurd (apart Damaged VolumeFailed (λ same. omega (arith, same)) is);
   cause = λ sure _. absurd (never sure);
   undamaged = λ sure _. never sure;
 }
-
--- other causes, the first of which is the same where it is this
-pub right-more : {honest : Bool} {causes others : List Cause} {r : Refusal} → (first_of causes ≡ Some r → first_of others ≡ Some r) → IsRight false honest causes r → IsRight false honest others r
-right-more more right = record { volume = right.volume; cause = λ sure is. more (right.cause sure is); undamaged = right.undamaged }
 
 -- blocks were read
 pub reads-looked : {old new : Disk} {most faults : ℕ} → Looked old new most faults → Reads most old new faults
@@ -62,8 +62,3 @@ reads-more {a = a} first then = record {
 -- fewer than may be
 pub reads-within : {old new : Disk} {m n faults : ℕ} → m ≤ n → Reads m old new faults → Reads n old new faults
 reads-within fewer reads = record { reads = reads.reads; looked = reads.looked; few = λ honest. let here = reads.few honest in omega (arith, here, fewer) }
-
--- what a refusal to read says of other causes, and of more blocks
-pub fails-more : {causes others : List Cause} {m n : ℕ} {r : Refusal} {old new : Disk} → (first_of causes ≡ Some r → first_of others ≡ Some r) → m ≤ n → FailsToRead false causes m r old new
-    → FailsToRead false others n r old new
-fails-more more fewer fails = record { right = right-more more fails.right; reads = reads-within fewer fails.reads }

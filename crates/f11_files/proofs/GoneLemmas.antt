@@ -68,6 +68,7 @@ gone-moment home k old image is honest = let there = is honest in record { sound
 pub breaks-right : {home : HomeFields} {s : Store} {most : ℕ} {r : Refusal} {old new : Disk} (causes : List Cause) → BreaksOff home s most r old new → IsRight false old.honest causes r
 breaks-right causes breaks = record {
   volume = λ is. let no : true ≡ false = sym breaks.grave ∙ ap is_grave is in cc;
+  among = λ is. absurd (grave-cause _ breaks.grave is);
   cause = λ _ is. absurd (grave-cause _ breaks.grave is);
   undamaged = breaks.undamaged;
 }

@@ -103,7 +103,7 @@ module _ (s : Structure) (f : FileId) (block : List ℕ) (old new : Disk) (for :
 
   pub fails-end : FindsEnd (index_in s) f.number 0 vbn old new → Fails EndOfFile
   fails-end finds = record {
-    right = right-cause _ _ _ (λ is. omega (arith, is)) (λ is. omega (arith, is))
+    right = right-cause _ _ _ (λ is. omega (arith, is)) (λ is. omega (arith, is)) refl
         (λ honest. length-first s f block old for holds honest own vbn ∙ ap (λ (b : Bool). cond b (Some EndOfFile) None) (lt-ltb _ _ (finds.fewer honest)));
     reads = reads-along s f block old new 0 for holds finds.looked;
   }

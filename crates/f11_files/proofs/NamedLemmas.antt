@@ -121,7 +121,7 @@ read-refused s f lbn block old new for in_use at counts gives r other = go other
 
     go : IsOther f block r → Fails r
     go (inl none) = subst Fails (sym none.0) record {
-      right = right-cause _ _ _ (λ is. omega (arith, is)) (λ is. omega (arith, is)) (λ honest. missing-first s f old for honest (none-read (index_in s) f lbn block old new in_use at counts gives none.1 honest));
+      right = right-cause _ _ _ (λ is. omega (arith, is)) (λ is. omega (arith, is)) refl (λ honest. missing-first s f old for honest (none-read (index_in s) f lbn block old new in_use at counts gives none.1 honest));
       reads = reads-looked (looked_read old new counts);
     }
     go (inr bad) = subst Fails (sym bad.0) record {

@@ -1,5 +1,5 @@
 -- What is kept of an open volume, where blocks are written.
-use Rattle.std.proofs.Common.{◌≡◌, ◌≢◌, ◌⊎◌, ◌+◌, ◌≤◌, ℕ, Bool, true, false, cond, IsTrue, List, length, Some, inl, inr, refl, sym, ap, subst, ◌∙◌, arith}
+use Rattle.std.proofs.Common.{◌≡◌, ◌≢◌, ◌⊎◌, ◌+◌, ◌≤◌, ℕ, Bool, true, false, cond, IsTrue, List, length, inl, inr, refl, sym, ap, subst, ◌∙◌, arith}
 use Rattle.std.proofs.lemmas.Bool.{cases_eq, lt-ltb, ne_eqb}
 use Rattle.f11_bits.specs.Bitmap.{free_blocks, count_below}
 use Rattle.f11_dev.specs.Disk.{Disk}
@@ -9,7 +9,7 @@ use Rattle.f11_dev.specs.Went.{Went}
 use Rattle.f11_dev.proofs.LookedLemmas.{looked_none}
 use Rattle.f11_dev.proofs.WentLemmas.{went_looked, went_more, went_weaker, went_last}
 use Rattle.f11_home.specs.Home.{HomeFields}
-use Rattle.f11_store.specs.Causes.{Cause, first_of}
+use Rattle.f11_store.specs.Causes.{Cause}
 use Rattle.f11_store.specs.Lags.{Work}
 use Rattle.f11_store.specs.Refusal.{refusal_number}
 use Rattle.f11_store.specs.declared.refusals.Refusal.{Refusal}
@@ -20,7 +20,6 @@ use Rattle.f11_writes.specs.Kept.{KeepsVolume}
 use Rattle.f11_files.specs.Answers.{Reads, Writes, FailsToRead, FailsToWrite, Meanwhile, is_grave, faults_of}
 use Rattle.f11_files.specs.Structure.{home_of, Lies, Keeps, IsFor, StaysFor}
 use Rattle.f11_files.specs.declared.structure.Structure.{Structure}
-use Rattle.f11_files.proofs.AnswerLemmas.{right-more}
 use Rattle.f11_files.proofs.StoreLemmas.{free-count}
 
 -- where headers, storage bitmap and free blocks stay, so does what is kept
@@ -80,10 +79,10 @@ pub writes-within : {P : Image → Type 0} {a b : Disk} {m n faults : ℕ} → m
 writes-within fewer writes = record { transfers = writes.transfers; went = writes.went; few = λ honest. let few = writes.few honest in omega (arith, few, fewer) }
 
 -- a refusal to read is one to write
-pub fails-read : {causes others : List Cause} {m n : ℕ} {work : Work} {home : HomeFields} {r : Refusal} {old new : Disk} → (first_of causes ≡ Some r → first_of others ≡ Some r) → m ≤ n
-    → FailsToRead false causes m r old new → FailsToWrite false others n work home r old new
-fails-read {work = work} {home = home} {r = r} {old = old} {new = new} more fewer fails = record {
-  right = right-more more fails.right;
+pub fails-unread : {causes : List Cause} {m n : ℕ} {work : Work} {home : HomeFields} {r : Refusal} {old new : Disk} → m ≤ n
+    → FailsToRead false causes m r old new → FailsToWrite false causes n work home r old new
+fails-unread {work = work} {home = home} {r = r} {old = old} {new = new} fewer fails = record {
+  right = fails.right;
   writes = record {
     transfers = fails.reads.reads;
     went = went_looked (Meanwhile work home old) fails.reads.looked;
@@ -103,14 +102,10 @@ fails-read {work = work} {home = home} {r = r} {old = old} {new = new} more fewe
         go (inl is) = let heavy = lt-ltb 18 (refusal_number r) (omega (arith, is)) in let no : true ≡ false = sym heavy ∙ light in absurd cc
         go (inr other) = ap (λ (b : Bool). cond b 1 0) (ne_eqb (refusal_number r) 19 other)
 
-pub fails-unread : {causes : List Cause} {m n : ℕ} {work : Work} {home : HomeFields} {r : Refusal} {old new : Disk} → m ≤ n → FailsToRead false causes m r old new
-    → FailsToWrite false causes n work home r old new
-fails-unread {causes = causes} fewer fails = fails-read {causes = causes} {others = causes} (λ is. is) fewer fails
-
 -- the volume had failed, and nothing is done
 pub had-failed : {failed : Bool} {causes : List Cause} {n : ℕ} {work : Work} {home : HomeFields} (old : Disk) → failed ≡ true → FailsToWrite failed causes n work home VolumeFailed old old
 had-failed {work = work} {home = home} old is = record {
-  right = record { volume = λ _. is; cause = λ _ is. absurd cc; undamaged = λ _ same. let no : 1 ≡ 20 = ap refusal_number same in omega (arith, no) };
+  right = record { volume = λ _. is; among = λ is. absurd cc; cause = λ _ is. absurd cc; undamaged = λ _ same. let no : 1 ≡ 20 = ap refusal_number same in omega (arith, no) };
   writes = record { transfers = 0; went = went_looked (Meanwhile work home old) (looked_none old); few = λ _. omega arith };
   unchanged = λ _. record { reads = 0; looked = looked_none old; few = λ _. omega arith };
 }

@@ -1,5 +1,6 @@
 -- What the answer of a call on files tells, whatever the call (profile).
 use Rattle.std.specs.Prelude.{◌≡◌, ◌≢◌, ℕ, ◌≤◌, ◌==◌, ◌&&◌, Bool, true, false, nat_lt, IsTrue, if◌then◌else◌, List, Some, None, Result, Ok, Err}
+use Rattle.std.specs.List.{list_any}
 use Rattle.f11_chain.specs.declared.fault.ChainFault.{ChainFault}
 use Rattle.f11_chain.specs.declared.fault.ChainFault.TheVariants as fault
 use Rattle.f11_dev.specs.Disk.{Disk}
@@ -28,6 +29,10 @@ is_fault refusal = refusal_number refusal == 19
 abbrev pub is_cause : Refusal → Bool
 is_cause refusal = nat_lt 1 (refusal_number refusal) && nat_lt (refusal_number refusal) 19
 
+-- a refusal is that of one of these causes
+abbrev pub is_among : List Cause → Refusal → Bool
+is_among causes refusal = list_any (λ c. refusal_number c.refusal == refusal_number refusal) causes
+
 -- what a test says of an answer's refusal, if it has one
 abbrev pub is_refused : {T : Type 0} → (Refusal → Bool) → Result T Refusal → Bool
 is_refused test (Ok x) = false
@@ -50,9 +55,11 @@ pub record Writes (P : Image → Type 0) (most : ℕ) (old new : Disk) (faults :
   pub few : IsTrue old.honest → transfers ≤ most
 
 -- A refusal is right, where these are the causes against a call, on an honest disk or not, and an earlier call had failed the volume or
--- hadn't: it is that of the first cause that holds, or the volume had failed, or a transfer did; and no honest disk is damaged.
+-- hadn't: it is that of one of the causes, and on an honest disk of the first that holds; or the volume had failed, or a transfer did; and no
+-- honest disk is damaged.
 pub record IsRight (failed honest : Bool) (causes : List Cause) (refusal : Refusal) : Type 0 where
   pub volume : refusal ≡ VolumeFailed → failed ≡ true
+  pub among : is_cause refusal ≡ true → is_among causes refusal ≡ true
   pub cause : IsTrue honest → is_cause refusal ≡ true → first_of causes ≡ Some refusal
   pub undamaged : IsTrue honest → refusal ≢ Damaged
 

@@ -12,7 +12,7 @@ pub returns-in_default-clause-refused : goal.returns-in_default-clause-refused
 returns-in_default-clause-refused g c =
     let old = g.D.Device.disk c.args.device.now in
     fails-unread (omega arith) (record {
-      right = right-cause _ _ _ (λ is. omega (arith, is)) (λ is. omega (arith, is)) (λ honest. none-free c.args.self.now old c.requires.is_for honest c.in_default.ensures);
+      right = right-cause _ _ _ (λ is. omega (arith, is)) (λ is. omega (arith, is)) refl (λ honest. none-free c.args.self.now old c.requires.is_for honest c.in_default.ensures);
       reads = reads-looked (looked_none old);
     })
 

@@ -1,4 +1,4 @@
-use Rattle.std.proofs.Common.{sym, ◌∙◌, arith}
+use Rattle.std.proofs.Common.{refl, sym, ◌∙◌, arith}
 use Rattle.std.proofs.lemmas.Result.{on_ok_weaker, IfErr-weaker}
 use Rattle.f11_dev.proofs.LookedLemmas.{looked_none, looked_failed_read, looked_within}
 use Rattle.f11_index.proofs.InUseLemmas.{in_use-some, in_use-slot, header-within}
@@ -12,7 +12,7 @@ pub returns-then-not-in_use-clause-refused : goal.returns-then-not-in_use-clause
 returns-then-not-in_use-clause-refused g c =
     let old = g.D.Device.disk c.args.device.now in
     record {
-      right = right-cause _ _ _ (λ is. omega (arith, is)) (λ is. omega (arith, is))
+      right = right-cause _ _ _ (λ is. omega (arith, is)) (λ is. omega (arith, is)) refl
           (λ honest. missing-first c.args.self.now c.args.f old c.requires.is_for honest (unused-none _ _ _ (sym c.in_use.ensures ∙ c.if-not-in_use.true)));
       reads = reads-looked (looked_within (looked_none old) (omega arith));
     }
