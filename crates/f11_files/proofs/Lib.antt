@@ -22,3 +22,5 @@ pub mod DropLemmas
 pub mod TailLemmas
 pub mod DroppingLemmas
 pub mod GoneLemmas
+pub mod KeptLemmas
+pub mod CutLemmas

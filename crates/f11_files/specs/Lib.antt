@@ -16,3 +16,4 @@ pub mod Fields
 pub mod FreshStore
 pub mod Drops
 pub mod Deletes
+pub mod Cuts

@@ -17,5 +17,6 @@ pub mod laws;
 mod length;
 mod locate;
 mod structure;
+mod truncate;
 
 pub use files::Files;
