@@ -123,6 +123,10 @@ handed-stays (Err y) r s t disk is grave stays = subst (λ (b : Bool). StaysFor 
 pub stays-for : {s t : Structure} {disk : Disk} → StaysFor false s t disk → IsFor t disk
 stays-for stays = record { lies = stays.lies refl; sound = stays.sound; keeps = stays.keeps refl }
 
+-- what one call leaves after another
+pub stays-then : {failed : Bool} {s c e : Structure} {disk : Disk} → home_of c ≡ home_of s → StaysFor failed c e disk → StaysFor failed s e disk
+stays-then same stays = record { home = stays.home ∙ same; lies = stays.lies; sound = stays.sound; keeps = stays.keeps }
+
 -- one run of spare blocks was marked free
 pub run-keeps : (old new : Image) (home : HomeFields) (lbn count : ℕ) → HasSoundVolume old home → AreSpare (volume_of old home) lbn count → Marks true (storage_bitmap old home) lbn count old new
     → KeepsButFree home old new

@@ -29,3 +29,5 @@ pub mod GoneLemmas
 pub mod StepLemmas
 pub mod ExtensionLemmas
 pub mod LooseLemmas
+pub mod KeptLemmas
+pub mod CutLemmas

@@ -21,3 +21,4 @@ pub mod Drops
 pub mod Deletes
 pub mod ExtensionLaws
 pub mod LooseLaws
+pub mod Cuts

@@ -59,7 +59,7 @@ impl Structure {
     /// # Errors
     ///
     /// As those of [`Structure::give_run`].
-    fn give_from<D: Device>(
+    pub(crate) fn give_from<D: Device>(
         &mut self,
         device: &mut D,
         block: &Block,

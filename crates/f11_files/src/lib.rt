@@ -20,6 +20,7 @@ mod length;
 mod locate;
 mod open;
 mod structure;
+mod truncate;
 
 pub use files::Files;
 pub use open::OpenFault;

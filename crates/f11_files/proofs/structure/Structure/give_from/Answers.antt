@@ -1,4 +1,4 @@
-use Rattle.std.proofs.Common.{◌≡◌, ◌<◌, ◌≤◌, ℕ, List, ◌∙◌, length, Some, sym, ap, arith}
+use Rattle.std.proofs.Common.{◌≡◌, ◌<◌, ◌≤◌, ℕ, List, drop, ◌∙◌, length, Some, sym, ap, arith}
 use Rattle.std.specs.List.{slice_get}
 use Rattle.f11_header.specs.Fields.{map_area}
 use Rattle.f11_index.specs.HeaderBlock.{blocks_named}
@@ -32,7 +32,7 @@ pub returns-in_err-give_run-clause-refused : goal.returns-in_err-give_run-clause
 returns-in_err-give_run-clause-refused g c =
     let count = counted _ c.args.block.now _ c.map-map.ensures c.runs-i-end.ensures.count in
     let more : c.loop-i.i < pointers_in c.args.block.now = omega (arith, count, c.loop-i-test.true) in
-    handed _ c.from_residual.result _ c.from_residual.ensures.1 (giving-breaks c.loop-i.invariant _ more c.in_err-give_run.ensures.refused)
+    handed _ c.from_residual.result _ c.from_residual.ensures.1 (giving-breaks {lbns = drop c.args.keep (blocks_named c.args.block.now)} c.loop-i.invariant _ more c.in_err-give_run.ensures.refused)
 
 pub returns-in_err-give_run-clause-stays : goal.returns-in_err-give_run-clause-stays
 returns-in_err-give_run-clause-stays g c =
@@ -41,7 +41,7 @@ returns-in_err-give_run-clause-stays g c =
     let count = counted _ c.args.block.now _ c.map-map.ensures c.runs-i-end.ensures.count in
     let more : c.loop-i.i < pointers_in c.args.block.now = omega (arith, count, c.loop-i-test.true) in
     handed-stays c.from_residual.result _ _ _ _ c.from_residual.ensures.1 breaks.grave
-    (broken-stays c.args.self.now _ _ _ _ (c.in_err-give_run.ensures.stays.home ∙ giving.home) c.requires.is_for (giving-breaks giving _ more breaks))
+    (broken-stays c.args.self.now _ _ _ _ (c.in_err-give_run.ensures.stays.home ∙ giving.home) c.requires.is_for (giving-breaks {lbns = drop c.args.keep (blocks_named c.args.block.now)} giving _ more breaks))
 
 pub loop-i-preserved : goal.loop-i-preserved
 loop-i-preserved g c =
@@ -55,7 +55,7 @@ returns-clause-given g c =
     let count = counted _ c.args.block.now _ c.map-map.ensures c.runs-i-end.ensures.count in
     let past : pointers_in c.args.block.now ≤ c.loop-i.i = omega (arith, count, c.loop-i-test.false) in
     let few : c.loop-i.i ≤ pointers_in c.args.block.now = omega (arith, count, c.loop-i.auto.i-end) in
-    giving-done _ _ _ _ _ _ (giving-end _ _ _ past c.loop-i.invariant) _ few
+    giving-done _ _ _ _ _ _ (giving-end {lbns = drop c.args.keep (blocks_named c.args.block.now)} _ _ _ past c.loop-i.invariant) _ few
 
 pub returns-clause-stays : goal.returns-clause-stays
 returns-clause-stays g c = giving-stays c.loop-i.invariant
