@@ -51,7 +51,7 @@ use Rattle.f11_files.specs.StoreOf.{store_of}
 use Rattle.f11_files.specs.Structure.{index_in, home_of, store_on, Lies, Keeps, IsFor}
 use Rattle.f11_files.specs.declared.structure.Structure.{Structure}
 use Rattle.f11_files.proofs.AlterLemmas.{keeps-header}
-use Rattle.f11_files.proofs.FileLemmas.{file-ends, of-now}
+use Rattle.f11_files.proofs.FileLemmas.{as-header, file-ends, of-now}
 use Rattle.f11_files.proofs.FirstLemmas.{table-of}
 use Rattle.f11_files.proofs.FreeingLemmas.{frees-none, frees-blocks, freeing-more, writes-then, writes-within, breaks-then, breaks-within}
 use Rattle.f11_files.proofs.GoneLemmas.{breaks-fails}
@@ -181,7 +181,7 @@ module _ (s : Structure) (f : FileId) (to n keep lbn : ℕ) (block cut : List �
         ∙ ap (λ (k : ℕ). with_first_headers (segment_number block + 1) (pointers_before t f.number n + pointers_in cut) (room_in cut) k (file_in h f.number old.image)) (sym (finds.to_is honest))
 
     pub store-written : store_of written h ≡ base
-    store-written = file-stored old.image written h n cut one good.sequence f.number change own of (of-now old.image written h f.number n cut few one stands) file-now
+    store-written = file-stored old.image written h n cut one good.sequence f.number change own of (of-now old.image written h f.number n cut (as-header n cut h old.image written one) stands) file-now
 
     -- the blocks that it names no more are spare
     pub spare-written : AreAllSpare (volume_of written h) (drop keep (blocks_named block))
