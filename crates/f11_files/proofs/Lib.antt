@@ -19,3 +19,4 @@ pub mod FileLemmas
 pub mod GrowthLemmas
 pub mod NewFileLemmas
 pub mod FreshStoreLemmas
+pub mod RoomLemmas

@@ -17,3 +17,4 @@ pub mod FreshStore
 pub mod Create
 pub mod Opening
 pub mod Opened
+pub mod Room

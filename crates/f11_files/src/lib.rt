@@ -16,6 +16,7 @@ pub mod laws;
 mod length;
 mod locate;
 mod open;
+mod room;
 mod structure;
 
 pub use files::Files;
