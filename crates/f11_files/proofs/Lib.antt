@@ -20,3 +20,4 @@ pub mod GrowthLemmas
 pub mod NewFileLemmas
 pub mod FreshStoreLemmas
 pub mod RoomLemmas
+pub mod ZeroLemmas

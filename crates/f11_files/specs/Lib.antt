@@ -18,3 +18,4 @@ pub mod Create
 pub mod Opening
 pub mod Opened
 pub mod Room
+pub mod Zeros

@@ -18,6 +18,7 @@ mod locate;
 mod open;
 mod room;
 mod structure;
+mod zeros;
 
 pub use files::Files;
 pub use open::OpenFault;
