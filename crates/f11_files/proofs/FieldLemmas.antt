@@ -155,7 +155,7 @@ module _ (image : Image) (home : HomeFields) (f : ℕ) (block : List ℕ) (chang
   }
 
 -- what a block that holds a header says
-held-from : (b : List ℕ) (h : HeaderFields) → header_in b ≡ Some h → IsTrue (holds_header b) × (header_fields b ≡ h)
+pub held-from : (b : List ℕ) (h : HeaderFields) → header_in b ≡ Some h → IsTrue (holds_header b) × (header_fields b ≡ h)
 unfolding header_in
 held-from b h is = go (holds_header b) refl
   where

@@ -21,3 +21,4 @@ pub mod NewFileLemmas
 pub mod FreshStoreLemmas
 pub mod RoomLemmas
 pub mod ZeroLemmas
+pub mod NameRunLemmas

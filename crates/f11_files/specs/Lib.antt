@@ -19,3 +19,4 @@ pub mod Opening
 pub mod Opened
 pub mod Room
 pub mod Zeros
+pub mod Tail

@@ -15,9 +15,11 @@ mod first;
 pub mod laws;
 mod length;
 mod locate;
+mod name;
 mod open;
 mod room;
 mod structure;
+mod tail;
 mod zeros;
 
 pub use files::Files;
