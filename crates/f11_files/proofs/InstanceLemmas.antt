@@ -28,7 +28,7 @@ set-same f k x is m = go (cases_eq m k)
     go (inl same) = ap (λ (b : Bool). cond b x (f m)) (eq-eqb m k same) ∙ sym is ∙ ap f (sym same)
     go (inr apart) = ap (λ (b : Bool). cond b x (f m)) (ne_eqb m k apart)
 
-with_file-same : (s : Store) (k : ℕ) (f : Option File) → s.file k ≡ f → with_file s k f ≡ s
+pub with_file-same : (s : Store) (k : ℕ) (f : Option File) → s.file k ≡ f → with_file s k f ≡ s
 with_file-same s k f is = λ i. record s { file = λ m. set-same s.file k f is m i }
 
 with_use-same : (s : Store) (n : ℕ) (used : Bool) → s.in_use n ≡ used → with_use s n used ≡ s

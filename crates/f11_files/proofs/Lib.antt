@@ -22,3 +22,4 @@ pub mod FreshStoreLemmas
 pub mod RoomLemmas
 pub mod ZeroLemmas
 pub mod NameRunLemmas
+pub mod ClearLemmas

@@ -20,3 +20,4 @@ pub mod Opened
 pub mod Room
 pub mod Zeros
 pub mod Tail
+pub mod Clear

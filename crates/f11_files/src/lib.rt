@@ -8,6 +8,7 @@
 mod answer;
 mod attributes;
 mod blocks;
+mod clear;
 mod create;
 mod fields;
 mod files;
