@@ -1,5 +1,5 @@
 -- A file's contiguous mark that is cleared.
-use Rattle.std.proofs.Common.{◌≡◌, ◌⊎◌, ◌≤◌, ℕ, true, false, IsTrue, List, Some, option_map, Option, refl, sym, ap, subst, ◌∙◌, arith}
+use Rattle.std.proofs.Common.{◌≡◌, ◌⊎◌, ◌≤◌, ℕ, true, false, IsTrue, List, Some, option_map, refl, sym, ap, subst, ◌∙◌, arith}
 use Rattle.std.proofs.Math.ListN.{set}
 use Rattle.f11_dev.specs.Disk.{Disk, with_transfer, with_block_at}
 use Rattle.f11_dev.specs.Image.{Image}
@@ -22,7 +22,7 @@ use Rattle.f11_writes.specs.Kept.{file_in}
 use Rattle.f11_files.specs.Clear.{Clearing, ClearsMark}
 use Rattle.f11_files.specs.FieldLaws.{SaysBut, ChangesFile}
 use Rattle.f11_files.specs.First.{HoldsFile, IsFirstOf}
-use Rattle.f11_files.specs.StoreOf.{as_seen, store_of}
+use Rattle.f11_files.specs.StoreOf.{as_seen}
 use Rattle.f11_files.specs.Structure.{index_in, home_of, store_on, Lies, Keeps, IsFor}
 use Rattle.f11_files.specs.Tail.{HasStore}
 use Rattle.f11_files.specs.declared.structure.Structure.{Structure}

@@ -23,3 +23,4 @@ pub mod RoomLemmas
 pub mod ZeroLemmas
 pub mod NameRunLemmas
 pub mod ClearLemmas
+pub mod LinkTailLemmas

@@ -1,18 +1,17 @@
 -- Blocks of zeros that a file's last header names.
-use Rattle.std.proofs.Common.{◌≡◌, ◌⊎◌, ◌+◌, ◌-◌, ◌/◌, ◌<◌, ◌≤◌, ℕ, zero, suc, Bool, true, false, cond, IsTrue, List, [], ◌∷◌, ◌++◌, length, min, Some, option_map, refl, sym, ap, subst, ◌∙◌, arith}
+use Rattle.std.proofs.Common.{◌≡◌, ◌⊎◌, ◌+◌, ◌-◌, ◌/◌, ◌≤◌, ℕ, zero, suc, Bool, true, false, cond, IsTrue, List, [], ◌∷◌, ◌++◌, length, min, option_map, refl, sym, ap, subst, ◌∙◌, arith}
 use Rattle.std.specs.List.{range_with_len}
 use Rattle.std.proofs.Math.ListN.{set}
-use Rattle.f11_bytes.specs.Block.{zero_block}
 use Rattle.f11_dev.specs.Disk.{Disk, with_transfer, with_block_at}
 use Rattle.f11_dev.specs.Image.{Image}
 use Rattle.f11_dev.specs.Went.{Went}
 use Rattle.f11_dev.proofs.WentLemmas.{went_write, went_failed_write}
 use Rattle.f11_header.specs.Fields.{HeaderFields, header_fields, file_sequence, map_area}
-use Rattle.f11_header.specs.Header.{IsHeader}
+use Rattle.f11_header.specs.Header.{IsHeader, holds_header}
 use Rattle.f11_header.specs.MapFields.{most_words}
 use Rattle.f11_header.proofs.HeaderFacts.{header_in-held}
 use Rattle.f11_home.specs.Home.{HomeFields}
-use Rattle.f11_map.specs.InHand.{AppendsBlocks}
+use Rattle.f11_map.specs.InHand.{RewritesMap, AppendsBlocks}
 use Rattle.f11_map.specs.MapArea.{runs_of}
 use Rattle.f11_map.specs.MapWriting.{joins, joins_last, with_blocks}
 use Rattle.f11_index.specs.Growth.{with_header, IsGoodFor}
@@ -21,11 +20,8 @@ use Rattle.f11_index.specs.Headers.{IsLastOf}
 use Rattle.f11_index.specs.IndexFile.{Index, header_lbn}
 use Rattle.f11_index.specs.Table.{Table, table_of}
 use Rattle.f11_index.proofs.ChainLemmas.{live_of-header}
-use Rattle.f11_chain.specs.Calls.{table}
 use Rattle.f11_store.specs.Changes.{with_change}
 use Rattle.f11_store.specs.File.{zero_blocks}
-use Rattle.f11_store.specs.Store.{Store}
-use Rattle.f11_vfy.specs.Contents.{block_or_zeros}
 use Rattle.f11_vfy.specs.Sound.{HasSoundVolume}
 use Rattle.f11_vfy.specs.Volume.{volume_of}
 use Rattle.f11_writes.specs.Kept.{WritesHeader}
@@ -33,7 +29,6 @@ use Rattle.f11_writes.specs.Volumes.{MayName, MayBecome, links_to_none}
 use Rattle.f11_writes.proofs.HeaderLemmas.{file-rewrite-keeps}
 use Rattle.f11_writes.proofs.NameLemmas.{more-names}
 use Rattle.f11_files.specs.FileLaws.{SaysAlike, HasPointersMore, NamesMoreOf, held_from, with_more_blocks}
-use Rattle.f11_files.specs.StoreOf.{store_of}
 use Rattle.f11_files.specs.Structure.{index_in, home_of, store_on, Lies, Keeps, IsFor}
 use Rattle.f11_files.specs.Tail.{HoldsLast, MayBeGiven, HasStore, pointers_more, with_zeros_more, Naming, NamesRun}
 use Rattle.f11_files.specs.Zeros.{HoldsZeros}
@@ -63,24 +58,31 @@ held-zeros image lbn (suc count) holds =
     let here = holds.each lbn (omega arith) (omega arith) in
     λ i. here i ∷ rest i
 
--- a header that names more blocks
-module _ (n : ℕ) (was block : List ℕ) (lbn count : ℕ) (valid : IsHeader was n) (appends : AppendsBlocks was block lbn count) where
+-- a header whose map area was rewritten
+module _ (n : ℕ) (was block : List ℕ) (valid : IsHeader was n) (rewrites : RewritesMap was block) where
   abbrev written : HeaderFields → HeaderFields
   written h = record h { map = map_area block }
 
-  says : header_fields block ≡ written (header_fields was)
-  says = (held-from block (written (header_fields was)) (appends.header.fields ∙ ap (option_map written) (header_in-held was valid.holds))).1
+  held : IsTrue (holds_header block) × (header_fields block ≡ written (header_fields was))
+  held = held-from block (written (header_fields was)) (rewrites.fields ∙ ap (option_map written) (header_in-held was valid.holds))
 
-  pub valid-more : IsHeader block n
-  valid-more = record {
-    number = ap (λ (h : HeaderFields). h.number) says ∙ valid.number;
-    holds = (held-from block (written (header_fields was)) (appends.header.fields ∙ ap (option_map written) (header_in-held was valid.holds))).0;
-    sum = appends.header.seals.sum;
+  pub valid-again : IsHeader block n
+  valid-again = record { number = ap (λ (h : HeaderFields). h.number) held.1 ∙ valid.number; holds = held.0; sum = rewrites.seals.sum }
+
+  pub sequence-again : file_sequence block ≡ file_sequence was
+  sequence-again = ap (λ (h : HeaderFields). h.sequence) held.1
+
+  pub alike-again : SaysAlike was block
+  alike-again = record {
+    owner_is = ap (λ (h : HeaderFields). h.owner) held.1;
+    protection_is = ap (λ (h : HeaderFields). h.protection) held.1;
+    characteristics_are = ap (λ (h : HeaderFields). h.characteristics) held.1;
+    ident_is = ap (λ (h : HeaderFields). h.ident) held.1;
+    attributes_are = ap (λ (h : HeaderFields). h.attributes) held.1;
   }
 
-  pub sequence-more : file_sequence block ≡ file_sequence was
-  sequence-more = ap (λ (h : HeaderFields). h.sequence) says
-
+-- a header that names more blocks
+module _ (was block : List ℕ) (lbn count : ℕ) (appends : AppendsBlocks was block lbn count) where
   pub segment-more : segment_number block ≡ segment_number was
   unfolding segment_number
   segment-more = appends.rest.segment_stays
@@ -92,15 +94,6 @@ module _ (n : ℕ) (was block : List ℕ) (lbn count : ℕ) (valid : IsHeader wa
   pub blocks-more : blocks_named block ≡ blocks_named was ++ range_with_len lbn count
   unfolding blocks_named
   blocks-more = appends.blocks
-
-  pub alike-more : SaysAlike was block
-  alike-more = record {
-    owner_is = ap (λ (h : HeaderFields). h.owner) says;
-    protection_is = ap (λ (h : HeaderFields). h.protection) says;
-    characteristics_are = ap (λ (h : HeaderFields). h.characteristics) says;
-    ident_is = ap (λ (h : HeaderFields). h.ident) says;
-    attributes_are = ap (λ (h : HeaderFields). h.attributes) says;
-  }
 
   pub pointers-more : HasPointersMore (pointers_more was lbn count) was block
   pointers-more = record {
@@ -132,7 +125,7 @@ module _ (s : Structure) (tail : Tail) (block : List ℕ) (lbn count : ℕ) (old
   next = with_header old.image home n block
 
   valid : IsHeader block n
-  valid = valid-more n tail.block block lbn count last.header.valid appends
+  valid = valid-again n tail.block block last.header.valid appends.header
 
   module _ (honest : IsTrue old.honest) where
     was-is : tail.block ≡ t.header n
@@ -141,15 +134,15 @@ module _ (s : Structure) (tail : Tail) (block : List ℕ) (lbn count : ℕ) (old
     good : IsGoodFor t n block
     good = record {
       valid = valid;
-      sequence = sequence-more n tail.block block lbn count last.header.valid appends ∙ ap file_sequence was-is;
-      segment = segment-more n tail.block block lbn count last.header.valid appends ∙ ap segment_number was-is;
+      sequence = sequence-again n tail.block block last.header.valid appends.header ∙ ap file_sequence was-is;
+      segment = segment-more tail.block block lbn count appends ∙ ap segment_number was-is;
     }
 
     no-link : (link_of block).number ≡ 0
-    no-link = ap (λ l. l.number) (link-more n tail.block block lbn count last.header.valid appends) ∙ last.no_link
+    no-link = ap (λ l. l.number) (link-more tail.block block lbn count appends) ∙ last.no_link
 
     blocks-are : blocks_named block ≡ blocks_named (t.header n) ++ range_with_len lbn count
-    blocks-are = blocks-more n tail.block block lbn count last.header.valid appends ∙ ap (λ (b : List ℕ). blocks_named b ++ range_with_len lbn count) was-is
+    blocks-are = blocks-more tail.block block lbn count appends ∙ ap (λ (b : List ℕ). blocks_named b ++ range_with_len lbn count) was-is
 
     becomes : MayBecome (volume_of old.image home) n block
     unfolding volume_of
@@ -170,11 +163,11 @@ module _ (s : Structure) (tail : Tail) (block : List ℕ) (lbn count : ℕ) (old
         of = (last.is_last honest).of;
         few = let same = ap segment_number was-is in omega (arith, same, last.few);
         good = good;
-        alike = subst (λ (b : List ℕ). SaysAlike b block) was-is (alike-more n tail.block block lbn count last.header.valid appends);
+        alike = subst (λ (b : List ℕ). SaysAlike b block) was-is (alike-again n tail.block block last.header.valid appends.header);
       };
       last = (last.is_last honest).no_link;
       no_link = no-link;
-      pointers = subst (λ (b : List ℕ). HasPointersMore more b block) was-is (pointers-more n tail.block block lbn count last.header.valid appends);
+      pointers = subst (λ (b : List ℕ). HasPointersMore more b block) was-is (pointers-more tail.block block lbn count appends);
       blocks = blocks-are;
     }
 
@@ -223,7 +216,7 @@ module _ (s : Structure) (tail : Tail) (block : List ℕ) (lbn count : ℕ) (old
       names-run = record {
         file_is = refl;
         number_is = refl;
-        pointers = pointers-more n tail.block block lbn count last.header.valid appends;
+        pointers = pointers-more tail.block block lbn count appends;
         holds = record {
           header = record {
             in_use = last.header.in_use;
@@ -232,8 +225,8 @@ module _ (s : Structure) (tail : Tail) (block : List ℕ) (lbn count : ℕ) (old
                 let before = was-honest honest in
                 sym (wrote-tail before).index_file.header ∙ ap (λ (i : Image). (table_of i home).header n) (sym (image before)) ∙ ap (λ (u : Table). u.header n) (sym (table-of s new for-new honest));
           };
-          no_link = ap (λ l. l.number) (link-more n tail.block block lbn count last.header.valid appends) ∙ last.no_link;
-          few = let same = segment-more n tail.block block lbn count last.header.valid appends in omega (arith, same, last.few);
+          no_link = ap (λ l. l.number) (link-more tail.block block lbn count appends) ∙ last.no_link;
+          few = let same = segment-more tail.block block lbn count appends in omega (arith, same, last.few);
           is_last = λ honest. let before = was-honest honest in subst (λ (i : Image). IsLastOf (table_of i home) f n) (sym (image before)) (last-named before);
         };
         is_for = for-new;

@@ -21,3 +21,4 @@ pub mod Room
 pub mod Zeros
 pub mod Tail
 pub mod Clear
+pub mod Link

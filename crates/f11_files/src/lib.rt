@@ -15,6 +15,7 @@ mod files;
 mod first;
 pub mod laws;
 mod length;
+mod link;
 mod locate;
 mod name;
 mod open;

@@ -1,4 +1,4 @@
-use Rattle.std.proofs.Common.{refl, sym, subst, List, ℕ}
+use Rattle.std.proofs.Common.{sym, subst, List, ℕ}
 use Rattle.f11_index.proofs.InUseLemmas.{in_use-some, in_use-slot, header-within}
 use Rattle.f11_files.specs.Clear.{ClearsMark}
 use Rattle.f11_files.specs.Structure.{index_in}

@@ -1,5 +1,3 @@
-use Rattle.std.proofs.Common.{◌≡◌, refl, arith}
-use Rattle.f11_bytes.proofs.ResultLemmas.{OnErr-given}
 use Rattle.f11_index.proofs.InUseLemmas.{in_use-some, in_use-slot, header-within}
 use Rattle.f11_files.specs.Structure.{index_in}
 use Rattle.f11_files.proofs.NameRunLemmas.{names-run, fails-name}
