@@ -42,7 +42,7 @@ headers-some t f some = let list = ap length (headers_from-some 255 t f some) in
 
 -- a block with another's map leads where that does
 module _ (change : File → File) (old new : List ℕ) (says : SaysBut change old new) where
-  segment-same : segment_number new ≡ segment_number old
+  pub segment-same : segment_number new ≡ segment_number old
   unfolding segment_number
   segment-same = ap segment says.map
 

@@ -41,7 +41,7 @@ sum-same p q (x ∷ xs) same =
     sum_by-cons p x xs ∙ omega (arith, rest, here) ∙ sym (sum_by-cons q x xs)
 
 -- the last of a list
-last-behind : (xs : List ℕ) (n : ℕ) → get_or (xs ++ n ∷ []) (length (xs ++ n ∷ []) - 1) 0 ≡ n
+pub last-behind : (xs : List ℕ) (n : ℕ) → get_or (xs ++ n ∷ []) (length (xs ++ n ∷ []) - 1) 0 ≡ n
 last-behind xs n =
     let count = length-append xs (n ∷ []) in
     let place : length (xs ++ n ∷ []) - 1 ≡ length xs = omega (arith, count) in

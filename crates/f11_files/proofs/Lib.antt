@@ -31,3 +31,8 @@ pub mod ExtensionLemmas
 pub mod LooseLemmas
 pub mod KeptLemmas
 pub mod CutLemmas
+pub mod RoomLemmas
+pub mod ZeroLemmas
+pub mod NameRunLemmas
+pub mod ClearLemmas
+pub mod LinkTailLemmas

@@ -22,3 +22,8 @@ pub mod Deletes
 pub mod ExtensionLaws
 pub mod LooseLaws
 pub mod Cuts
+pub mod Room
+pub mod Zeros
+pub mod Tail
+pub mod Clear
+pub mod Link

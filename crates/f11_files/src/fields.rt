@@ -1,5 +1,5 @@
 //! A field of a file's first header, written and sealed.
-ghost use Rattle.std.specs.Prelude.{◌≡◌, IsTrue};
+ghost use Rattle.std.specs.Prelude.{◌≡◌, false, IsTrue};
 ghost use Rattle.f11_bytes.specs.Words.{word_sum};
 ghost use Rattle.f11_files.specs.FieldLaws.{SaysBut};
 ghost use Rattle.f11_files.specs.First.{IsFirstOf};
@@ -7,7 +7,8 @@ ghost use Rattle.f11_header.specs.Fields.{characteristics, check_word, map_area}
 ghost use Rattle.f11_header.specs.Header.{header_in, header_with, holds_header};
 ghost use Rattle.f11_header.specs.MapFields.{segment};
 ghost use Rattle.f11_store.specs.Changes.{with_delete_mark, with_replacement};
-ghost use Rattle.f11_store.specs.File.{with_mark};
+ghost use Rattle.f11_store.specs.File.{with_mark, without_contiguous};
+ghost use Rattle.f11_store.specs.Lags.{with_no_mark};
 
 use f11_bytes::Block;
 use f11_header::{Header, HeaderMut};
@@ -15,6 +16,9 @@ use f11_store::{Change, FileId};
 
 /// The bit of the characteristics by which a file is marked for delete (SC.MDL).
 const MARKED: u16 = 0o100000;
+
+/// All bits of the characteristics but the contiguous mark (UC.CON).
+const NOT_CONTIGUOUS: u16 = 0o177577;
 
 /// Sets the user attributes.
 fn set_attributes(block: &mut Block, attributes: &[u8; 32])
@@ -72,6 +76,13 @@ fn marked(block: &Block) -> u16
     Header::new(block).characteristics() | MARKED
 }
 
+/// The characteristics without the contiguous mark.
+fn not_contiguous(block: &Block) -> u16
+    ensures { result ≡ without_contiguous (characteristics block.now) }
+{
+    Header::new(block).characteristics() & NOT_CONTIGUOUS
+}
+
 /// Makes a change of a file's attributes in its first header.
 pub(crate) fn replace(block: &mut Block, f: FileId, change: &Change)
     requires { IsFirstOf f block.old }
@@ -91,4 +102,20 @@ pub(crate) fn set_mark(block: &mut Block, f: FileId)
 {
     let characteristics = marked(block);
     set_characteristics(block, characteristics);
+}
+
+/// Clears the contiguous mark in a file's first header, and says whether it was set.
+pub(crate) fn clear_contiguous(block: &mut Block, f: FileId) -> bool
+    requires { IsFirstOf f block.old }
+    ensures cleared { IsTrue result → SaysBut with_no_mark block.old block.new }
+    ensures none { result ≡ false
+        → without_contiguous (characteristics block.old) ≡ characteristics block.old }
+    ensures unchanged { result ≡ false → block.new ≡ block.old }
+{
+    let characteristics = not_contiguous(block);
+    if characteristics == Header::new(block).characteristics() {
+        return false;
+    }
+    set_characteristics(block, characteristics);
+    true
 }

@@ -9,6 +9,7 @@
 mod answer;
 mod attributes;
 mod blocks;
+mod clear;
 mod create;
 mod delete;
 mod drops;
@@ -17,10 +18,15 @@ mod files;
 mod first;
 pub mod laws;
 mod length;
+mod link;
 mod locate;
+mod name;
 mod open;
+mod room;
 mod structure;
 mod truncate;
+mod tail;
+mod zeros;
 
 pub use files::Files;
 pub use open::OpenFault;

@@ -1,0 +1,132 @@
+-- A file's contiguous mark that is cleared.
+use Rattle.std.proofs.Common.{◌≡◌, ◌⊎◌, ◌≤◌, ℕ, true, false, IsTrue, List, Some, option_map, refl, sym, ap, subst, ◌∙◌, arith}
+use Rattle.std.proofs.Math.ListN.{set}
+use Rattle.f11_dev.specs.Disk.{Disk, with_transfer, with_block_at}
+use Rattle.f11_dev.specs.Image.{Image}
+use Rattle.f11_dev.specs.Went.{Went}
+use Rattle.f11_dev.proofs.LookedLemmas.{looked_none}
+use Rattle.f11_dev.proofs.WentLemmas.{went_looked, went_write, went_failed_write, went_within}
+use Rattle.f11_header.specs.Fields.{characteristics}
+use Rattle.f11_home.specs.Home.{HomeFields}
+use Rattle.f11_index.specs.Growth.{with_header}
+use Rattle.f11_index.specs.IndexFile.{Index, header_lbn}
+use Rattle.f11_index.specs.Table.{Table, table_of, IsFile}
+use Rattle.f11_store.specs.Changes.{with_change}
+use Rattle.f11_store.specs.File.{File, without_contiguous}
+use Rattle.f11_store.specs.Lags.{with_no_mark}
+use Rattle.f11_store.specs.Store.{Store}
+use Rattle.f11_store.specs.declared.files.Attr.{Attr}
+use Rattle.f11_store.specs.declared.files.FileId.{FileId}
+use Rattle.f11_vfy.specs.Sound.{HasSoundVolume}
+use Rattle.f11_writes.specs.Kept.{file_in}
+use Rattle.f11_files.specs.Clear.{Clearing, ClearsMark}
+use Rattle.f11_files.specs.FieldLaws.{SaysBut, ChangesFile}
+use Rattle.f11_files.specs.First.{HoldsFile, IsFirstOf}
+use Rattle.f11_files.specs.StoreOf.{as_seen}
+use Rattle.f11_files.specs.Structure.{index_in, home_of, store_on, Lies, Keeps, IsFor}
+use Rattle.f11_files.specs.Tail.{HasStore}
+use Rattle.f11_files.specs.declared.structure.Structure.{Structure}
+use Rattle.f11_files.proofs.AlterLemmas.{keeps-header}
+use Rattle.f11_files.proofs.FieldLemmas.{changes-file, segment-same}
+use Rattle.f11_files.proofs.FirstLemmas.{table-of}
+use Rattle.f11_files.proofs.InstanceLemmas.{with_file-same}
+use Rattle.f11_files.proofs.NamedLemmas.{file-stored, is-file, held-named, attr-is, block-is}
+use Rattle.f11_files.proofs.StoreLemmas.{file-at}
+
+-- a change that leaves the file leaves the store
+unchanged : (st : Store) (k : ℕ) (g : File) (change : File → File) → st.file k ≡ Some g → change g ≡ g → with_change st k change ≡ st
+unchanged st k g change is same = with_file-same st k (option_map change (st.file k)) (is ∙ sym (ap (option_map change) is ∙ ap Some same))
+
+-- a file's first header in hand
+module _ (s : Structure) (f : FileId) (was : List ℕ) (old : Disk) (for : IsFor s old) (own : 4 ≤ f.number) (holds : HoldsFile (index_in s) f was old) where
+  abbrev home : HomeFields
+  home = home_of s
+
+  abbrev seen : File
+  seen = as_seen f.number (file_in home f.number old.image)
+
+  file-here : IsTrue old.honest → IsFile (table_of old.image home) f.number
+  file-here honest = subst (λ (t : Table). IsFile t f.number) (table-of s old for honest) (is-file s f was old for holds honest).file
+
+  stored : IsTrue old.honest → (store_on s old).file f.number ≡ Some seen
+  stored honest = file-stored old.image home f.number ∙ file-at old.image (table_of old.image home) f.number (Some seen) (λ _. refl) (λ none. absurd (none (file-here honest)))
+
+  -- it had no mark
+  module _ (none : without_contiguous (characteristics was) ≡ characteristics was) where
+    unmarked : IsTrue old.honest → with_no_mark seen ≡ seen
+    unmarked honest =
+        let said : characteristics was ≡ seen.characteristics = ap (λ (a : Attr). a.characteristics) (attr-is s f was old for holds honest) ∙ ap (λ (g : File). g.characteristics) (held-named s f was old for holds honest) in
+        let same : without_contiguous seen.characteristics ≡ seen.characteristics = ap without_contiguous (sym said) ∙ none ∙ said in
+        λ i. record seen { characteristics = same i }
+
+    store-kept : Clearing s f old old.image
+    store-kept honest = record { sound = for.sound honest; store = sym (unchanged (store_on s old) f.number seen with_no_mark (stored honest) (unmarked honest)) }
+
+    pub clears-none : ClearsMark s f was old old
+    clears-none = record { holds = holds; is_for = for; store = store-kept; went = went_within (Clearing s f old) (went_looked (Clearing s f old) (looked_none old)) (omega arith) }
+
+  -- it had one, and the block is written without
+  module _ (block : List ℕ) (says : SaysBut with_no_mark was block) (place : ℕ) (new : Disk) (at : place ≡ header_lbn (index_in s) f.number) where
+    abbrev next : Image
+    next = with_header old.image home f.number block
+
+    abbrev P : Image → Type 0
+    P = Clearing s f old
+
+    changes : IsTrue old.honest → ChangesFile f.number block with_no_mark home old.image next
+    changes honest =
+        changes-file old.image home f.number block with_no_mark (for.sound honest) own (file-here honest)
+        (subst (λ (b : List ℕ). SaysBut with_no_mark b block) (block-is s f was old for holds honest) says)
+
+    store-next : IsTrue old.honest → HasStore home (with_change (store_on s old) f.number with_no_mark) next
+    store-next honest = record { sound = (changes honest).header.slot.sound; store = (changes honest).store }
+
+    written-is : IsTrue old.honest → set old.image place block ≡ next
+    written-is honest = ap (λ (l : ℕ). set old.image l block) (at ∙ ap (λ (x : Index). header_lbn x f.number) (for.keeps honest).index_is)
+
+    moment : P (set old.image place block)
+    moment honest = subst (HasStore home (with_change (store_on s old) f.number with_no_mark)) (sym (written-is honest)) (store-next honest)
+
+    pub fails-clear : (new ≡ with_transfer false old) ⊎ (new ≡ with_transfer false (with_block_at place block old)) → Went (Clearing s f old) old new 1 1
+    fails-clear is = went_failed_write P old new place block is moment
+
+    module _ (is : new ≡ with_transfer true (with_block_at place block old)) where
+      went : Went P old new 1 0
+      went = went_write P old new place block is moment
+
+      image : IsTrue old.honest → new.image ≡ next
+      image honest = ap (λ (d : Disk). d.image) is ∙ written-is honest
+
+      was-honest : IsTrue new.honest → IsTrue old.honest
+      was-honest honest = sym went.honest ∙ honest
+
+      for-new : IsFor s new
+      for-new = record {
+        lies = subst (λ (k : ℕ). Lies s k) (sym went.size) for.lies;
+        sound = λ honest. let before = was-honest honest in subst (λ (i : Image). HasSoundVolume i home) (sym (image before)) (store-next before).sound;
+        keeps = λ honest. let before = was-honest honest in subst (Keeps s) (sym (image before)) (keeps-header s f.number block old.image next (changes before).header (for.keeps before));
+      }
+
+      first-now : IsFirstOf f block
+      first-now = record {
+        valid = record { number = says.number ∙ holds.is_first.valid.number; holds = says.holds; sum = says.sum };
+        first = segment-same with_no_mark was block says ∙ holds.is_first.first;
+        sequence = says.sequence ∙ holds.is_first.sequence;
+      }
+
+      pub clears-mark : ClearsMark s f block old new
+      clears-mark = record {
+        holds = record {
+          header = record {
+            in_use = holds.header.in_use;
+            valid = first-now.valid;
+            block_is = λ honest.
+                let before = was-honest honest in
+                sym (changes before).header.index_file.header ∙ ap (λ (i : Image). (table_of i home).header f.number) (sym (image before)) ∙ ap (λ (t : Table). t.header f.number) (sym (table-of s new for-new honest));
+          };
+          is_first = first-now;
+        };
+        is_for = for-new;
+        store = λ honest. subst (HasStore home (with_change (store_on s old) f.number with_no_mark)) (sym (image honest)) (store-next honest);
+        went = went;
+      }

@@ -1,0 +1,34 @@
+use Rattle.std.proofs.Common.{sym, subst, List, ℕ}
+use Rattle.f11_index.proofs.InUseLemmas.{in_use-some, in_use-slot, header-within}
+use Rattle.f11_files.specs.Clear.{ClearsMark}
+use Rattle.f11_files.specs.Structure.{index_in}
+use Rattle.f11_files.proofs.ClearLemmas.{clears-none, clears-mark, fails-clear}
+use Rattle.f11_files.proofs.structure.Structure.clear_mark.Goals as goal
+
+pub returns-then-not-clear_contiguous-clause-clears : goal.returns-then-not-clear_contiguous-clause-clears
+returns-then-not-clear_contiguous-clause-clears g c =
+    let s = c.args.self.now in
+    let old = g.D.Device.disk c.args.device.now in
+    let none = c.if-not-clear_contiguous.true in
+    subst (λ (b : List ℕ). ClearsMark s c.args.f b old old) (sym (c.clear_contiguous.ensures.unchanged none))
+    (clears-none s c.args.f c.args.first.now old c.requires.is_for c.requires.own c.requires.holds (c.clear_contiguous.ensures.none none))
+
+pub lbn_of_header-requires-clause-slot : goal.lbn_of_header-requires-clause-slot
+lbn_of_header-requires-clause-slot g c = in_use-slot (index_in c.args.self.now) c.args.f.number c.requires.holds.header.in_use
+
+pub write-requires : goal.write-requires
+write-requires g c =
+    let index = index_in c.args.self.now in
+    let n = c.args.f.number in
+    let in_use = c.requires.holds.header.in_use in
+    rw c.lbn_of_header.ensures (header-within index n _ c.requires.is_for.lies.index (in_use-some index n in_use) (in_use-slot index n in_use))
+
+pub returns-in-Ok-clause-clears : goal.returns-in-Ok-clause-clears
+returns-in-Ok-clause-clears g c =
+    clears-mark c.args.self.now c.args.f c.args.first.now (g.D.Device.disk c.args.device.now) c.requires.is_for c.requires.own c.requires.holds _ (c.clear_contiguous.ensures.cleared c.if-not-clear_contiguous.false)
+    _ _ c.lbn_of_header.ensures c.in-Ok.ensures.writes.ok
+
+pub returns-in-Err-clause-failed : goal.returns-in-Err-clause-failed
+returns-in-Err-clause-failed g c =
+    fails-clear c.args.self.now c.args.f c.args.first.now (g.D.Device.disk c.args.device.now) c.requires.is_for c.requires.own c.requires.holds _ (c.clear_contiguous.ensures.cleared c.if-not-clear_contiguous.false)
+    _ _ c.lbn_of_header.ensures c.in-Err.ensures.writes.err

@@ -1,0 +1,9 @@
+use Rattle.f11_files.specs.Structure.{home_of}
+use Rattle.f11_files.specs.Zeros.{Zeroes}
+use Rattle.f11_files.proofs.structure.Structure.zero_run.Given as goal
+
+-- the blocks so far are zeros
+abbrev pub invariant-loop-k : goal.invariant-loop-k
+invariant-loop-k g l = record {
+  zeroes : Zeroes (home_of l.fn.self) l.lbn l.k (g.D.Device.disk l.fn.device) (g.D.Device.disk l.device);
+}

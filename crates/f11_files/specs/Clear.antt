@@ -1,0 +1,23 @@
+-- The contiguous mark of a file is cleared, before it grows (Files-11 On-Disk Structure Level 1, "File Header", H.UCHA).
+use Rattle.std.specs.Prelude.{ℕ, IsTrue, List}
+use Rattle.f11_dev.specs.Disk.{Disk}
+use Rattle.f11_dev.specs.Image.{Image}
+use Rattle.f11_dev.specs.Went.{Went}
+use Rattle.f11_store.specs.Changes.{with_change}
+use Rattle.f11_store.specs.Lags.{with_no_mark}
+use Rattle.f11_store.specs.declared.files.FileId.{FileId}
+use Rattle.f11_files.specs.First.{HoldsFile}
+use Rattle.f11_files.specs.Structure.{index_in, home_of, store_on, IsFor}
+use Rattle.f11_files.specs.Tail.{HasStore}
+use Rattle.f11_files.specs.declared.structure.Structure.{Structure}
+
+-- where the disk is honest, in an image that stands meanwhile the file has no contiguous mark
+abbrev pub Clearing : Structure → FileId → Disk → Image → Type 0
+Clearing s f old image = IsTrue old.honest → HasStore (home_of s) (with_change (store_on s old) f.number with_no_mark) image
+
+-- It has none: its first header was written where it had one.
+pub record ClearsMark (s : Structure) (f : FileId) (block : List ℕ) (old new : Disk) : Type 0 where
+  pub holds : HoldsFile (index_in s) f block new
+  pub is_for : IsFor s new
+  pub store : Clearing s f old new.image
+  pub went : Went (Clearing s f old) old new 1 0

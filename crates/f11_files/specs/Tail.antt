@@ -1,0 +1,75 @@
+-- A file's last header in hand, and the blocks that it is to name (Files-11 On-Disk Structure Level 1, "File Header" and "Map Area").
+use Rattle.std.specs.Prelude.{◌≡◌, ℕ, ◌^◌, ◌<◌, ◌≤◌, false, IsTrue, List, if◌then◌else◌}
+use Rattle.f11_dev.specs.Disk.{Disk}
+use Rattle.f11_dev.specs.Image.{Image}
+use Rattle.f11_dev.specs.Went.{Went}
+use Rattle.f11_header.specs.Fields.{map_area}
+use Rattle.f11_home.specs.Home.{HomeFields}
+use Rattle.f11_map.specs.MapArea.{runs_of}
+use Rattle.f11_map.specs.MapWriting.{joins_last}
+use Rattle.f11_index.specs.HeaderBlock.{segment_number, link_of}
+use Rattle.f11_index.specs.Headers.{IsLastOf}
+use Rattle.f11_index.specs.Table.{table_of}
+use Rattle.f11_chain.specs.Calls.{HoldsHeader}
+use Rattle.f11_store.specs.Changes.{with_change}
+use Rattle.f11_store.specs.File.{zero_blocks}
+use Rattle.f11_store.specs.Store.{Store}
+use Rattle.f11_vfy.specs.Sound.{HasSoundVolume}
+use Rattle.f11_vfy.specs.Volume.{volume_of}
+use Rattle.f11_writes.specs.NameLaws.{AreSpare}
+use Rattle.f11_files.specs.FileLaws.{HasPointersMore, room_in, with_more_blocks}
+use Rattle.f11_files.specs.StoreOf.{store_of}
+use Rattle.f11_files.specs.Structure.{index_in, home_of, store_on, IsFor}
+use Rattle.f11_files.specs.Zeros.{HoldsZeros}
+use Rattle.f11_files.specs.declared.structure.Structure.{Structure}
+use Rattle.f11_files.specs.declared.tail.Tail.{Tail}
+
+-- The block is a valid header in use, which links to none; it is the last of the file where the disk is honest.
+pub record HoldsLast (s : Structure) (tail : Tail) (disk : Disk) : Type 0 where
+  pub header : HoldsHeader (index_in s) tail.number tail.block disk
+  pub no_link : (link_of tail.block).number ≡ 0
+  pub few : segment_number tail.block < 256
+  pub is_last : IsTrue disk.honest → IsLastOf (table_of disk.image (home_of s)) tail.file.number tail.number
+
+-- A header may name so many blocks from `lbn` on: no other does, they are in use, and they hold zeros.
+pub record MayBeGiven (home : HomeFields) (lbn count : ℕ) (disk : Disk) : Type 0 where
+  pub some : 0 < count
+  pub short : count ≤ 256
+  pub low : lbn < 2 ^ 24
+  pub spare : IsTrue disk.honest → AreSpare (volume_of disk.image home) lbn count
+  pub zeros : IsTrue disk.honest → HoldsZeros disk.image lbn count
+
+-- An image's volume is sound, and its store is this one.
+pub record HasStore (home : HomeFields) (s : Store) (image : Image) : Type 0 where
+  pub sound : HasSoundVolume image home
+  pub store : store_of image home ≡ s
+
+-- how many retrieval pointers more a header has that names these blocks too
+abbrev pub pointers_more : List ℕ → ℕ → ℕ → ℕ
+pointers_more block lbn count = if joins_last (runs_of (map_area block)) lbn count then 0 else 1
+
+-- a store in which file f has so many blocks of zeros more, in so many pointers more
+abbrev pub with_zeros_more : ℕ → ℕ → ℕ → Store → Store
+with_zeros_more f more count s = with_change s f (with_more_blocks more (zero_blocks count))
+
+-- where the disk is honest, in an image that stands meanwhile the header names the blocks
+abbrev pub Naming : Structure → Tail → ℕ → ℕ → Disk → Image → Type 0
+Naming s tail lbn count old image =
+    IsTrue old.honest → HasStore (home_of s) (with_zeros_more tail.file.number (pointers_more tail.block lbn count) count (store_on s old)) image
+
+-- The header names these blocks too, and was written.
+pub record NamesRun (s : Structure) (tail after : Tail) (lbn count : ℕ) (old new : Disk) : Type 0 where
+  pub file_is : after.file ≡ tail.file
+  pub number_is : after.number ≡ tail.number
+  pub pointers : HasPointersMore (pointers_more tail.block lbn count) tail.block after.block
+  pub holds : HoldsLast s after new
+  pub is_for : IsFor s new
+  pub store : Naming s tail lbn count old new.image
+  pub went : Went (Naming s tail lbn count old) old new 1 0
+
+-- The header has no place for these blocks, and they join no pointer of it: nothing was done.
+pub record HasNoPlace (tail after : Tail) (lbn count : ℕ) (old new : Disk) : Type 0 where
+  pub tail_is : after ≡ tail
+  pub disk_is : new ≡ old
+  pub room : room_in tail.block ≡ 0
+  pub apart : joins_last (runs_of (map_area tail.block)) lbn count ≡ false
