@@ -8,7 +8,7 @@ use Rattle.f11_store.specs.Causes.{Cause, first_of}
 use Rattle.f11_store.specs.Refusal.{refusal_number}
 use Rattle.f11_store.specs.declared.refusals.Refusal.{Refusal}
 use Rattle.f11_store.specs.declared.refusals.Refusal.TheVariants.{VolumeFailed, DeviceFault, Damaged}
-use Rattle.f11_files.specs.Answers.{is_among, IsRight, Reads}
+use Rattle.f11_files.specs.Answers.{FailsToRead, is_among, IsRight, Reads}
 
 -- an error that is handed on
 pub handed : {T E : Type 0} (P : E → Type 0) (r : Result T E) (x : E) → IsErrAnd r (λ y. y ≡ x) → P x → IfErr r P
@@ -62,3 +62,11 @@ reads-more {a = a} first then = record {
 -- fewer than may be
 pub reads-within : {old new : Disk} {m n faults : ℕ} → m ≤ n → Reads m old new faults → Reads n old new faults
 reads-within fewer reads = record { reads = reads.reads; looked = reads.looked; few = λ honest. let here = reads.few honest in omega (arith, here, fewer) }
+
+-- what a refusal to read says where there are other causes behind
+pub fails-more : {causes others : List Cause} {most : ℕ} {r : Refusal} {old new : Disk} → (is_among causes r ≡ true → is_among others r ≡ true) → (first_of causes ≡ Some r → first_of others ≡ Some r)
+    → FailsToRead false causes most r old new → FailsToRead false others most r old new
+fails-more among more fails = record {
+  right = record { volume = fails.right.volume; among = λ is. among (fails.right.among is); cause = λ sure is. more (fails.right.cause sure is); undamaged = fails.right.undamaged };
+  reads = fails.reads;
+}

@@ -32,7 +32,7 @@ use Rattle.f11_files.specs.Tail.{HoldsLast, HasStore}
 use Rattle.f11_files.specs.declared.structure.Structure.{Structure}
 use Rattle.f11_files.specs.declared.tail.Tail.{Tail}
 use Rattle.f11_files.proofs.AlterLemmas.{keeps-header}
-use Rattle.f11_files.proofs.FileLemmas.{file-linked, of-now}
+use Rattle.f11_files.proofs.FileLemmas.{as-header, file-linked, of-now}
 use Rattle.f11_files.proofs.FirstLemmas.{table-of}
 use Rattle.f11_files.proofs.InstanceLemmas.{file-stored}
 use Rattle.f11_files.proofs.NameRunLemmas.{valid-again, sequence-again, alike-again}
@@ -152,7 +152,7 @@ module _ (s : Structure) (tail : Tail) (block : List ℕ) (id : FileId) (old : D
         record {
           sound = wrote-link.slot.sound;
           store = file-stored old.image next home n block wrote-link good.sequence f (with_header_more old.image t id.number) own (last.is_last honest).of
-              (of-now old.image next home f n block late wrote-link links.stands) (file-linked old.image next home f n id.number block late wrote-link links);
+              (of-now old.image next home f n block (as-header n block home old.image next wrote-link) links.stands) (file-linked old.image next home f n id.number block late wrote-link links);
         }
 
   -- it is written

@@ -36,7 +36,8 @@ use Rattle.f11_files.specs.declared.structure.Structure.{Structure}
 use Rattle.f11_files.specs.declared.tail.Tail.{Tail}
 use Rattle.f11_files.proofs.AlterLemmas.{keeps-header}
 use Rattle.f11_files.proofs.FieldLemmas.{held-from}
-use Rattle.f11_files.proofs.FileLemmas.{file-grows, of-now}
+use Rattle.f11_files.proofs.FileLemmas.{as-header, of-now}
+use Rattle.f11_files.proofs.StepLemmas.{file-grows}
 use Rattle.f11_files.proofs.FirstLemmas.{table-of}
 
 -- how many pointers there are with these blocks
@@ -180,7 +181,7 @@ module _ (s : Structure) (tail : Tail) (block : List ℕ) (lbn count : ℕ) (old
 
     pub last-named : IsLastOf (table_of next home) f n
     last-named = record {
-      of = of-now old.image next home f n block (omega (arith, own)) wrote-tail names.stands;
+      of = of-now old.image next home f n block (as-header n block home old.image next wrote-tail) names.stands;
       no_link = ap (λ (b : List ℕ). (link_of b).number) wrote-tail.index_file.header ∙ no-link;
     }
 

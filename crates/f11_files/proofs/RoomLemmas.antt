@@ -1,5 +1,5 @@
 -- Room for more blocks of a file.
-use Rattle.std.proofs.Common.{◌≡◌, ◌≢◌, ◌-◌, ◌<◌, ℕ, Bool, true, false, cond, IsTrue, List, [], ◌∷◌, length, Some, None, refl, sym, ap, subst, ◌∙◌, arith}
+use Rattle.std.proofs.Common.{◌||◌, eqb, ◌≡◌, ◌≢◌, ◌-◌, ◌<◌, ℕ, Bool, true, false, cond, IsTrue, List, [], ◌∷◌, length, Some, None, refl, sym, ap, subst, ◌∙◌, arith}
 use Rattle.f11_dev.specs.Disk.{Disk}
 use Rattle.f11_dev.specs.Image.{Image}
 use Rattle.f11_header.specs.Fields.{map_area}
@@ -22,7 +22,7 @@ use Rattle.f11_store.specs.declared.refusals.Refusal.TheVariants.{NoSuchFile, To
 use Rattle.f11_vfy.specs.Contents.{file_of, headers_reached, room_left, pointer_count}
 use Rattle.f11_vfy.proofs.FileLemmas.{reached-are}
 use Rattle.f11_writes.specs.Kept.{file_in}
-use Rattle.f11_files.specs.Answers.{Reads, FailsToRead, faults_of}
+use Rattle.f11_files.specs.Answers.{is_among, Reads, FailsToRead, faults_of}
 use Rattle.f11_files.specs.FileLaws.{room_in}
 use Rattle.f11_files.specs.First.{HoldsFile}
 use Rattle.f11_files.specs.Operations.{extend_causes, file_causes, IsSpaceOf}
@@ -36,6 +36,13 @@ use Rattle.f11_files.proofs.LocateLemmas.{held-are, reads-along}
 use Rattle.f11_files.proofs.NamedLemmas.{held-named, is-file, found-named, seen-same}
 
 -- a cause against a request for a file is one against more blocks of it
+pub among-more : (s : Store) (f : FileId) (n : ℕ) (r : Refusal) → is_among (file_causes s f) r ≡ true → is_among (extend_causes s f n) r ≡ true
+among-more s f n r is = go (eqb 6 (refusal_number r)) _ is
+  where
+    go : (b c : Bool) → (b || false) ≡ true → (b || c) ≡ true
+    go true c is = refl
+    go false c is = absurd cc
+
 pub cause-more : (s : Store) (f : FileId) (n : ℕ) (r : Refusal) → first_of (file_causes s f) ≡ Some r → first_of (extend_causes s f n) ≡ Some r
 cause-more s f n r is = go (is_missing s f) is
   where
@@ -48,11 +55,12 @@ pub record IsLight (r : Refusal) : Type 0 where
   pub not_failed : refusal_number r ≢ 1
   pub not_damaged : refusal_number r ≢ 20
   pub no_fault : faults_of r ≡ 0
+  pub among : (s : Store) (f : FileId) (n : ℕ) → is_among (extend_causes s f n) r ≡ true
 
 light : (a b c : Bool) (r : Refusal) → first_of ((TooManySegments ⇐ a) ∷ (DeviceFull ⇐ b) ∷ (NoHeader ⇐ c) ∷ []) ≡ Some r → IsLight r
-light true b c r is = let same : TooManySegments ≡ r = cc in subst IsLight same record { not_failed = λ no. omega (arith, no); not_damaged = λ no. omega (arith, no); no_fault = refl }
-light false true c r is = let same : DeviceFull ≡ r = cc in subst IsLight same record { not_failed = λ no. omega (arith, no); not_damaged = λ no. omega (arith, no); no_fault = refl }
-light false false true r is = let same : NoHeader ≡ r = cc in subst IsLight same record { not_failed = λ no. omega (arith, no); not_damaged = λ no. omega (arith, no); no_fault = refl }
+light true b c r is = let same : TooManySegments ≡ r = cc in subst IsLight same record { not_failed = λ no. omega (arith, no); not_damaged = λ no. omega (arith, no); no_fault = refl; among = λ s f n. refl }
+light false true c r is = let same : DeviceFull ≡ r = cc in subst IsLight same record { not_failed = λ no. omega (arith, no); not_damaged = λ no. omega (arith, no); no_fault = refl; among = λ s f n. refl }
+light false false true r is = let same : NoHeader ≡ r = cc in subst IsLight same record { not_failed = λ no. omega (arith, no); not_damaged = λ no. omega (arith, no); no_fault = refl; among = λ s f n. refl }
 light false false false r is = absurd cc
 
 -- the room of a file is that of its last header
@@ -114,6 +122,6 @@ module _ (s : Structure) (f : FileId) (block : List ℕ) (old : Disk) (for : IsF
     lacks-room r is =
         let cause = light _ _ _ r is in
         record {
-          right = right-cause _ _ r cause.not_failed cause.not_damaged (λ honest. causes-are honest ∙ is);
+          right = right-cause _ _ r cause.not_failed cause.not_damaged (cause.among st f n) (λ honest. causes-are honest ∙ is);
           reads = subst (Reads (header_count (file_named st f)) old new) (sym cause.no_fault) (reads-along s f block old new 0 for holds goes.looked);
         }

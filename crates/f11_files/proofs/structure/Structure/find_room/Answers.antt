@@ -8,7 +8,7 @@ use Rattle.f11_files.specs.Operations.{extend_causes}
 use Rattle.f11_files.specs.Structure.{index_in, store_on}
 use Rattle.f11_files.proofs.AnswerLemmas.{handed, fails-more}
 use Rattle.f11_files.proofs.LocateLemmas.{reads-first, fails-last}
-use Rattle.f11_files.proofs.RoomLemmas.{cause-more, finds-room, lacks-room}
+use Rattle.f11_files.proofs.RoomLemmas.{among-more, cause-more, finds-room, lacks-room}
 use Rattle.f11_files.proofs.SpaceLemmas.{space-is}
 use Rattle.f11_files.proofs.structure.Structure.find_room.Goals as goal
 
@@ -17,7 +17,8 @@ returns-in-Err-clause-refused g c =
     let found = c.in_ok-read_first.ensures.found in
     let first = reads-first _ _ _ _ _ found in
     let last = c.in-Err.ensures in
-    rw c.refusal_for.ensures (fails-more (cause-more (store_on c.args.self.now (g.D.Device.disk c.args.device.now)) c.args.f c.args.n _) (omega arith) (fails-last c.args.self.now c.args.f _ _ _ c.requires.is_for found.holds c.in-Err.fault
+    rw c.refusal_for.ensures (fails-more (among-more (store_on c.args.self.now (g.D.Device.disk c.args.device.now)) c.args.f c.args.n _)
+    (cause-more (store_on c.args.self.now (g.D.Device.disk c.args.device.now)) c.args.f c.args.n _) (fails-last c.args.self.now c.args.f _ _ _ c.requires.is_for found.holds c.in-Err.fault
     (λ is. last.no_end (ap Err is)) (λ is. break-behind _ _ _ _ _ first _ (last.damaged (ap Err is))) (λ is. along-behind _ _ _ _ _ first _ _ (last.failed (ap Err is)))))
 
 pub returns-in_err-judge-clause-refused : goal.returns-in_err-judge-clause-refused
