@@ -215,9 +215,6 @@ module _ (s : Structure) (n lbn : ℕ) (block dead : List ℕ) (old : Disk) (for
     honest-now : now.honest ≡ old.honest
     honest-now = ap (λ (d : Disk). d.honest) wrote
 
-    pub size-now : length now.image ≡ length old.image
-    size-now = ap (λ (i : Image). length i) image-now ∙ length-set old.image lbn dead
-
     first-write : Went P old now 1 0
     first-write = went_write P old now lbn dead wrote killed-moment
 

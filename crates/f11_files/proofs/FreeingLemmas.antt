@@ -145,9 +145,6 @@ module _ (s : Structure) (lbn count : ℕ) (old : Disk) (for : IsFor s old) (spa
   bitmap : IsTrue old.honest → bitmap_in s ≡ storage_bitmap old.image home
   bitmap honest = (for.keeps honest).bitmap_is
 
-  pub storage-for : storage.IsFor s.storage old
-  storage-for = record { within = for.lies.bitmap; keeps = λ honest. record { free = (for.keeps honest).free } }
-
   pub run-within : IsTrue old.honest → lbn + count ≤ (bitmap_in s).size
   unfolding volume_of
   run-within honest = let size = ap (λ (b : Bitmap). b.size) (bitmap honest) in let inside = (spare honest).inside in omega (arith, size, inside)
