@@ -24,8 +24,8 @@ mod name;
 mod open;
 mod room;
 mod structure;
-mod truncate;
 mod tail;
+mod truncate;
 mod zeros;
 
 pub use files::Files;

@@ -1,4 +1,4 @@
-use Rattle.std.proofs.Common.{false, Err, refl, ap, arith}
+use Rattle.std.proofs.Common.{false, Err, refl, ap}
 use Rattle.f11_chain.proofs.AlongLemmas.{along-behind, break-behind, last-behind}
 use Rattle.f11_index.specs.IndexFile.{slots}
 use Rattle.f11_store.specs.Cost.{header_count}
