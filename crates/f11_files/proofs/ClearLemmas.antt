@@ -1,16 +1,24 @@
 -- A file's contiguous mark that is cleared.
-use Rattle.std.proofs.Common.{◌≡◌, ◌⊎◌, ◌≤◌, ℕ, true, false, IsTrue, List, Some, option_map, refl, sym, ap, subst, ◌∙◌, arith}
+use Rattle.std.proofs.Common.{◌≡◌, ◌⊎◌, ◌≤◌, inl, inr, ℕ, Bool, true, false, IsTrue, List, Some, option_map, refl, sym, ap, subst, ◌∙◌, arith}
 use Rattle.std.proofs.Math.ListN.{set}
+use Rattle.std.proofs.lemmas.Bool.{cases_eq}
 use Rattle.f11_dev.specs.Disk.{Disk, with_transfer, with_block_at}
 use Rattle.f11_dev.specs.Image.{Image}
 use Rattle.f11_dev.specs.Went.{Went}
 use Rattle.f11_dev.proofs.LookedLemmas.{looked_none}
 use Rattle.f11_dev.proofs.WentLemmas.{went_looked, went_write, went_failed_write, went_within}
-use Rattle.f11_header.specs.Fields.{characteristics}
+use Rattle.f11_header.specs.Fields.{characteristics, file_sequence}
+use Rattle.f11_header.specs.Header.{IsHeader}
 use Rattle.f11_home.specs.Home.{HomeFields}
+use Rattle.f11_index.specs.ChangeLaws.{StaysHeader}
 use Rattle.f11_index.specs.Growth.{with_header}
+use Rattle.f11_index.specs.HeaderBlock.{segment_number, link_of}
+use Rattle.f11_index.specs.Headers.{IsLastOf}
 use Rattle.f11_index.specs.IndexFile.{Index, header_lbn}
-use Rattle.f11_index.specs.Table.{Table, table_of, IsFile}
+use Rattle.f11_index.specs.Table.{Table, table_of, IsFile, IsHeaderOf}
+use Rattle.f11_index.proofs.ChainLemmas.{live_of-header}
+use Rattle.f11_index.proofs.HeadersLemmas.{last-whole}
+use Rattle.f11_index.proofs.StayLemmas.{whole-stays}
 use Rattle.f11_store.specs.Changes.{with_change}
 use Rattle.f11_store.specs.File.{File, without_contiguous}
 use Rattle.f11_store.specs.Lags.{with_no_mark}
@@ -19,6 +27,7 @@ use Rattle.f11_store.specs.declared.files.Attr.{Attr}
 use Rattle.f11_store.specs.declared.files.FileId.{FileId}
 use Rattle.f11_vfy.specs.Sound.{HasSoundVolume}
 use Rattle.f11_writes.specs.Kept.{file_in}
+use Rattle.f11_writes.specs.OtherSlots.{KeepsOtherSlots}
 use Rattle.f11_files.specs.Clear.{Clearing, ClearsMark}
 use Rattle.f11_files.specs.FieldLaws.{SaysBut, ChangesFile}
 use Rattle.f11_files.specs.First.{HoldsFile, IsFirstOf}
@@ -27,7 +36,7 @@ use Rattle.f11_files.specs.Structure.{index_in, home_of, store_on, Lies, Keeps, 
 use Rattle.f11_files.specs.Tail.{HasStore}
 use Rattle.f11_files.specs.declared.structure.Structure.{Structure}
 use Rattle.f11_files.proofs.AlterLemmas.{keeps-header}
-use Rattle.f11_files.proofs.FieldLemmas.{changes-file, segment-same}
+use Rattle.f11_files.proofs.FieldLemmas.{changes-file, segment-same, link-same}
 use Rattle.f11_files.proofs.FirstLemmas.{table-of}
 use Rattle.f11_files.proofs.InstanceLemmas.{with_file-same}
 use Rattle.f11_files.proofs.NamedLemmas.{file-stored, is-file, held-named, attr-is, block-is}
@@ -37,10 +46,37 @@ use Rattle.f11_files.proofs.StoreLemmas.{file-at}
 unchanged : (st : Store) (k : ℕ) (g : File) (change : File → File) → st.file k ≡ Some g → change g ≡ g → with_change st k change ≡ st
 unchanged st k g change is same = with_file-same st k (option_map change (st.file k)) (is ∙ sym (ap (option_map change) is ∙ ap Some same))
 
+-- a file whose first header has the link that it had has the last header that it had
+last-stays : (t u : Table) (f n : ℕ) → KeepsOtherSlots f t u → StaysHeader t u f → IsLastOf t f n → IsLastOf u f n
+last-stays t u f n others stays last = record {
+  of = ((whole-stays t u f (last-whole t f n last) each).1 n).1 last.of;
+  no_link = ap (λ (l : FileId). l.number) (each n last.of).link ∙ last.no_link;
+}
+  where
+    each : (m : ℕ) → IsHeaderOf t f m → StaysHeader t u m
+    each m of = elim (cases_eq m f) [
+      | inl same ↦ subst (StaysHeader t u) (sym same) stays
+      | inr other ↦
+          let live = live_of-header of in
+          let is = others.header m other live.in_use in
+          record {
+            good = record {
+              in_use = others.in_use m other ∙ live.in_use;
+              valid = subst (λ (b : List ℕ). IsHeader b m) (sym is) live.valid;
+              sequence = ap file_sequence is;
+              segment = ap segment_number is;
+            };
+            link = ap link_of is;
+          }
+    ]
+
 -- a file's first header in hand
 module _ (s : Structure) (f : FileId) (was : List ℕ) (old : Disk) (for : IsFor s old) (own : 4 ≤ f.number) (holds : HoldsFile (index_in s) f was old) where
   abbrev home : HomeFields
   home = home_of s
+
+  abbrev t : Table
+  t = table_of old.image home
 
   abbrev seen : File
   seen = as_seen f.number (file_in home f.number old.image)
@@ -48,7 +84,7 @@ module _ (s : Structure) (f : FileId) (was : List ℕ) (old : Disk) (for : IsFor
   file-here : IsTrue old.honest → IsFile (table_of old.image home) f.number
   file-here honest = subst (λ (t : Table). IsFile t f.number) (table-of s old for honest) (is-file s f was old for holds honest).file
 
-  stored : IsTrue old.honest → (store_on s old).file f.number ≡ Some seen
+  pub stored : IsTrue old.honest → (store_on s old).file f.number ≡ Some seen
   stored honest = file-stored old.image home f.number ∙ file-at old.image (table_of old.image home) f.number (Some seen) (λ _. refl) (λ none. absurd (none (file-here honest)))
 
   -- it had no mark
@@ -62,8 +98,16 @@ module _ (s : Structure) (f : FileId) (was : List ℕ) (old : Disk) (for : IsFor
     store-kept : Clearing s f old old.image
     store-kept honest = record { sound = for.sound honest; store = sym (unchanged (store_on s old) f.number seen with_no_mark (stored honest) (unmarked honest)) }
 
-    pub clears-none : ClearsMark s f was old old
-    clears-none = record { holds = holds; is_for = for; store = store-kept; went = went_within (Clearing s f old) (went_looked (Clearing s f old) (looked_none old)) (omega arith) }
+    pub clears-none : ClearsMark s f was was old old
+    clears-none = record {
+      holds = holds;
+      link = refl;
+      slots = λ honest. record { in_use = λ m other. refl; header = λ m other used. refl };
+      last = λ honest n last. last;
+      is_for = for;
+      store = store-kept;
+      went = went_within (Clearing s f old) (went_looked (Clearing s f old) (looked_none old)) (omega arith);
+    }
 
   -- it had one, and the block is written without
   module _ (block : List ℕ) (says : SaysBut with_no_mark was block) (place : ℕ) (new : Disk) (at : place ≡ header_lbn (index_in s) f.number) where
@@ -114,7 +158,28 @@ module _ (s : Structure) (f : FileId) (was : List ℕ) (old : Disk) (for : IsFor
         sequence = says.sequence ∙ holds.is_first.sequence;
       }
 
-      pub clears-mark : ClearsMark s f block old new
+      slots-stay : (honest : IsTrue old.honest) → KeepsOtherSlots f.number t (table_of new.image home)
+      slots-stay honest = subst (λ (i : Image). KeepsOtherSlots f.number t (table_of i home)) (sym (image honest)) (changes honest).header.slot.others
+
+      header-now : IsTrue old.honest → (table_of new.image home).header f.number ≡ block
+      header-now honest = ap (λ (i : Image). (table_of i home).header f.number) (image honest) ∙ (changes honest).header.index_file.header
+
+      header-was : IsTrue old.honest → was ≡ t.header f.number
+      header-was honest = block-is s f was old for holds honest
+
+      first-stays : (honest : IsTrue old.honest) → StaysHeader t (table_of new.image home) f.number
+      first-stays honest = record {
+        good = record {
+          in_use =
+              ap (λ (i : Image). (table_of i home).in_use f.number) (image honest) ∙ ap (λ (g : ℕ → Bool). g f.number) (changes honest).header.in_use ∙ (file-here honest).live.in_use;
+          valid = subst (λ (b : List ℕ). IsHeader b f.number) (sym (header-now honest)) first-now.valid;
+          sequence = ap file_sequence (header-now honest) ∙ says.sequence ∙ ap file_sequence (header-was honest);
+          segment = ap segment_number (header-now honest) ∙ segment-same with_no_mark was block says ∙ ap segment_number (header-was honest);
+        };
+        link = ap link_of (header-now honest) ∙ link-same with_no_mark was block says ∙ ap link_of (header-was honest);
+      }
+
+      pub clears-mark : ClearsMark s f was block old new
       clears-mark = record {
         holds = record {
           header = record {
@@ -126,6 +191,9 @@ module _ (s : Structure) (f : FileId) (was : List ℕ) (old : Disk) (for : IsFor
           };
           is_first = first-now;
         };
+        link = link-same with_no_mark was block says;
+        slots = slots-stay;
+        last = λ honest n last. last-stays t (table_of new.image home) f.number n (slots-stay honest) (first-stays honest) last;
         is_for = for-new;
         store = λ honest. subst (HasStore home (with_change (store_on s old) f.number with_no_mark)) (sym (image honest)) (store-next honest);
         went = went;

@@ -1,5 +1,5 @@
 -- A new file: its slot is read, its header is written, and then its bit.
-use Rattle.std.proofs.Common.{◌≡◌, ◌≢◌, ◌⊎◌, ◌≤◌, ◌<◌, ℕ, Bool, true, false, cond, IsTrue, List, [], length, Some, None, inl, inr, refl, sym, ap, subst, ◌∙◌, arith, eqb}
+use Rattle.std.proofs.Common.{◌≡◌, ◌≢◌, ◌⊎◌, ◌<◌, ℕ, Bool, true, false, cond, IsTrue, List, [], length, Some, None, inl, inr, refl, sym, ap, subst, ◌∙◌, arith, eqb}
 use Rattle.std.specs.List.{All, slice_get}
 use Rattle.std.proofs.lemmas.List.{length-set}
 use Rattle.std.proofs.Math.ListN.{set}
@@ -14,11 +14,8 @@ use Rattle.f11_dev.proofs.WentLemmas.{went_write, went_failed_write, went_more, 
 use Rattle.f11_header.specs.Fields.{file_sequence}
 use Rattle.f11_home.specs.Home.{HomeFields}
 use Rattle.f11_index.specs.Calls.{SetsBit, HasBitWritten, WritesBit, FailsToWriteBit, bitmap_place, bitmap_block, with_bitmap_block}
-use Rattle.f11_index.specs.Growth.{with_header}
 use Rattle.f11_index.specs.IndexFile.{Index, index_of, header_lbn, free_slots as free_in_index}
 use Rattle.f11_index.specs.Slots.{IsLeastFree}
-use Rattle.f11_index.specs.Table.{Table, table_in, table_of, last_sequence}
-use Rattle.f11_chain.proofs.StepLemmas.{table-header}
 use Rattle.f11_store.specs.Causes.{first_of}
 use Rattle.f11_store.specs.Changes.{next_sequence}
 use Rattle.f11_store.specs.Lags.{Work, LagsBy}
@@ -40,8 +37,7 @@ use Rattle.f11_files.specs.Structure.{index_in, bitmap_in, home_of, store_on, Li
 use Rattle.f11_files.specs.declared.structure.Structure.{Structure}
 use Rattle.f11_files.proofs.AlterLemmas.{free-slot, keeps-header}
 use Rattle.f11_files.proofs.AnswerLemmas.{right-fault, reads-looked}
-use Rattle.f11_files.proofs.FirstLemmas.{table-of}
-use Rattle.f11_files.proofs.InstanceLemmas.{last-at}
+use Rattle.f11_files.proofs.FreeSlotLemmas.{IsReadAt, read-at}
 use Rattle.f11_files.proofs.NewFileLemmas.{free-stored, least-stored, writes-first, enters-file}
 use Rattle.f11_files.proofs.WriteLemmas.{failed-stays, sound-went, writes-behind, writes-within}
 
@@ -63,7 +59,7 @@ numbered s owner protection ident attr n sequence next = taken_lags (new_work s 
     last m (inr other) = inl (ap (λ (b : Bool). cond b sequence (s.last m)) (ne_eqb m n other))
 
 -- where a bit was set, what is kept lies where it lay
-lies-bit : (s t : Structure) (value : Bool) (n blocks : ℕ) → bitmap_in t ≡ bitmap_in s → SetsBit value n (index_in s) (index_in t) → Lies s blocks → Lies t blocks
+pub lies-bit : (s t : Structure) (value : Bool) (n blocks : ℕ) → bitmap_in t ≡ bitmap_in s → SetsBit value n (index_in s) (index_in t) → Lies s blocks → Lies t blocks
 lies-bit s t value n blocks bitmap bit lies =
     let same = bit.one_block in
     let count = ap (λ (x : Index). length x.bitmap) same ∙ length-set (index_in s).bitmap (bitmap_place n) (bitmap_block (index_in t) n) in
@@ -100,52 +96,30 @@ module _ (s : Structure) (owner : Uic) (protection : ℕ) (ident attr : List ℕ
   abbrev id : FileId
   id = record { number = n; sequence = sequence; volume = 0 }
 
-  is-least : IsTrue old.honest → IsLeastFree (index_of old.image home) n
-  is-least honest = subst (λ (x : Index). IsLeastFree x n) (for.keeps honest).index_is least
-
-  -- what the slot was last given
-  next-is : IsTrue old.honest → id.sequence ≡ next_sequence (last_sequence (table_of old.image home) n)
-  next-is honest =
-      next ∙ ap (λ (b : List ℕ). next_sequence (file_sequence b)) (table-header (index_in s) old n lbn was at (gives honest))
-      ∙ ap (λ (t : Table). next_sequence (last_sequence t n)) (table-of s old for honest)
-
-  in-slots : IsTrue old.honest → n ≤ (table_of old.image home).slots
-  unfolding table_in
-  in-slots honest = (is-least honest).high
-
-  last-is : IsTrue old.honest → st.last n ≡ last_sequence (table_of old.image home) n
-  unfolding store_of
-  last-is honest = last-at (table_of old.image home) n (omega (arith, least.low)) (in-slots honest)
-
-  next-given : IsTrue old.honest → id.sequence ≡ next_sequence (st.last n)
-  next-given honest = next-is honest ∙ ap next_sequence (sym (last-is honest))
+  slot : IsTrue old.honest → IsReadAt s n lbn sequence old mid
+  slot = read-at s n lbn was sequence old mid for least at counts gives next
 
   module _ (empty block : List ℕ) (new : IsNewFirst id owner protection ident attr empty block) where
     abbrev first : Image
     first = set mid.image lbn block
 
-    first-is : IsTrue old.honest → first ≡ with_header old.image home n block
-    first-is honest =
-        ap (λ (d : Disk). set d.image lbn block) counts
-        ∙ ap (λ (l : ℕ). set old.image l block) (at ∙ ap (λ (x : Index). header_lbn x n) (for.keeps honest).index_is)
-
     wrote : IsTrue old.honest → WritesNewFirst id block home old.image first
     wrote honest =
-        subst (WritesNewFirst id block home old.image) (sym (first-is honest))
-        (writes-first id owner protection ident attr empty block new old.image home (for.sound honest) (is-least honest).high (is-least honest).unused)
+        subst (WritesNewFirst id block home old.image) (sym ((slot honest).written block))
+        (writes-first id owner protection ident attr empty block new old.image home (for.sound honest) (slot honest).least.high (slot honest).least.unused)
 
     pub first-moment : P first
     first-moment honest = record {
       sound = (wrote honest).header.slot.sound;
-      lags = subst (λ (t : Store). LagsBy work t st) (sym (wrote honest).store) (numbered st owner protection ident attr n id.sequence (next-given honest));
+      lags = subst (λ (t : Store). LagsBy work t st) (sym (wrote honest).store) (numbered st owner protection ident attr n id.sequence (slot honest).given);
     }
 
     -- and then its bit
     entered : (after : Index) → IsTrue old.honest → SetsBit true n (index_in s) after → EntersNewFile n after owner protection ident attr home old.image first (with_bitmap_block first after n)
     entered after honest bit =
         let at-home : SetsBit true n (index_of old.image home) after = subst (λ (x : Index). SetsBit true n x after) (for.keeps honest).index_is bit in
-        subst (λ (i : Image). EntersNewFile n after owner protection ident attr home old.image i (with_bitmap_block i after n)) (sym (first-is honest))
-        (enters-file id owner protection ident attr empty block new old.image home (for.sound honest) (is-least honest).high (is-least honest).unused after at-home (is-least honest) (next-is honest))
+        subst (λ (i : Image). EntersNewFile n after owner protection ident attr home old.image i (with_bitmap_block i after n)) (sym ((slot honest).written block))
+        (enters-file id owner protection ident attr empty block new old.image home (for.sound honest) (slot honest).least.high (slot honest).least.unused after at-home (slot honest).least (slot honest).next)
 
     pub second-moment : (image : Image) → HasBitWritten true n (index_in s) first image → P image
     second-moment image has honest =
@@ -199,14 +173,14 @@ module _ (s : Structure) (owner : Uic) (protection : ℕ) (ident attr : List ℕ
             writes = writes-behind (reads-looked (looked_read old mid counts)) (behind new 0 wrote_bit.went);
           };
           id = λ honest.
-              let number = least-stored old.image home n (is-least honest) in
-              λ i. record { number = sym number i; sequence = (next-given honest ∙ ap (λ (k : ℕ). next_sequence (st.last k)) (sym number)) i; volume = 0 };
+              let number = least-stored old.image home n (slot honest).least in
+              λ i. record { number = sym number i; sequence = ((slot honest).given ∙ ap (λ (k : ℕ). next_sequence (st.last k)) (sym number)) i; volume = 0 };
         }
           where
             some-free : IsTrue old.honest → first_of (create_causes st) ≡ None
             some-free honest =
                 let stored = ap (λ (l : List ℕ). length l) (free-stored old.image home) in
-                let within : 0 < length (free_in_index (index_of old.image home)) = slice_get_within _ _ n (is-least honest).first in
+                let within : 0 < length (free_in_index (index_of old.image home)) = slice_get_within _ _ n (slot honest).least.first in
                 ap (λ (b : Bool). cond b (Some NoHeader) None) (ne_eqb (free_headers st) 0 (λ none. omega (arith, stored, within, none)))
 
         pub created-stays : (t : Structure) (new : Disk) → home_of t ≡ home → bitmap_in t ≡ bitmap_in s → t.storage.free ≡ s.storage.free → WritesBit true n (index_in s) (index_in t) one new → StaysFor false s t new

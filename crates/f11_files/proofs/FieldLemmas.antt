@@ -46,7 +46,7 @@ module _ (change : File → File) (old new : List ℕ) (says : SaysBut change ol
   unfolding segment_number
   segment-same = ap segment says.map
 
-  link-same : link_of new ≡ link_of old
+  pub link-same : link_of new ≡ link_of old
   unfolding link_of
   link-same = ap link says.map
 

@@ -13,7 +13,7 @@ use Rattle.f11_header.specs.MapFields.{places}
 use Rattle.f11_home.specs.Home.{HomeFields}
 use Rattle.f11_index.specs.ChangeLaws.{IsAsGood}
 use Rattle.f11_index.specs.HeaderBlock.{segment_number, link_of, blocks_named}
-use Rattle.f11_index.specs.Headers.{headers_of, headers_from}
+use Rattle.f11_index.specs.Headers.{headers_of, headers_from, IsLastOf}
 use Rattle.f11_index.specs.Table.{Table, table_in, table_of, IsLive, IsNext, IsHeaderOf, IsWholeFile, first, next}
 use Rattle.f11_index.proofs.ChainLemmas.{file_of-header, live_of-header}
 use Rattle.f11_index.specs.IndexFile.{index_of}
@@ -245,7 +245,7 @@ module _ (old new : Image) (home : HomeFields) (f n m : ℕ) (block : List ℕ) 
   was-whole : IsWholeFile v f
   was-whole = last-whole v f n (record { of = may.stands.of; no_link = may.last })
 
-  m-stays : w.header m ≡ v.header m
+  pub m-stays : w.header m ≡ v.header m
   m-stays = wrote.slot.others.header m may.other may.to.in_use
 
   m-live : IsLive w m
@@ -269,8 +269,11 @@ module _ (old new : Image) (home : HomeFields) (f n m : ℕ) (block : List ℕ) 
   m-last : link_number w m ≡ 0
   m-last = ap (λ (b : List ℕ). (link_of b).number) m-stays ∙ may.no_link
 
+  pub last-linked : IsLastOf w f m
+  last-linked = record { of = next of-n goes; no_link = m-last }
+
   is-whole : IsWholeFile w f
-  is-whole = last-whole w f m (record { of = next of-n goes; no_link = m-last })
+  is-whole = last-whole w f m last-linked
 
   linked : HasHeaderMore f m v w
   linked =

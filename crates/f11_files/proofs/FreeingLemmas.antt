@@ -26,7 +26,7 @@ use Rattle.f11_writes.specs.Kept.{KeepsButFree}
 use Rattle.f11_writes.specs.NameLaws.{AreSpare}
 use Rattle.f11_writes.proofs.BitmapLemmas.{free-keeps}
 use Rattle.f11_writes.proofs.NameLemmas.{part-spare}
-use Rattle.f11_files.specs.Answers.{Writes, is_grave, is_refused}
+use Rattle.f11_files.specs.Answers.{Writes, Breaks, is_grave, is_refused}
 use Rattle.f11_files.specs.Drops.{FreesMore, Freeing, BreaksOff, GivesRun, with_more_free}
 use Rattle.f11_files.specs.StoreOf.{store_of}
 use Rattle.f11_files.specs.Structure.{index_in, bitmap_in, home_of, IsFor, StaysFor}
@@ -87,14 +87,17 @@ pub writes-none : (P : Image → Type 0) (n : ℕ) (disk : Disk) → Writes P n 
 writes-none P n disk = record { transfers = 0; went = went_looked P (looked_none disk); few = λ _. omega arith }
 
 -- what is broken off after more was done
-pub breaks-then : {home : HomeFields} {s t : Store} {m n : ℕ} {a b c : Disk} {r : Refusal} → (IsTrue a.honest → FreesMore s t) → Writes (Freeing home s a) m a b 0 → BreaksOff home t n r b c → BreaksOff home s (m + n) r a c
-breaks-then {home = home} {s = s} {t = t} {a = a} {b = b} frees one breaks = record {
+pub breaks-behind : {P Q : Image → Type 0} {a b c : Disk} {m n : ℕ} {r : Refusal} → ((image : Image) → Q image → P image) → Writes P m a b 0 → Breaks Q n r b c → Breaks P (m + n) r a c
+breaks-behind weaker one breaks = record {
   grave = breaks.grave;
   undamaged = λ honest. breaks.undamaged (one.went.honest ∙ honest);
-  writes = writes-then (freeing-more home s t a b one.went.honest frees) one breaks.writes;
+  writes = writes-then weaker one breaks.writes;
 }
 
-pub breaks-within : {home : HomeFields} {s : Store} {m n : ℕ} {old new : Disk} {r : Refusal} → (IsTrue old.honest → m ≤ n) → BreaksOff home s m r old new → BreaksOff home s n r old new
+pub breaks-then : {home : HomeFields} {s t : Store} {m n : ℕ} {a b c : Disk} {r : Refusal} → (IsTrue a.honest → FreesMore s t) → Writes (Freeing home s a) m a b 0 → BreaksOff home t n r b c → BreaksOff home s (m + n) r a c
+breaks-then {home = home} {s = s} {t = t} {a = a} {b = b} frees one breaks = breaks-behind (freeing-more home s t a b one.went.honest frees) one breaks
+
+pub breaks-within : {P : Image → Type 0} {m n : ℕ} {old new : Disk} {r : Refusal} → (IsTrue old.honest → m ≤ n) → Breaks P m r old new → Breaks P n r old new
 breaks-within fewer breaks = record { grave = breaks.grave; undamaged = breaks.undamaged; writes = writes-within fewer breaks.writes }
 
 -- a volume that was sound at each moment is sound at the end

@@ -9,6 +9,7 @@ pub mod LocateLemmas
 pub mod WriteLemmas
 pub mod BlockLemmas
 pub mod AlterLemmas
+pub mod FreeSlotLemmas
 pub mod CreateLemmas
 pub mod SpaceLemmas
 pub mod StoreLemmas
@@ -36,3 +37,15 @@ pub mod ZeroLemmas
 pub mod NameRunLemmas
 pub mod ClearLemmas
 pub mod LinkTailLemmas
+pub mod TakenSlotLemmas
+pub mod PieceLemmas
+pub mod PieceLagLemmas
+pub mod GrowingLemmas
+pub mod TakeLemmas
+pub mod ExtensionBlockLemmas
+pub mod EnterLemmas
+pub mod AddHeaderLemmas
+pub mod AppendRunLemmas
+pub mod AddRunLemmas
+pub mod ExtendByLemmas
+pub mod ExtendLemmas

@@ -14,25 +14,27 @@ use Rattle.f11_map.specs.InHand.{SetsLink}
 use Rattle.f11_map.specs.MapArea.{blocks_in}
 use Rattle.f11_index.specs.Growth.{with_header, IsGoodFor}
 use Rattle.f11_index.specs.HeaderBlock.{segment_number, link_of, blocks_named}
+use Rattle.f11_index.specs.Headers.{IsLastOf}
 use Rattle.f11_index.specs.IndexFile.{Index, header_lbn}
 use Rattle.f11_index.specs.Table.{Table, table_of, IsLive, IsNext}
 use Rattle.f11_index.proofs.ChainLemmas.{live_of-header}
 use Rattle.f11_store.specs.Changes.{with_change}
 use Rattle.f11_store.specs.declared.files.FileId.{FileId}
 use Rattle.f11_vfy.specs.Sound.{HasSoundVolume}
-use Rattle.f11_vfy.specs.Volume.{volume_of}
+use Rattle.f11_vfy.specs.Volume.{Volume, volume_of}
 use Rattle.f11_writes.specs.Kept.{WritesHeader}
 use Rattle.f11_writes.specs.Volumes.{MayName, MayBecome, links_anew}
 use Rattle.f11_writes.proofs.HeaderLemmas.{file-rewrite-keeps}
 use Rattle.f11_writes.proofs.NameLemmas.{own-names}
 use Rattle.f11_files.specs.FileLaws.{SaysAlike, HasPointersMore, LinksOnTo, with_header_more}
+use Rattle.f11_files.specs.Growing.{SameFree}
 use Rattle.f11_files.specs.Link.{MayFollow, Linking, LinksTail}
 use Rattle.f11_files.specs.Structure.{index_in, home_of, store_on, Lies, Keeps, IsFor}
 use Rattle.f11_files.specs.Tail.{HoldsLast, HasStore}
 use Rattle.f11_files.specs.declared.structure.Structure.{Structure}
 use Rattle.f11_files.specs.declared.tail.Tail.{Tail}
 use Rattle.f11_files.proofs.AlterLemmas.{keeps-header}
-use Rattle.f11_files.proofs.FileLemmas.{as-header, file-linked, of-now}
+use Rattle.f11_files.proofs.FileLemmas.{as-header, file-linked, last-linked, m-stays, of-now}
 use Rattle.f11_files.proofs.FirstLemmas.{table-of}
 use Rattle.f11_files.proofs.InstanceLemmas.{file-stored}
 use Rattle.f11_files.proofs.NameRunLemmas.{valid-again, sequence-again, alike-again}
@@ -146,6 +148,12 @@ module _ (s : Structure) (tail : Tail) (block : List ℕ) (id : FileId) (old : D
       blocks = blocks-are;
     }
 
+    last-now : IsLastOf (table_of next home) f id.number
+    last-now = last-linked old.image next home f n id.number block (as-header n block home old.image next wrote-link) links
+
+    header-stays : (table_of next home).header id.number ≡ t.header id.number
+    header-stays = m-stays old.image next home f n id.number block (as-header n block home old.image next wrote-link) links
+
     pub store-linked : HasStore home (with_change (store_on s old) f (with_header_more old.image t id.number)) next
     store-linked =
         let late : 2 ≤ f = omega (arith, own) in
@@ -183,6 +191,9 @@ module _ (s : Structure) (tail : Tail) (block : List ℕ) (id : FileId) (old : D
           sound = λ honest. let before = was-honest honest in subst (λ (i : Image). HasSoundVolume i home) (sym (image before)) (store-linked before).sound;
           keeps = λ honest. let before = was-honest honest in subst (Keeps s) (sym (image before)) (keeps-header s n block old.image next (wrote-link before) (for.keeps before));
         };
+        is_last = λ honest. subst (λ (i : Image). IsLastOf (table_of i home) f id.number) (sym (image honest)) (last-now honest);
+        header_stays = λ honest. ap (λ (i : Image). (table_of i home).header id.number) (image honest) ∙ header-stays honest;
         store = λ honest. subst (HasStore home (with_change (store_on s old) f (with_header_more old.image t id.number))) (sym (image honest)) (store-linked honest);
+        free = λ honest. subst (SameFree home old.image) (sym (image honest)) (ap (λ (v : Volume). v.free) (wrote-link honest).slot.volume);
         went = went;
       }

@@ -14,6 +14,7 @@ use Rattle.f11_home.specs.Home.{HomeFields}
 use Rattle.f11_map.specs.InHand.{RewritesMap, AppendsBlocks}
 use Rattle.f11_map.specs.MapArea.{runs_of}
 use Rattle.f11_map.specs.MapWriting.{joins, joins_last, with_blocks}
+use Rattle.f11_map.proofs.MapLemmas.{length-runs_of-le}
 use Rattle.f11_index.specs.Growth.{with_header, IsGoodFor}
 use Rattle.f11_index.specs.HeaderBlock.{segment_number, link_of, blocks_named}
 use Rattle.f11_index.specs.Headers.{IsLastOf}
@@ -23,14 +24,15 @@ use Rattle.f11_index.proofs.ChainLemmas.{live_of-header}
 use Rattle.f11_store.specs.Changes.{with_change}
 use Rattle.f11_store.specs.File.{zero_blocks}
 use Rattle.f11_vfy.specs.Sound.{HasSoundVolume}
-use Rattle.f11_vfy.specs.Volume.{volume_of}
+use Rattle.f11_vfy.specs.Volume.{Volume, volume_of}
 use Rattle.f11_writes.specs.Kept.{WritesHeader}
 use Rattle.f11_writes.specs.Volumes.{MayName, MayBecome, links_to_none}
 use Rattle.f11_writes.proofs.HeaderLemmas.{file-rewrite-keeps}
 use Rattle.f11_writes.proofs.NameLemmas.{more-names}
-use Rattle.f11_files.specs.FileLaws.{SaysAlike, HasPointersMore, NamesMoreOf, held_from, with_more_blocks}
+use Rattle.f11_files.specs.FileLaws.{SaysAlike, HasPointersMore, NamesMoreOf, held_from, room_in, with_more_blocks}
+use Rattle.f11_files.specs.Growing.{SameFree}
 use Rattle.f11_files.specs.Structure.{index_in, home_of, store_on, Lies, Keeps, IsFor}
-use Rattle.f11_files.specs.Tail.{HoldsLast, MayBeGiven, HasStore, pointers_more, with_zeros_more, Naming, NamesRun}
+use Rattle.f11_files.specs.Tail.{HoldsLast, MayBeGiven, HasStore, pointers_more, with_zeros_more, Naming, NamesRun, FailsToName}
 use Rattle.f11_files.specs.Zeros.{HoldsZeros}
 use Rattle.f11_files.specs.declared.structure.Structure.{Structure}
 use Rattle.f11_files.specs.declared.tail.Tail.{Tail}
@@ -59,13 +61,15 @@ held-zeros image lbn (suc count) holds =
     let here = holds.each lbn (omega arith) (omega arith) in
     λ i. here i ∷ rest i
 
+-- what is said where a map area was rewritten
+pub held-again : (was block : List ℕ) → IsTrue (holds_header was) → RewritesMap was block → IsTrue (holds_header block) × (header_fields block ≡ record (header_fields was) { map = map_area block })
+held-again was block holds rewrites =
+    held-from block (record (header_fields was) { map = map_area block }) (rewrites.fields ∙ ap (option_map (λ (h : HeaderFields). record h { map = map_area block })) (header_in-held was holds))
+
 -- a header whose map area was rewritten
 module _ (n : ℕ) (was block : List ℕ) (valid : IsHeader was n) (rewrites : RewritesMap was block) where
-  abbrev written : HeaderFields → HeaderFields
-  written h = record h { map = map_area block }
-
-  held : IsTrue (holds_header block) × (header_fields block ≡ written (header_fields was))
-  held = held-from block (written (header_fields was)) (rewrites.fields ∙ ap (option_map written) (header_in-held was valid.holds))
+  held : IsTrue (holds_header block) × (header_fields block ≡ record (header_fields was) { map = map_area block })
+  held = held-again was block valid.holds rewrites
 
   pub valid-again : IsHeader block n
   valid-again = record { number = ap (λ (h : HeaderFields). h.number) held.1 ∙ valid.number; holds = held.0; sum = rewrites.seals.sum }
@@ -103,6 +107,12 @@ module _ (was block : List ℕ) (lbn count : ℕ) (appends : AppendsBlocks was b
         ap (λ (m : ℕ). min m ((length (map_area block) - 10) / 2) / 2) appends.rest.most
         ∙ ap (λ (l : ℕ). min (most_words (map_area was)) ((l - 10) / 2) / 2) appends.rest.size;
   }
+
+  pub pointers-fit : pointers_more was lbn count ≤ room_in was
+  pointers-fit =
+      let has = pointers-more in
+      let within = length-runs_of-le (map_area block) appends.rest.valid in
+      omega (arith, has.pointers, has.places_are, within)
 
 -- it is a file's last, in hand
 module _ (s : Structure) (tail : Tail) (block : List ℕ) (lbn count : ℕ) (old : Disk) (for : IsFor s old) (last : HoldsLast s tail old) (own : 4 ≤ tail.file.number)
@@ -193,8 +203,8 @@ module _ (s : Structure) (tail : Tail) (block : List ℕ) (lbn count : ℕ) (old
     pub moment : Naming s tail lbn count old (set old.image place block)
     moment honest = subst (HasStore home (with_zeros_more f more count (store_on s old))) (sym (written-is honest)) (store-named honest)
 
-    pub fails-name : (new ≡ with_transfer false old) ⊎ (new ≡ with_transfer false (with_block_at place block old)) → Went (Naming s tail lbn count old) old new 1 1
-    fails-name is = went_failed_write (Naming s tail lbn count old) old new place block is moment
+    pub fails-name : (new ≡ with_transfer false old) ⊎ (new ≡ with_transfer false (with_block_at place block old)) → FailsToName s tail lbn count old new
+    fails-name is = record { fits = pointers-fit tail.block block lbn count appends; went = went_failed_write (Naming s tail lbn count old) old new place block is moment }
 
     module _ (is : new ≡ with_transfer true (with_block_at place block old)) where
       went : Went (Naming s tail lbn count old) old new 1 0
@@ -213,11 +223,12 @@ module _ (s : Structure) (tail : Tail) (block : List ℕ) (lbn count : ℕ) (old
         keeps = λ honest. let before = was-honest honest in subst (Keeps s) (sym (image before)) (keeps-header s n block old.image next (wrote-tail before) (for.keeps before));
       }
 
-      pub names-run : NamesRun s tail (record { file = tail.file; number = tail.number; block = block }) lbn count old new
+      pub names-run : NamesRun s tail (record tail { block = block }) lbn count old new
       names-run = record {
         file_is = refl;
         number_is = refl;
         pointers = pointers-more tail.block block lbn count appends;
+        fits = pointers-fit tail.block block lbn count appends;
         holds = record {
           header = record {
             in_use = last.header.in_use;
@@ -232,5 +243,6 @@ module _ (s : Structure) (tail : Tail) (block : List ℕ) (lbn count : ℕ) (old
         };
         is_for = for-new;
         store = λ honest. subst (HasStore home (with_zeros_more f more count (store_on s old))) (sym (image honest)) (store-named honest);
+        free = λ honest. subst (SameFree home old.image) (sym (image honest)) (ap (λ (v : Volume). v.free) (wrote-tail honest).slot.volume);
         went = went;
       }

@@ -7,7 +7,7 @@ use Rattle.std.proofs.lemmas.Bool.{cases_eq, eq-eqb, ne_eqb}
 use Rattle.f11_dev.specs.Image.{Image}
 use Rattle.f11_header.specs.Fields.{file_sequence, map_area, owner, protection, characteristics, attributes, ident_area}
 use Rattle.f11_header.specs.Header.{IsHeader}
-use Rattle.f11_header.specs.MapFields.{places, link, segment}
+use Rattle.f11_header.specs.MapFields.{places, link, segment, words_in_use}
 use Rattle.f11_header.proofs.HeaderFacts.{header_facts}
 use Rattle.f11_home.specs.Home.{HomeFields}
 use Rattle.f11_map.specs.MapArea.{run_at, runs_of, blocks_in}
@@ -64,6 +64,11 @@ slot-taken s n sequence next =
         ap (λ (b : Bool). cond b sequence (s.last m)) (ne_eqb m n apart)
         ∙ sym (ap (λ (b : Bool). cond (b || false) (next_sequence (s.last m)) (s.last m)) (ne_eqb n m (λ is. apart (sym is))))
 
+-- a map area without a pointer in use
+pub runs-none : (area : List ℕ) → words_in_use area ≡ 0 → runs_of area ≡ []
+unfolding runs_of
+runs-none area none = ap (λ (w : ℕ). map (run_at area) (range_with_len 0 (w / 2))) none
+
 module _ (id : FileId) (owned : Uic) (protects : ℕ) (ident attr empty block : List ℕ) (new : IsNewFirst id owned protects ident attr empty block) where
   -- an empty file with this ident area and these attributes
   says : SaysBut (λ f. record f { ident = ident; attr = attr }) empty block
@@ -73,8 +78,7 @@ module _ (id : FileId) (owned : Uic) (protects : ℕ) (ident attr empty block : 
   map-is = says.map
 
   no-runs : runs_of (map_area block) ≡ []
-  unfolding runs_of
-  no-runs = ap runs_of map-is ∙ ap (λ (w : ℕ). map (run_at (map_area empty)) (range_with_len 0 (w / 2))) new.blank.no_pointer
+  no-runs = ap runs_of map-is ∙ runs-none (map_area empty) new.blank.no_pointer
 
   names-none : blocks_named block ≡ []
   unfolding blocks_named

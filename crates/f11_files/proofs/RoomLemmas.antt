@@ -1,5 +1,7 @@
 -- Room for more blocks of a file.
-use Rattle.std.proofs.Common.{◌||◌, eqb, ◌≡◌, ◌≢◌, ◌-◌, ◌<◌, ℕ, Bool, true, false, cond, IsTrue, List, [], ◌∷◌, length, Some, None, refl, sym, ap, subst, ◌∙◌, arith}
+use Rattle.std.proofs.Common.{◌||◌, eqb, ◌≡◌, ◌≢◌, ◌-◌, ◌+◌, ◌<◌, ◌≤◌, inl, inr, ltb, ℕ, Bool, true, false, cond, IsTrue, List, [], ◌∷◌, ◌++◌, length, length-append, Some, None, refl, sym, ap, subst, ◌∙◌, arith}
+use Rattle.std.proofs.lemmas.Bool.{cases_lt, lt-ltb}
+use Rattle.std.proofs.lemmas.Option.{none-some}
 use Rattle.f11_dev.specs.Disk.{Disk}
 use Rattle.f11_dev.specs.Image.{Image}
 use Rattle.f11_header.specs.Fields.{map_area}
@@ -8,12 +10,12 @@ use Rattle.f11_index.specs.HeaderBlock.{segment_number}
 use Rattle.f11_index.specs.Headers.{headers_of, IsLastOf}
 use Rattle.f11_index.specs.Table.{Table, table_of, first}
 use Rattle.f11_index.proofs.ChainLemmas.{file_of-header, live_of-header}
-use Rattle.f11_index.proofs.HeadersLemmas.{Comes-header, Comes-last, last-whole, live-some}
+use Rattle.f11_index.proofs.HeadersLemmas.{Comes, Comes-header, Comes-last, last-whole, live-some}
 use Rattle.f11_chain.specs.Calls.{table, ReadsLast}
 use Rattle.f11_chain.specs.declared.blocks.FileEnd.{FileEnd}
 use Rattle.f11_store.specs.Causes.{◌⇐◌, first_of, is_missing, growth_causes}
 use Rattle.f11_store.specs.Cost.{header_count}
-use Rattle.f11_store.specs.File.{File}
+use Rattle.f11_store.specs.File.{File, need}
 use Rattle.f11_store.specs.Refusal.{refusal_number}
 use Rattle.f11_store.specs.Store.{Store, file_named, free_headers}
 use Rattle.f11_store.specs.declared.files.FileId.{FileId}
@@ -63,17 +65,32 @@ light false true c r is = let same : DeviceFull ≡ r = cc in subst IsLight same
 light false false true r is = let same : NoHeader ≡ r = cc in subst IsLight same record { not_failed = λ no. omega (arith, no); not_damaged = λ no. omega (arith, no); no_fault = refl; among = λ s f n. refl }
 light false false false r is = absurd cc
 
+-- where there is no cause, there are not too many headers
+no-more-headers : (headers : ℕ) (b c : Bool) → first_of ((TooManySegments ⇐ ltb 256 headers) ∷ (DeviceFull ⇐ b) ∷ (NoHeader ⇐ c) ∷ []) ≡ None → headers ≤ 256
+no-more-headers headers b c none = elim (cases_lt 256 headers) [
+  | inl more ↦ absurd (none-some TooManySegments (sym none ∙ ap (λ (a : Bool). cond a (Some TooManySegments) (first_of ((DeviceFull ⇐ b) ∷ (NoHeader ⇐ c) ∷ []))) (lt-ltb 256 headers more)))
+  | inr few ↦ few
+]
+
 -- the room of a file is that of its last header
 module _ (image : Image) (t : Table) (f n : ℕ) (last : IsLastOf t f n) (few : segment_number (t.header n) < 256) where
   reached : headers_reached t f ≡ headers_of t f
   reached = reached-are 256 t f (last-whole t f n last) (first (file_of-header last.of))
 
+  before : (behind : List ℕ) × Comes t f n (segment_number (t.header n)) behind
+  before = Comes-header last.of few
+
+  split : headers_of t f ≡ before.0 ++ n ∷ []
+  split = Comes-last t f n (segment_number (t.header n)) before.0 before.1 (live-some (live_of-header last.of)) few last.no_link
+
   pub room-is : (file_of image t f).room ≡ room_in (t.header n)
   unfolding file_of
-  room-is =
-      let before = Comes-header last.of few in
-      let split = Comes-last t f n (segment_number (t.header n)) before.0 before.1 (live-some (live_of-header last.of)) few last.no_link in
-      ap (room_left t) (reached ∙ split) ∙ ap (λ (m : ℕ). places (map_area (t.header m)) - pointer_count t m) (last-behind before.0 n)
+  room-is = ap (room_left t) (reached ∙ split) ∙ ap (λ (m : ℕ). places (map_area (t.header m)) - pointer_count t m) (last-behind before.0 n)
+
+  -- and it has as many headers as that one says
+  pub count-is : length (file_of image t f).held ≡ segment_number (t.header n) + 1
+  unfolding file_of
+  count-is = ap (λ (hs : List ℕ). length hs) (reached ∙ split) ∙ length-append before.0 (n ∷ []) ∙ ap (λ (c : ℕ). c + 1) before.1.count
 
 -- a file's first header in hand, and its last
 module _ (s : Structure) (f : FileId) (block : List ℕ) (old : Disk) (for : IsFor s old) (holds : HoldsFile (index_in s) f block old) (end : FileEnd) (after : List ℕ) (new : Disk)
@@ -116,7 +133,12 @@ module _ (s : Structure) (f : FileId) (block : List ℕ) (old : Disk) (for : IsF
         ∙ ap (λ (k : ℕ). first_of (room_causes end.headers room free k n)) (sym (space honest).headers_are)
 
     pub finds-room : first_of (room_causes end.headers room free headers n) ≡ None → FindsRoom s f n end block after old new
-    finds-room none = record { no_cause = λ honest. causes-are honest ∙ none; holds = holds; ends = goes }
+    finds-room none = record {
+      no_cause = λ honest. causes-are honest ∙ none;
+      holds = holds;
+      few = subst (λ (k : ℕ). end.headers + need k n ≤ 256) room_is (no-more-headers (end.headers + need room n) _ _ none);
+      ends = goes;
+    }
 
     pub lacks-room : (r : Refusal) → first_of (room_causes end.headers room free headers n) ≡ Some r → FailsToRead false (extend_causes st f n) (header_count (file_named st f)) r old new
     lacks-room r is =

@@ -63,6 +63,12 @@ pub record IsRight (failed honest : Bool) (causes : List Cause) (refusal : Refus
   pub cause : IsTrue honest → is_cause refusal ≡ true → first_of causes ≡ Some refusal
   pub undamaged : IsTrue honest → refusal ≢ Damaged
 
+-- A part of a call broke off: a transfer failed, or on a disk that isn't honest something wasn't as it should be.
+pub record Breaks (P : Image → Type 0) (most : ℕ) (refusal : Refusal) (old new : Disk) : Type 0 where
+  pub grave : is_grave refusal ≡ true
+  pub undamaged : IsTrue old.honest → refusal ≢ Damaged
+  pub writes : Writes P most old new (faults_of refusal)
+
 -- A call that only reads was refused.
 pub record FailsToRead (failed : Bool) (causes : List Cause) (most : ℕ) (refusal : Refusal) (old new : Disk) : Type 0 where
   pub right : IsRight failed old.honest causes refusal

@@ -1,11 +1,15 @@
 -- The contiguous mark of a file is cleared, before it grows (Files-11 On-Disk Structure Level 1, "File Header", H.UCHA).
-use Rattle.std.specs.Prelude.{ℕ, IsTrue, List}
+use Rattle.std.specs.Prelude.{◌≡◌, ℕ, IsTrue, List}
 use Rattle.f11_dev.specs.Disk.{Disk}
 use Rattle.f11_dev.specs.Image.{Image}
 use Rattle.f11_dev.specs.Went.{Went}
+use Rattle.f11_index.specs.HeaderBlock.{link_of}
+use Rattle.f11_index.specs.Headers.{IsLastOf}
+use Rattle.f11_index.specs.Table.{table_of}
 use Rattle.f11_store.specs.Changes.{with_change}
 use Rattle.f11_store.specs.Lags.{with_no_mark}
 use Rattle.f11_store.specs.declared.files.FileId.{FileId}
+use Rattle.f11_writes.specs.OtherSlots.{KeepsOtherSlots}
 use Rattle.f11_files.specs.First.{HoldsFile}
 use Rattle.f11_files.specs.Structure.{index_in, home_of, store_on, IsFor}
 use Rattle.f11_files.specs.Tail.{HasStore}
@@ -15,9 +19,12 @@ use Rattle.f11_files.specs.declared.structure.Structure.{Structure}
 abbrev pub Clearing : Structure → FileId → Disk → Image → Type 0
 Clearing s f old image = IsTrue old.honest → HasStore (home_of s) (with_change (store_on s old) f.number with_no_mark) image
 
--- It has none: its first header was written where it had one.
-pub record ClearsMark (s : Structure) (f : FileId) (block : List ℕ) (old new : Disk) : Type 0 where
+-- It has none: its first header was written where it had one, and all else is as it was, the file's last header too.
+pub record ClearsMark (s : Structure) (f : FileId) (was block : List ℕ) (old new : Disk) : Type 0 where
   pub holds : HoldsFile (index_in s) f block new
+  pub link : link_of block ≡ link_of was
+  pub slots : IsTrue old.honest → KeepsOtherSlots f.number (table_of old.image (home_of s)) (table_of new.image (home_of s))
+  pub last : IsTrue old.honest → (n : ℕ) → IsLastOf (table_of old.image (home_of s)) f.number n → IsLastOf (table_of new.image (home_of s)) f.number n
   pub is_for : IsFor s new
   pub store : Clearing s f old new.image
   pub went : Went (Clearing s f old) old new 1 0

@@ -1,5 +1,5 @@
 -- What stands while headers go, each in three steps (profile): it is killed, its slot leaves use, and its blocks are marked free.
-use Rattle.std.specs.Prelude.{◌≡◌, ◌≢◌, ℕ, ◌+◌, ◌-◌, ◌*◌, ◌<◌, ◌≤◌, true, false, IsTrue, List, [], ◌∷◌, length, None, sum_by, Some}
+use Rattle.std.specs.Prelude.{◌≡◌, ℕ, ◌+◌, ◌-◌, ◌*◌, ◌<◌, ◌≤◌, true, false, IsTrue, List, [], ◌∷◌, length, None, sum_by, Some}
 use Rattle.std.specs.List.{slice_get}
 use Rattle.f11_bits.specs.Bitmap.{Marks}
 use Rattle.f11_dev.specs.Disk.{Disk}
@@ -15,13 +15,12 @@ use Rattle.f11_store.specs.Changes.{with_file, without_slots}
 use Rattle.f11_store.specs.Lags.{SameLimits}
 use Rattle.f11_store.specs.Store.{Store}
 use Rattle.f11_store.specs.declared.refusals.Refusal.{Refusal}
-use Rattle.f11_store.specs.declared.refusals.Refusal.TheVariants.{Damaged}
 use Rattle.f11_vfy.specs.Contents.{pointer_count}
 use Rattle.f11_vfy.specs.Sound.{HasSoundVolume}
 use Rattle.f11_vfy.specs.Space.{storage_bitmap}
 use Rattle.f11_vfy.specs.Volume.{Volume, volume_of, IsNamed}
 use Rattle.f11_writes.specs.OtherSlots.{KeepsOtherSlots}
-use Rattle.f11_files.specs.Answers.{is_grave, faults_of, Writes}
+use Rattle.f11_files.specs.Answers.{Writes, Breaks}
 use Rattle.f11_files.specs.FileLaws.{pointers_in}
 use Rattle.f11_files.specs.SlotLaws.{with_use}
 use Rattle.f11_files.specs.StoreOf.{store_of}
@@ -44,11 +43,9 @@ pub record IsFreeing (home : HomeFields) (s : Store) (image : Image) : Type 0 wh
 abbrev pub Freeing : HomeFields → Store → Disk → Image → Type 0
 Freeing home s old image = IsTrue old.honest → IsFreeing home s image
 
--- It broke off: a transfer failed, or on a disk that isn't honest a header or a block wasn't as it should be.
-pub record BreaksOff (home : HomeFields) (s : Store) (most : ℕ) (refusal : Refusal) (old new : Disk) : Type 0 where
-  pub grave : is_grave refusal ≡ true
-  pub undamaged : IsTrue old.honest → refusal ≢ Damaged
-  pub writes : Writes (Freeing home s old) most old new (faults_of refusal)
+-- it broke off
+abbrev pub BreaksOff : HomeFields → Store → ℕ → Refusal → Disk → Disk → Type 0
+BreaksOff home s most refusal old new = Breaks (Freeing home s old) most refusal old new
 
 -- So many blocks from an LBN on were marked free.
 pub record GivesRun (home : HomeFields) (lbn count : ℕ) (old new : Disk) : Type 0 where

@@ -27,3 +27,8 @@ pub mod Zeros
 pub mod Tail
 pub mod Clear
 pub mod Link
+pub mod Pieces
+pub mod Growing
+pub mod Take
+pub mod Extension
+pub mod Extend

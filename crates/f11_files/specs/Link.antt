@@ -5,11 +5,12 @@ use Rattle.f11_dev.specs.Image.{Image}
 use Rattle.f11_dev.specs.Went.{Went}
 use Rattle.f11_header.specs.Fields.{file_sequence}
 use Rattle.f11_index.specs.HeaderBlock.{segment_number, link_of}
-use Rattle.f11_index.specs.Headers.{IsInFile}
+use Rattle.f11_index.specs.Headers.{IsInFile, IsLastOf}
 use Rattle.f11_index.specs.Table.{Table, table_of, IsLive, IsNext}
 use Rattle.f11_store.specs.Changes.{with_change}
 use Rattle.f11_store.specs.declared.files.FileId.{FileId}
 use Rattle.f11_files.specs.FileLaws.{with_header_more}
+use Rattle.f11_files.specs.Growing.{SameFree}
 use Rattle.f11_files.specs.Structure.{home_of, store_on, IsFor}
 use Rattle.f11_files.specs.Tail.{HasStore}
 use Rattle.f11_files.specs.declared.structure.Structure.{Structure}
@@ -30,8 +31,11 @@ Linking s tail id old image =
     let t = table_of old.image (home_of s) in
     IsTrue old.honest → HasStore (home_of s) (with_change (store_on s old) tail.file.number (with_header_more old.image t id.number)) image
 
--- The link was written.
+-- The link was written: the header is the file's last one then, and as it was.
 pub record LinksTail (s : Structure) (tail : Tail) (id : FileId) (old new : Disk) : Type 0 where
   pub is_for : IsFor s new
+  pub is_last : IsTrue old.honest → IsLastOf (table_of new.image (home_of s)) tail.file.number id.number
+  pub header_stays : IsTrue old.honest → (table_of new.image (home_of s)).header id.number ≡ (table_of old.image (home_of s)).header id.number
   pub store : Linking s tail id old new.image
+  pub free : IsTrue old.honest → SameFree (home_of s) old.image new.image
   pub went : Went (Linking s tail id old) old new 1 0

@@ -18,6 +18,7 @@ use Rattle.f11_vfy.specs.Sound.{HasSoundVolume}
 use Rattle.f11_vfy.specs.Volume.{volume_of}
 use Rattle.f11_writes.specs.NameLaws.{AreSpare}
 use Rattle.f11_files.specs.FileLaws.{HasPointersMore, room_in, with_more_blocks}
+use Rattle.f11_files.specs.Growing.{SameFree}
 use Rattle.f11_files.specs.StoreOf.{store_of}
 use Rattle.f11_files.specs.Structure.{index_in, home_of, store_on, IsFor}
 use Rattle.f11_files.specs.Zeros.{HoldsZeros}
@@ -62,10 +63,17 @@ pub record NamesRun (s : Structure) (tail after : Tail) (lbn count : ℕ) (old n
   pub file_is : after.file ≡ tail.file
   pub number_is : after.number ≡ tail.number
   pub pointers : HasPointersMore (pointers_more tail.block lbn count) tail.block after.block
+  pub fits : pointers_more tail.block lbn count ≤ room_in tail.block
   pub holds : HoldsLast s after new
   pub is_for : IsFor s new
   pub store : Naming s tail lbn count old new.image
+  pub free : IsTrue old.honest → SameFree (home_of s) old.image new.image
   pub went : Went (Naming s tail lbn count old) old new 1 0
+
+-- The transfer failed.
+pub record FailsToName (s : Structure) (tail : Tail) (lbn count : ℕ) (old new : Disk) : Type 0 where
+  pub fits : pointers_more tail.block lbn count ≤ room_in tail.block
+  pub went : Went (Naming s tail lbn count old) old new 1 1
 
 -- The header has no place for these blocks, and they join no pointer of it: nothing was done.
 pub record HasNoPlace (tail after : Tail) (lbn count : ℕ) (old new : Disk) : Type 0 where

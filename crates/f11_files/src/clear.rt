@@ -27,7 +27,7 @@ impl Structure {
         requires own { 4 ≤ f.number }
         requires holds { HoldsFile (index_in self.now) f first.old (D.disk device.old) }
         ensures clears { OnOk result
-            (ClearsMark self.now f first.new (D.disk device.old) (D.disk device.new)) }
+            (ClearsMark self.now f first.old first.new (D.disk device.old) (D.disk device.new)) }
         ensures failed { OnErr result (Went (Clearing self.now f (D.disk device.old))
             (D.disk device.old) (D.disk device.new) 1 1) }
     {

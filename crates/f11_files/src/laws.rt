@@ -5,6 +5,7 @@ ghost use Rattle.f11_files.specs.FileLaws as files;
 ghost use Rattle.f11_files.specs.FreshStore as fresh;
 ghost use Rattle.f11_files.specs.LooseLaws as loose;
 ghost use Rattle.f11_files.specs.NewFileLaws as new;
+ghost use Rattle.f11_files.specs.Pieces as pieces;
 ghost use Rattle.f11_files.specs.SlotLaws as slots;
 ghost use Rattle.f11_files.specs.StoreLaws as laws;
 
@@ -100,6 +101,28 @@ pub fn loose_headers()
 pub fn extensions()
     ensures taken { extensions.SlotIsTaken }
     ensures entered { extensions.ExtensionMayBeEntered }
+{}
+
+/// A file of the plain store that grows piece by piece.
+pub fn pieces()
+    ensures none { pieces.NoneIsExtended }
+    ensures add { pieces.ExtensionsAdd }
+    ensures fewer { pieces.FewerMayExtend }
+    ensures others { pieces.OthersMayExtend }
+{}
+
+/// What stands meanwhile lags the store before.
+pub fn pieces_under_way()
+    ensures extended { pieces.ExtendedLags }
+    ensures taken { pieces.TakenLags }
+    ensures taking_adds { pieces.TakingAdds }
+{}
+
+/// A file whose contiguous mark is cleared before it grows.
+pub fn cleared_marks()
+    ensures may { pieces.ClearedMayExtend }
+    ensures extends { pieces.ClearedExtends }
+    ensures lags { pieces.ClearedLags }
 {}
 
 /// The store of a fresh volume.

@@ -13,6 +13,8 @@ mod clear;
 mod create;
 mod delete;
 mod drops;
+mod extend;
+mod extension;
 mod fields;
 mod files;
 mod first;
@@ -25,6 +27,7 @@ mod open;
 mod room;
 mod structure;
 mod tail;
+mod take;
 mod truncate;
 mod zeros;
 

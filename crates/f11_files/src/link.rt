@@ -1,5 +1,5 @@
 //! The link of a file's last header to a new one.
-ghost use Rattle.std.specs.Prelude.{◌≤◌, ◌<◌, IsTrue, OnOk, OnErr};
+ghost use Rattle.std.specs.Prelude.{◌≡◌, ◌≤◌, ◌<◌, IsTrue, OnOk, OnErr};
 ghost use Rattle.f11_dev.specs.Went.{Went};
 ghost use Rattle.f11_files.specs.Link.{MayFollow, Linking, LinksTail};
 ghost use Rattle.f11_files.specs.Structure.{home_of, IsFor};
@@ -31,6 +31,7 @@ impl Structure {
         requires early { segment_number tail.old.block < 255 }
         requires next { IsTrue (D.disk device.old).honest
             → MayFollow (table_of (D.disk device.old).image (home_of self.now)) tail.old id }
+        ensures file { tail.new.file ≡ tail.old.file }
         ensures links { OnOk result
             (LinksTail self.now tail.old id (D.disk device.old) (D.disk device.new)) }
         ensures failed { OnErr result (Went (Linking self.now tail.old id (D.disk device.old))

@@ -1,8 +1,7 @@
 //! Blocks that a file's last header is to name.
 ghost use Rattle.std.specs.Prelude.{◌≡◌, ◌≤◌, false, IsTrue, IfOk, OnErr};
-ghost use Rattle.f11_dev.specs.Went.{Went};
 ghost use Rattle.f11_files.specs.Structure.{home_of, IsFor};
-ghost use Rattle.f11_files.specs.Tail.{HoldsLast, MayBeGiven, Naming, NamesRun, HasNoPlace};
+ghost use Rattle.f11_files.specs.Tail.{HoldsLast, MayBeGiven, NamesRun, FailsToName, HasNoPlace};
 
 use crate::structure::Structure;
 use crate::tail::Tail;
@@ -31,8 +30,8 @@ impl Structure {
             → NamesRun self.now tail.old tail.new lbn count (D.disk device.old) (D.disk device.new)) }
         ensures full { IfOk result (λ named. named ≡ false
             → HasNoPlace tail.old tail.new lbn count (D.disk device.old) (D.disk device.new)) }
-        ensures failed { OnErr result (Went (Naming self.now tail.old lbn count (D.disk device.old))
-            (D.disk device.old) (D.disk device.new) 1 1) }
+        ensures failed { OnErr result
+            (FailsToName self.now tail.old lbn count (D.disk device.old) (D.disk device.new)) }
     {
         match append(&mut tail.block, lbn, count) {
             Ok(()) => {}

@@ -18,7 +18,7 @@ const USER: Uic = Uic {
 };
 
 /// The identification of a file.
-fn id(number: u16, sequence: u16) -> FileId
+pub fn id(number: u16, sequence: u16) -> FileId
     ensures number { result.number ≡ number }
     ensures volume { result.volume ≡ 0 }
 {
@@ -46,7 +46,7 @@ pub fn opened<D: Device + Drop>(alloc: Global, device: D) -> Result<Files<D>, Fa
 }
 
 /// Whether the volume of a device is accepted.
-fn is_accepted<D: Device + Drop>(alloc: Global, device: D) -> bool {
+pub fn is_accepted<D: Device + Drop>(alloc: Global, device: D) -> bool {
     matches!(verify(alloc, device), Ok(Report::Accepted(_, _)))
 }
 
@@ -174,6 +174,23 @@ fn a_header_that_is_lost_is_damage(rt: HostRuntime) -> Result<(), Fail> {
 }
 
 #[test]
+fn a_file_is_cut(rt: HostRuntime) -> Result<(), Fail> {
+    let mut files = opened(rt.alloc(), in_two_headers(rt.alloc(), 6, 1)?)?;
+    let f = id(6, 1);
+    assert_eq!(rt; files.truncate(f, 3), Err(Refusal::EndOfFile));
+    assert_eq!(rt; files.truncate(id(6, 2), 0), Err(Refusal::NoSuchFile));
+    assert_eq!(rt; files.truncate(f, 2), Ok(2));
+    assert_eq!(rt; files.space(), (0, 9, 16));
+    assert_eq!(rt; files.truncate(f, 1), Ok(1));
+    assert_eq!(rt; files.space(), (1, 10, 16));
+    assert_eq!(rt; files.length(f), Ok(1));
+    assert_eq!(rt; files.truncate(f, 0), Ok(0));
+    assert_eq!(rt; files.space(), (2, 10, 16));
+    assert!(rt; !files.failed() && is_accepted(rt.alloc(), files.abandon()));
+    Ok(())
+}
+
+#[test]
 fn headers_and_blocks_of_a_file_go(rt: HostRuntime) -> Result<(), Fail> {
     let mut files = opened(rt.alloc(), in_two_headers(rt.alloc(), 6, 1)?)?;
     assert_eq!(rt; files.space(), (0, 9, 16));
@@ -200,6 +217,8 @@ fn calls<D: Device>(files: &mut Files<D>) -> bool {
         files.length(id(4, 4)).err(),
         files.read_block(id(4, 4), 1, &mut block).err(),
         files.write_block(id(4, 4), 1, &block).err(),
+        files.extend(id(4, 4), 1).err(),
+        files.truncate(id(4, 4), 1).err(),
         files.delete(id(6, 1)).err(),
     ];
     let failed = answers
@@ -225,10 +244,10 @@ fn a_transfer_of_a_call_fails(rt: HostRuntime) -> Result<(), Fail> {
     let opened_at = files.lent().transfers();
     assert!(rt; calls(&mut files) && !files.failed());
     let done = files.lent().transfers().saturating_sub(opened_at);
-    // three each of create and delete, one or two of each other
-    assert_eq!(rt; done, 16);
+    // three each of create and delete, five of extend, four of truncate, one or two of each other
+    assert_eq!(rt; done, 25);
     let first = opened_at.saturating_sub(made);
-    for k in 1..=16 {
+    for k in 1..=25 {
         for lands in [false, true] {
             let device = FailOnce::new(small(rt.alloc(), &[])?, first.saturating_add(k), lands);
             let mut files = opened(rt.alloc(), device)?;

@@ -9,6 +9,8 @@ mod bitmap;
 #[cfg(test)]
 mod directories;
 #[cfg(test)]
+mod extends;
+#[cfg(test)]
 mod files;
 #[cfg(test)]
 mod fixtures;

@@ -10,7 +10,7 @@ returns-then-not-clear_contiguous-clause-clears g c =
     let s = c.args.self.now in
     let old = g.D.Device.disk c.args.device.now in
     let none = c.if-not-clear_contiguous.true in
-    subst (λ (b : List ℕ). ClearsMark s c.args.f b old old) (sym (c.clear_contiguous.ensures.unchanged none))
+    subst (λ (b : List ℕ). ClearsMark s c.args.f c.args.first.now b old old) (sym (c.clear_contiguous.ensures.unchanged none))
     (clears-none s c.args.f c.args.first.now old c.requires.is_for c.requires.own c.requires.holds (c.clear_contiguous.ensures.none none))
 
 pub lbn_of_header-requires-clause-slot : goal.lbn_of_header-requires-clause-slot

@@ -1,0 +1,18 @@
+use Rattle.f11_files.proofs.FilesLemmas.{files-for}
+use Rattle.f11_files.specs.Structure.{StaysFor}
+use Rattle.f11_files.proofs.OpenLemmas.{stays-opened}
+use Rattle.f11_files.proofs.WriteLemmas.{had-failed}
+use Rattle.f11_files.proofs.files.Files.extend.Goals as goal
+
+pub extend-answer-requires-clause-is_for : goal.extend-answer-requires-clause-is_for
+extend-answer-requires-clause-is_for g c = files-for c.args.self.now (g.met.D.Device.is_image c.args.self.now.device) c.if-self.false
+
+pub invariant_of-self : goal.invariant_of-self
+invariant_of-self g c =
+    let failed = c.is_grave-self.result in
+    let stays : StaysFor failed c.args.self.now.structure c.extend-answer.new.self (g.D.Device.disk c.extend-answer.new.device) = rw c.is_grave-self.ensures c.extend-answer.ensures.stays in
+    let is = stays-opened _ _ failed _ (g.met.D.Device.is_image c.extend-answer.new.device) stays in
+    record { lies = is.lies; accepted = is.accepted; home = is.home; keeps = is.keeps }
+
+pub returns-then-self-clause-refused : goal.returns-then-self-clause-refused
+returns-then-self-clause-refused g c = had-failed _ c.if-self.true

@@ -1,0 +1,52 @@
+use Rattle.std.proofs.Common.{arith}
+use Rattle.f11_files.proofs.AddHeaderLemmas.{too-many, some-free, fails-enter, fails-link, failed-link-stays, appends-linked}
+use Rattle.f11_files.proofs.AnswerLemmas.{handed}
+use Rattle.f11_files.proofs.ExtensionBlockLemmas.{segment-said}
+use Rattle.f11_files.proofs.FreeingLemmas.{stays-for}
+use Rattle.f11_files.proofs.structure.Structure.add_header.Goals as goal
+
+pub returns-then-segment-eq-LAST_SEGMENT-clause-refused : goal.returns-then-segment-eq-LAST_SEGMENT-clause-refused
+returns-then-segment-eq-LAST_SEGMENT-clause-refused g c =
+    let is = segment-said c.args.tail.now.block _ c.segment.result c.map.ensures c.segment.ensures in
+    too-many c.args.self.now c.args.tail.now c.args.lbn c.args.count (g.D.Device.disk c.args.device.now) c.requires.is_for c.requires.last c.requires.own c.requires.given c.requires.full c.requires.may
+    (omega (arith, is, c.if-segment-eq-LAST_SEGMENT.true))
+
+pub enter_header-requires-clause-early : goal.enter_header-requires-clause-early
+enter_header-requires-clause-early g c =
+    let is = segment-said c.args.tail.now.block _ c.segment.result c.map.ensures c.segment.ensures in
+    omega (arith, is, c.if-segment-eq-LAST_SEGMENT.false, c.requires.last.few)
+
+pub enter_header-requires-clause-free : goal.enter_header-requires-clause-free
+enter_header-requires-clause-free g c =
+    some-free c.args.self.now c.args.tail.now c.args.lbn c.args.count (g.D.Device.disk c.args.device.now) c.requires.is_for c.requires.last c.requires.own c.requires.given c.requires.full c.requires.may
+
+pub returns-in_err-id-clause-refused : goal.returns-in_err-id-clause-refused
+returns-in_err-id-clause-refused g c =
+    handed _ c.from_residual.result _ c.from_residual.ensures.1
+    (fails-enter c.args.self.now c.args.tail.now c.args.lbn c.args.count (g.D.Device.disk c.args.device.now) c.requires.is_for c.requires.last c.requires.own c.requires.given c.requires.full c.requires.may
+    _ _ c.in_err-id.ensures.refused)
+
+pub link_tail-requires-clause-is_for : goal.link_tail-requires-clause-is_for
+link_tail-requires-clause-is_for g c = stays-for c.in_ok-id.ensures.stays
+
+pub link_tail-requires-clause-early : goal.link_tail-requires-clause-early
+link_tail-requires-clause-early g c =
+    let is = segment-said c.args.tail.now.block _ c.segment.result c.map.ensures c.segment.ensures in
+    omega (arith, is, c.if-segment-eq-LAST_SEGMENT.false, c.requires.last.few)
+
+pub returns-in-Err-clause-refused : goal.returns-in-Err-clause-refused
+returns-in-Err-clause-refused g c =
+    fails-link c.args.self.now c.args.tail.now c.args.lbn c.args.count (g.D.Device.disk c.args.device.now) c.requires.is_for c.requires.last c.requires.own c.requires.given c.requires.full c.requires.may
+    _ c.in_ok-id.id c.enter_header.new.block _ c.in_ok-id.ensures.entered c.in_ok-id.ensures.stays _ c.in-Err.ensures.failed
+
+pub returns-in-Err-clause-stays : goal.returns-in-Err-clause-stays
+returns-in-Err-clause-stays g c =
+    failed-link-stays c.args.self.now c.args.tail.now c.args.lbn c.args.count (g.D.Device.disk c.args.device.now) c.requires.is_for c.requires.last c.requires.own c.requires.given c.requires.full c.requires.may
+    _ c.in_ok-id.id c.enter_header.new.block _ c.in_ok-id.ensures.entered c.in_ok-id.ensures.stays _ c.in-Err.ensures.failed
+
+pub returns-clause-appended : goal.returns-clause-appended
+returns-clause-appended g c =
+    let is = segment-said c.args.tail.now.block _ c.segment.result c.map.ensures c.segment.ensures in
+    appends-linked c.args.self.now c.args.tail.now c.args.lbn c.args.count (g.D.Device.disk c.args.device.now) c.requires.is_for c.requires.last c.requires.own c.requires.given c.requires.full c.requires.may
+    _ c.in_ok-id.id c.enter_header.new.block _ c.in_ok-id.ensures.entered c.in_ok-id.ensures.stays _ c.in-Ok.ensures.links
+    (omega (arith, is, c.if-segment-eq-LAST_SEGMENT.false, c.requires.last.few)) _ _ _ c.link_tail.ensures.file

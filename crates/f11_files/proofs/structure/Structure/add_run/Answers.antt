@@ -1,0 +1,23 @@
+use Rattle.f11_files.proofs.AddRunLemmas.{fails-take, run-last, run-may, fails-append, adds-run}
+use Rattle.f11_files.proofs.AnswerLemmas.{handed}
+use Rattle.f11_files.proofs.structure.Structure.add_run.Goals as goal
+
+pub returns-in_err-lbn-clause-refused : goal.returns-in_err-lbn-clause-refused
+returns-in_err-lbn-clause-refused g c =
+    handed _ c.from_residual.result _ c.from_residual.ensures.1 (fails-take c.args.self.now c.args.tail.now c.args.from c.args.most _ _ _ c.in_err-lbn.ensures.refused)
+
+pub append_run-requires-clause-last : goal.append_run-requires-clause-last
+append_run-requires-clause-last g c = run-last c.args.self.now _ c.args.tail.now c.args.from c.args.most _ _ _ _ c.requires.is_for c.requires.last c.requires.may c.in_ok-lbn.ensures.taken (rw c.in_ok-lbn.was at c.take_run.ensures.stays)
+
+pub append_run-requires-clause-may : goal.append_run-requires-clause-may
+append_run-requires-clause-may g c = run-may c.args.self.now _ c.args.tail.now c.args.from c.args.most _ _ _ _ c.requires.is_for c.requires.last c.requires.may c.in_ok-lbn.ensures.taken (rw c.in_ok-lbn.was at c.take_run.ensures.stays)
+
+pub returns-in_err-append_run-clause-refused : goal.returns-in_err-append_run-clause-refused
+returns-in_err-append_run-clause-refused g c =
+    handed _ c.from_residual-in_err-append_run.result _ c.from_residual-in_err-append_run.ensures.1
+    (fails-append c.args.self.now _ c.args.tail.now c.args.from c.args.most _ _ _ _ c.requires.is_for c.requires.last c.requires.may c.in_ok-lbn.ensures.taken (rw c.in_ok-lbn.was at c.take_run.ensures.stays) _ _ c.in_err-append_run.ensures.refused)
+
+pub returns-clause-added : goal.returns-clause-added
+returns-clause-added g c =
+    adds-run c.args.self.now _ c.args.tail.now c.args.from c.args.most _ _ _ _ c.requires.is_for c.requires.last c.requires.may c.in_ok-lbn.ensures.taken (rw c.in_ok-lbn.was at c.take_run.ensures.stays) _ _ _ c.in_ok-append_run.ensures.appended
+    (rw c.in_ok-append_run.was at c.append_run.ensures.stays)

@@ -1,0 +1,30 @@
+use Rattle.f11_files.proofs.AnswerLemmas.{handed}
+use Rattle.f11_files.proofs.ExtendLemmas.{fails-clearing, stays-clearing, holds-last, may-extend, fails-growing, extends-file, length-after}
+use Rattle.f11_files.proofs.structure.Structure.extend.Goals as goal
+
+pub returns-in-Err-clause-refused : goal.returns-in-Err-clause-refused
+returns-in-Err-clause-refused g c = fails-clearing c.args.self.now c.args.f c.args.n _ _ _ _ _ c.requires.is_for c.requires.own c.in_ok-end.ensures.room _ c.in-Err.ensures.failed
+
+pub returns-in-Err-clause-stays : goal.returns-in-Err-clause-stays
+returns-in-Err-clause-stays g c = stays-clearing c.args.self.now c.args.f c.args.n _ _ _ _ _ c.requires.is_for c.requires.own c.in_ok-end.ensures.room _ c.in-Err.ensures.failed
+
+pub extend_by-requires-clause-last : goal.extend_by-requires-clause-last
+extend_by-requires-clause-last g c =
+    holds-last c.args.self.now c.args.f c.args.n _ _ _ _ _ c.requires.is_for c.requires.own c.in_ok-end.ensures.room _ _ c.in-Ok.ensures.clears _ c.tail_of-tail.ensures.tail
+
+pub extend_by-requires-clause-may : goal.extend_by-requires-clause-may
+extend_by-requires-clause-may g c =
+    rw c.tail_of-tail.ensures.tail.file_is (may-extend c.args.self.now c.args.f c.args.n _ _ _ _ _ c.requires.is_for c.requires.own c.in_ok-end.ensures.room _ _ c.in-Ok.ensures.clears)
+
+pub returns-in_err-extend_by-clause-refused : goal.returns-in_err-extend_by-clause-refused
+returns-in_err-extend_by-clause-refused g c =
+    handed _ c.from_residual-in_err-extend_by.result _ c.from_residual-in_err-extend_by.ensures.1
+    (fails-growing c.args.self.now c.args.f c.args.n _ _ _ _ _ c.requires.is_for c.requires.own c.in_ok-end.ensures.room _ _ c.in-Ok.ensures.clears _ (g.D.Device.disk c.extend_by.new.device)
+    (rw c.tail_of-tail.ensures.tail.file_is at c.in_err-extend_by.ensures.refused))
+
+pub returns-clause-extended : goal.returns-clause-extended
+returns-clause-extended g c = (
+  length-after c.args.self.now c.args.f c.args.n _ _ _ _ _ c.requires.is_for c.requires.own c.in_ok-end.ensures.room,
+  extends-file c.args.self.now c.args.f c.args.n _ _ _ _ _ c.requires.is_for c.requires.own c.in_ok-end.ensures.room _ _ c.in-Ok.ensures.clears _
+      (rw c.tail_of-tail.ensures.tail.file_is at c.in_ok-extend_by.ensures.extended),
+)

@@ -1,0 +1,24 @@
+use Rattle.std.proofs.Common.{refl}
+use Rattle.f11_files.proofs.GrowingLemmas.{taking-stays}
+use Rattle.f11_files.proofs.TakeLemmas.{takes-run, take-stays, finds-none, fails-taking}
+use Rattle.f11_files.proofs.structure.Structure.take_run.Goals as goal
+
+pub returns-in-Ok-Some-clause-taken : goal.returns-in-Ok-Some-clause-taken
+returns-in-Ok-Some-clause-taken g c =
+    takes-run c.args.self.now c.args.from c.args.most _ c.requires.is_for _ _ _ c.requires.none_below (rw c.in-Ok-Some.field-0-is at c.in-Ok-Some.ensures.takes) _ refl c.take.ensures.same
+
+pub returns-in-Ok-Some-clause-stays : goal.returns-in-Ok-Some-clause-stays
+returns-in-Ok-Some-clause-stays g c =
+    take-stays c.args.self.now c.args.from c.args.most _ c.requires.is_for _ _ _ c.requires.none_below (rw c.in-Ok-Some.field-0-is at c.in-Ok-Some.ensures.takes) _ c.take.ensures.same c.in-Ok-Some.ensures.storage
+
+pub returns-in-Ok-None-clause-refused : goal.returns-in-Ok-None-clause-refused
+returns-in-Ok-None-clause-refused g c =
+    finds-none c.args.self.now c.args.from c.args.most _ c.requires.is_for _ c.requires.some c.requires.free c.requires.none_below
+    (rw c.in-Ok-None.field-0-is at c.in-Ok-None.ensures.none)
+
+pub returns-in-Err-clause-refused : goal.returns-in-Err-clause-refused
+returns-in-Err-clause-refused g c = fails-taking c.args.self.now c.args.from c.args.most _ c.requires.is_for _ c.in-Err.ensures.failed
+
+pub returns-in-Err-clause-stays : goal.returns-in-Err-clause-stays
+returns-in-Err-clause-stays g c =
+    taking-stays refl c.requires.is_for (fails-taking c.args.self.now c.args.from c.args.most _ c.requires.is_for _ c.in-Err.ensures.failed)

@@ -1,0 +1,51 @@
+-- What stands while a file grows, run by run: blocks are marked used, made zeros, and named by the file's last header, or by a new one to which
+-- that links then (profile).
+use Rattle.std.specs.Prelude.{◌≡◌, ◌⊎◌, ℕ, ◌+◌, ◌*◌, ◌≤◌, IsTrue}
+use Rattle.f11_dev.specs.Disk.{Disk}
+use Rattle.f11_dev.specs.Image.{Image}
+use Rattle.f11_dev.specs.Went.{Went}
+use Rattle.f11_home.specs.Home.{HomeFields}
+use Rattle.f11_store.specs.Changes.{Extends}
+use Rattle.f11_store.specs.File.{need}
+use Rattle.f11_files.specs.Pieces.{TakesSome, ExtendsSome, file_numbered}
+use Rattle.f11_store.specs.Store.{Store}
+use Rattle.f11_vfy.specs.Sound.{HasSoundVolume}
+use Rattle.f11_vfy.specs.Volume.{volume_of}
+use Rattle.f11_files.specs.StoreOf.{store_of}
+
+-- An image that stands meanwhile: its volume is sound, and of this store so many blocks and headers at most were taken.
+pub record IsTaking (home : HomeFields) (blocks headers : ℕ) (s : Store) (image : Image) : Type 0 where
+  pub sound : HasSoundVolume image home
+  pub takes : TakesSome blocks headers s (store_of image home)
+
+-- that of an honest disk
+abbrev pub Taking : HomeFields → ℕ → ℕ → Store → Disk → Image → Type 0
+Taking home blocks headers s old image = IsTrue old.honest → IsTaking home blocks headers s image
+
+-- One that stands meanwhile, or at the end: the file may have what was taken.
+pub record IsGrowing (home : HomeFields) (blocks headers : ℕ) (End : Store → Type 0) (s : Store) (image : Image) : Type 0 where
+  pub sound : HasSoundVolume image home
+  pub stage : TakesSome blocks headers s (store_of image home) ⊎ End (store_of image home)
+
+-- that of an honest disk
+abbrev pub Growing : HomeFields → ℕ → ℕ → (Store → Type 0) → Store → Disk → Image → Type 0
+Growing home blocks headers End s old image = IsTrue old.honest → IsGrowing home blocks headers End s image
+
+-- File k of this store has n blocks of zeros more, after so many transfers at most and three for each header added.
+pub record Grew (P : Image → Type 0) (home : HomeFields) (s : Store) (k n most : ℕ) (old new : Disk) : Type 0 where
+  pub extends : IsTrue old.honest → Extends s k n (store_of new.image home)
+  pub transfers : ℕ
+  pub went : Went P old new transfers 0
+  pub few : (honest : IsTrue old.honest) → transfers ≤ most + 3 * (extends honest).added
+
+-- what stands while file k grows by n blocks or fewer of them
+abbrev pub GrowingBy : HomeFields → Store → ℕ → ℕ → Disk → Image → Type 0
+GrowingBy home s k n old = Growing home n (need (file_numbered s k).room n) (ExtendsSome s k n) s old
+
+-- and where the blocks were marked used before: of the store with them free
+abbrev pub GrowingInto : HomeFields → Store → Store → ℕ → ℕ → Disk → Image → Type 0
+GrowingInto home s free k n old = Growing home 0 (need (file_numbered s k).room n) (Extends free k n) s old
+
+-- the blocks that are free in an image are those of another
+abbrev pub SameFree : HomeFields → Image → Image → Type 0
+SameFree home old new = (volume_of new home).free ≡ (volume_of old home).free

@@ -1,0 +1,185 @@
+//! Files of a Files-11 volume that are extended.
+use crate::files::{id, is_accepted, opened};
+use crate::fixtures::{SEVENS, SYSTEM, ZEROS, get, has_words, keep, linked, memory, put_words};
+use crate::volumes;
+use f11_bytes::Block;
+use f11_dev::{Device, FailOnce, Fuse, Memory};
+use f11_files::Files;
+use f11_header::HeaderMut;
+use f11_store::{FileId, Refusal};
+use std::alloc::Global;
+use std::test::Fail;
+
+/// A fresh volume of 400 blocks and 16 slots: 378 blocks are free, from 22 on, and the slots from 6 on.
+fn fresh(alloc: Global) -> Result<Files<Memory>, Fail> {
+    opened(alloc, volumes::made(memory(alloc, 400)?)?)
+}
+
+/// Makes a file without blocks.
+fn made<D: Device>(files: &mut Files<D>) -> Result<FileId, Refusal> {
+    files.create(SYSTEM, 0, &[0; 46], &[0; 32])
+}
+
+/// Extends two files by a block each in turn, so many times, and says whether each answer was right.
+fn in_turn(files: &mut Files<Memory>, times: u32) -> bool {
+    for length in 1..=times {
+        if files.extend(id(6, 1), 1) != Ok(length) || files.extend(id(7, 1), 1) != Ok(length) {
+            return false;
+        }
+    }
+    true
+}
+
+#[test]
+fn a_file_fills_the_volume(rt: HostRuntime) -> Result<(), Fail> {
+    let mut files = fresh(rt.alloc())?;
+    assert_eq!(rt; made(&mut files), Ok(id(6, 1)));
+    // no header is wanting for 26,112 blocks: 256 of 102 pointers
+    assert_eq!(rt; files.extend(id(6, 1), 26112), Err(Refusal::DeviceFull));
+    assert_eq!(rt;
+        files.extend(id(6, 1), 26113),
+        Err(Refusal::TooManySegments)
+    );
+    assert_eq!(rt; files.extend(id(6, 1), 378), Ok(378));
+    assert_eq!(rt; files.space(), (0, 10, 16));
+    let before = files.lent().transfers();
+    assert_eq!(rt; files.extend(id(6, 1), 1), Err(Refusal::DeviceFull));
+    assert_eq!(rt; files.extend(id(6, 2), 1), Err(Refusal::NoSuchFile));
+    assert_eq!(rt; files.lent().transfers(), before.saturating_add(2));
+    assert!(rt; is_accepted(rt.alloc(), files.abandon()));
+    Ok(())
+}
+
+#[test]
+fn blocks_come_zeroed(rt: HostRuntime) -> Result<(), Fail> {
+    let mut files = fresh(rt.alloc())?;
+    assert_eq!(rt; made(&mut files), Ok(id(6, 1)));
+    assert_eq!(rt; files.extend(id(6, 1), 4), Ok(4));
+    for vbn in 1..=4 {
+        assert_eq!(rt; files.write_block(id(6, 1), vbn, &SEVENS), Ok(()));
+    }
+    assert_eq!(rt; files.delete(id(6, 1)), Ok(()));
+    assert_eq!(rt; made(&mut files), Ok(id(6, 2)));
+    assert_eq!(rt; files.extend(id(6, 2), 4), Ok(4));
+    let mut block: Block = SEVENS;
+    for vbn in 1..=4 {
+        assert_eq!(rt; files.read_block(id(6, 2), vbn, &mut block), Ok(()));
+        assert!(rt; block == ZEROS, "{vbn}");
+    }
+    assert!(rt; is_accepted(rt.alloc(), files.abandon()));
+    Ok(())
+}
+
+#[test]
+fn a_long_run_has_two_pointers(rt: HostRuntime) -> Result<(), Fail> {
+    let mut files = fresh(rt.alloc())?;
+    assert_eq!(rt; made(&mut files), Ok(id(6, 1)));
+    let before = files.lent().transfers();
+    assert_eq!(rt; files.extend(id(6, 1), 300), Ok(300));
+    // the header is read; then of each of two runs a bitmap block is read and written, its blocks are made zeros, and it is named
+    assert_eq!(rt; files.lent().transfers(), before.saturating_add(307));
+    let mut device = files.abandon();
+    // four words are in use of 204: 256 blocks from 22 on, and 44 from 278 on
+    let words = [(100, 0xcc04), (102, 0xff00), (104, 22), (106, 0x2b00), (108, 278)];
+    assert!(rt; has_words(&mut device, 8, &words)?);
+    assert!(rt; is_accepted(rt.alloc(), device));
+    Ok(())
+}
+
+#[test]
+fn files_that_grow_in_turn_get_headers(rt: HostRuntime) -> Result<(), Fail> {
+    let mut files = fresh(rt.alloc())?;
+    assert_eq!(rt; made(&mut files), Ok(id(6, 1)));
+    assert_eq!(rt; made(&mut files), Ok(id(7, 1)));
+    assert!(rt; in_turn(&mut files, 103));
+    assert_eq!(rt; files.space(), (172, 7, 16));
+    let mut block: Block = SEVENS;
+    let before = files.lent().transfers();
+    assert_eq!(rt; files.read_block(id(7, 1), 103, &mut block), Ok(()));
+    assert_eq!(rt; files.lent().transfers(), before.saturating_add(3));
+    let mut device = files.abandon();
+    // the headers that were added are 8 and 9: each of its file, in segment 1, with one pointer
+    for (lbn, number, last) in [(10, 8, 226), (11, 9, 227)] {
+        let words = [(2, number), (92, 1), (100, 0xcc02), (102, 0), (104, last)];
+        assert!(rt; has_words(&mut device, lbn, &words)?);
+    }
+    assert!(rt; has_words(&mut device, 8, &[(94, 8), (96, 1)])?);
+    assert!(rt; is_accepted(rt.alloc(), device));
+    Ok(())
+}
+
+#[test]
+fn headers_run_out(rt: HostRuntime) -> Result<(), Fail> {
+    let mut files = fresh(rt.alloc())?;
+    for number in 6..=16 {
+        assert_eq!(rt; made(&mut files), Ok(id(number, 1)));
+    }
+    assert!(rt; in_turn(&mut files, 102));
+    assert_eq!(rt; files.extend(id(6, 1), 1), Err(Refusal::NoHeader));
+    assert_eq!(rt; files.extend(id(8, 1), 3), Ok(3));
+    assert_eq!(rt; files.extend(id(9, 1), 103), Err(Refusal::NoHeader));
+    assert!(rt; !files.failed() && is_accepted(rt.alloc(), files.abandon()));
+    Ok(())
+}
+
+/// A volume of 24 blocks where file 6 has block 23, place for one pointer, and the contiguous mark.
+fn full(alloc: Global) -> Result<Memory, Fail> {
+    let mut device = volumes::made(memory(alloc, volumes::BLOCKS)?)?;
+    let mut header = linked(id(6, 1), 0, id(0, 0), &[(23, 0)]);
+    let mut fields = HeaderMut::new(&mut header);
+    fields.set_characteristics(0o200);
+    fields.seal();
+    keep(&mut device, 8, &header)?;
+    // M.MAX: two words of pointers; and the sum is as much less
+    let sum = f11_bytes::read_word(&header, 510);
+    put_words(&mut device, 8, &[(100, 0x0202), (510, sum.wrapping_sub(0xca00))])?;
+    put_words(&mut device, 2, &[(0, 0x3f)])?;
+    put_words(&mut device, 20, &[(2, 0x40)])?;
+    Ok(device)
+}
+
+#[test]
+fn a_header_is_added(rt: HostRuntime) -> Result<(), Fail> {
+    let mut files = opened(rt.alloc(), full(rt.alloc())?)?;
+    assert_eq!(rt; files.space(), (1, 10, 16));
+    let before = files.lent().transfers();
+    assert_eq!(rt; files.extend(id(6, 1), 1), Ok(2));
+    assert_eq!(rt; files.lent().transfers(), before.saturating_add(9));
+    assert_eq!(rt; files.space(), (0, 9, 16));
+    assert!(rt; files.read_attr(id(6, 1)).is_ok_and(|attr| attr.characteristics == 0));
+    let mut device = files.abandon();
+    assert!(rt; get(&mut device, 22)? == ZEROS);
+    assert!(rt; has_words(&mut device, 8, &[(94, 7), (96, 1)])?);
+    assert!(rt; is_accepted(rt.alloc(), device));
+    Ok(())
+}
+
+/// Extends file 6 of the volume of a device, and says whether it answered right: `DeviceFault`, where a transfer failed, or else not.
+fn extended<D: Device>(files: &mut Files<D>, fails: bool) -> bool {
+    let answer = files.extend(id(6, 1), 1);
+    let wanted = if fails { Err(Refusal::DeviceFault) } else { Ok(2) };
+    answer == wanted && files.failed() == fails
+}
+
+#[test]
+fn a_transfer_of_extending_fails(rt: HostRuntime) -> Result<(), Fail> {
+    let files = opened(rt.alloc(), full(rt.alloc())?)?;
+    let opening = files.lent().transfers();
+    let device = full(rt.alloc())?;
+    let first = opening.saturating_sub(device.transfers());
+    for k in 0..=9 {
+        let at = first.saturating_add(k);
+        let mut files = opened(rt.alloc(), Fuse::new(full(rt.alloc())?, at))?;
+        assert!(rt; extended(&mut files, k < 9), "{k}");
+        let device = files.abandon().into_inner();
+        assert!(rt; is_accepted(rt.alloc(), device), "{k}");
+        for lands in [false, true] {
+            let device = FailOnce::new(full(rt.alloc())?, at.saturating_add(1), lands);
+            let mut files = opened(rt.alloc(), device)?;
+            assert!(rt; extended(&mut files, k < 9), "{k}");
+            let device = files.abandon().into_inner();
+            assert!(rt; is_accepted(rt.alloc(), device), "{k}");
+        }
+    }
+    Ok(())
+}
