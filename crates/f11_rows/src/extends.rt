@@ -80,7 +80,13 @@ fn a_long_run_has_two_pointers(rt: HostRuntime) -> Result<(), Fail> {
     assert_eq!(rt; files.lent().transfers(), before.saturating_add(307));
     let mut device = files.abandon();
     // four words are in use of 204: 256 blocks from 22 on, and 44 from 278 on
-    let words = [(100, 0xcc04), (102, 0xff00), (104, 22), (106, 0x2b00), (108, 278)];
+    let words = [
+        (100, 0xcc04),
+        (102, 0xff00),
+        (104, 22),
+        (106, 0x2b00),
+        (108, 278),
+    ];
     assert!(rt; has_words(&mut device, 8, &words)?);
     assert!(rt; is_accepted(rt.alloc(), device));
     Ok(())
@@ -132,7 +138,11 @@ fn full(alloc: Global) -> Result<Memory, Fail> {
     keep(&mut device, 8, &header)?;
     // M.MAX: two words of pointers; and the sum is as much less
     let sum = f11_bytes::read_word(&header, 510);
-    put_words(&mut device, 8, &[(100, 0x0202), (510, sum.wrapping_sub(0xca00))])?;
+    put_words(
+        &mut device,
+        8,
+        &[(100, 0x0202), (510, sum.wrapping_sub(0xca00))],
+    )?;
     put_words(&mut device, 2, &[(0, 0x3f)])?;
     put_words(&mut device, 20, &[(2, 0x40)])?;
     Ok(device)
@@ -146,7 +156,11 @@ fn a_header_is_added(rt: HostRuntime) -> Result<(), Fail> {
     assert_eq!(rt; files.extend(id(6, 1), 1), Ok(2));
     assert_eq!(rt; files.lent().transfers(), before.saturating_add(9));
     assert_eq!(rt; files.space(), (0, 9, 16));
-    assert!(rt; files.read_attr(id(6, 1)).is_ok_and(|attr| attr.characteristics == 0));
+    assert!(rt;
+        files
+            .read_attr(id(6, 1))
+            .is_ok_and(|attr| attr.characteristics == 0)
+    );
     let mut device = files.abandon();
     assert!(rt; get(&mut device, 22)? == ZEROS);
     assert!(rt; has_words(&mut device, 8, &[(94, 7), (96, 1)])?);
@@ -157,7 +171,11 @@ fn a_header_is_added(rt: HostRuntime) -> Result<(), Fail> {
 /// Extends file 6 of the volume of a device, and says whether it answered right: `DeviceFault`, where a transfer failed, or else not.
 fn extended<D: Device>(files: &mut Files<D>, fails: bool) -> bool {
     let answer = files.extend(id(6, 1), 1);
-    let wanted = if fails { Err(Refusal::DeviceFault) } else { Ok(2) };
+    let wanted = if fails {
+        Err(Refusal::DeviceFault)
+    } else {
+        Ok(2)
+    };
     answer == wanted && files.failed() == fails
 }
 
