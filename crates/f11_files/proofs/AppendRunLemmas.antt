@@ -1,6 +1,5 @@
 -- A run of blocks that a file gets: it is made zeros, and its last header names it, or a new one.
-use Rattle.std.proofs.Common.{◌≡◌, ◌+◌, ◌<◌, ◌≤◌, ◌^◌, ℕ, Bool, true, false, cond, IsTrue, inl, inr, refl, sym, ap, subst, ◌∙◌, arith}
-use Rattle.f11_bits.specs.Bitmap.{IsBitmap}
+use Rattle.std.proofs.Common.{◌≡◌, ◌+◌, ◌<◌, ◌≤◌, ℕ, Bool, true, false, cond, IsTrue, inl, inr, refl, sym, ap, subst, ◌∙◌, arith}
 use Rattle.f11_dev.specs.Disk.{Disk}
 use Rattle.f11_dev.specs.Image.{Image}
 use Rattle.f11_dev.proofs.WentLemmas.{went_more, went_weaker}
@@ -8,17 +7,14 @@ use Rattle.f11_header.specs.Fields.{map_area}
 use Rattle.f11_home.specs.Home.{HomeFields}
 use Rattle.f11_map.specs.MapArea.{runs_of}
 use Rattle.f11_map.specs.MapWriting.{joins_last}
-use Rattle.f11_index.specs.Headers.{IsLastOf}
-use Rattle.f11_index.specs.Table.{Table, table_of}
 use Rattle.f11_store.specs.Changes.{Extends}
 use Rattle.f11_store.specs.File.{need}
 use Rattle.f11_store.specs.Store.{Store}
 use Rattle.f11_store.specs.declared.refusals.Refusal.{Refusal}
 use Rattle.f11_store.specs.declared.refusals.Refusal.TheVariants.{DeviceFault}
 use Rattle.f11_vfy.specs.Sound.{HasSoundVolume}
-use Rattle.f11_vfy.specs.Volume.{Volume, volume_of}
+use Rattle.f11_vfy.specs.Volume.{volume_of}
 use Rattle.f11_writes.specs.NameLaws.{AreSpare}
-use Rattle.f11_writes.proofs.NameLemmas.{spare-stay}
 use Rattle.f11_files.specs.Answers.{Writes, Breaks}
 use Rattle.f11_files.specs.Drops.{with_more_free}
 use Rattle.f11_files.specs.Extension.{AppendingRun, AppendsRun}
@@ -26,29 +22,22 @@ use Rattle.f11_files.specs.FileLaws.{room_in}
 use Rattle.f11_files.specs.Growing.{Grew, GrowingInto, SameFree}
 use Rattle.f11_files.specs.Pieces.{file_numbered, MayExtend, TakesSome}
 use Rattle.f11_files.specs.StoreOf.{store_of}
-use Rattle.f11_files.specs.Structure.{bitmap_in, home_of, store_on, Lies, IsFor, StaysFor}
-use Rattle.f11_files.specs.Tail.{HoldsLast, MayBeGiven, Naming, NamesRun, FailsToName, HasNoPlace, pointers_more, with_zeros_more}
+use Rattle.f11_files.specs.Structure.{bitmap_in, home_of, store_on, IsFor, StaysFor}
+use Rattle.f11_files.specs.Tail.{HoldsLast, Naming, NamesRun, FailsToName, HasNoPlace, pointers_more, with_zeros_more}
 use Rattle.f11_files.specs.Zeros.{Keeping, Zeroes, FailsToZero}
 use Rattle.f11_files.specs.declared.structure.Structure.{Structure}
 use Rattle.f11_files.specs.declared.tail.Tail.{Tail}
-use Rattle.f11_files.proofs.FirstLemmas.{table-of}
 use Rattle.f11_files.proofs.FreeingLemmas.{breaks-behind, breaks-within}
 use Rattle.f11_files.proofs.GrowingLemmas.{breaks-fault, went-writes, takes-none, room-here, into-same, grew-behind}
 use Rattle.f11_files.proofs.PieceLemmas.{named-extends}
-use Rattle.f11_files.proofs.WriteLemmas.{keeps-volume}
-
--- a bitmap says of no more than 516,096 blocks
-pub low-block : (s : Structure) (lbn count : ℕ) → lbn + count ≤ (bitmap_in s).size → 0 < count → lbn < 2 ^ 24
-low-block s lbn count within some =
-    let is : IsBitmap (bitmap_in s) = s.storage.valid in
-    omega (arith, is.few, is.covered, within, some)
+use Rattle.f11_files.proofs.ZeroedLemmas.{free-mid}
 
 -- what is kept of a volume where the last header names them
 pub named-stays : {s : Structure} {tail after : Tail} {lbn count : ℕ} {old new : Disk} → NamesRun s tail after lbn count old new → StaysFor false s s new
 named-stays names = record { home = refl; lies = λ _. names.is_for.lies; sound = names.is_for.sound; keeps = λ _. names.is_for.keeps }
 
 -- no run takes two pointers
-at-most-one : (b : Bool) → cond b 0 1 ≤ 1
+pub at-most-one : (b : Bool) → cond b 0 1 ≤ 1
 at-most-one true = omega arith
 at-most-one false = omega arith
 
@@ -86,47 +75,14 @@ module _ (s : Structure) (tail : Tail) (lbn count : ℕ) (old : Disk) (for : IsF
     zeros-written : Writes P count old mid 0
     zeros-written = went-writes (went_weaker (Keeping home old) P zero-moment zeroed.went)
 
+    zeros-free : IsTrue old.honest → SameFree home old.image mid.image
+    zeros-free = free-mid s tail lbn count old mid for last within some few spare zeroed
+
     was-honest : IsTrue mid.honest → IsTrue old.honest
     was-honest honest = sym zeroed.went.honest ∙ honest
 
     same : IsTrue old.honest → store_on s mid ≡ st
     same honest = (zeroed.keeps honest).store
-
-    pub mid-for : IsFor s mid
-    mid-for = record {
-      lies = subst (λ (n : ℕ). Lies s n) (sym zeroed.went.size) for.lies;
-      sound = λ honest. (zeroed.keeps (was-honest honest)).volume.sound;
-      keeps = λ honest. keeps-volume s old.image mid.image (zeroed.keeps (was-honest honest)).volume (for.keeps (was-honest honest));
-    }
-
-    free-mid : IsTrue old.honest → SameFree home old.image mid.image
-    free-mid honest = ap (λ (v : Volume). v.free) (zeroed.keeps honest).volume.volume
-
-    tables : IsTrue old.honest → table_of mid.image home ≡ table_of old.image home
-    tables honest = (zeroed.keeps honest).volume.index_file.table
-
-    pub mid-last : HoldsLast s tail mid
-    mid-last = record {
-      header = record {
-        in_use = last.header.in_use;
-        valid = last.header.valid;
-        block_is = λ honest.
-            let before = was-honest honest in
-            last.header.block_is before ∙ ap (λ (t : Table). t.header tail.number) (table-of s old for before ∙ sym (tables before) ∙ sym (table-of s mid mid-for honest));
-      };
-      no_link = last.no_link;
-      few = last.few;
-      is_last = λ honest. let before = was-honest honest in subst (λ (t : Table). IsLastOf t tail.file.number tail.number) (sym (tables before)) (last.is_last before);
-    }
-
-    pub mid-given : MayBeGiven home lbn count mid
-    mid-given = record {
-      some = some;
-      short = few;
-      low = low-block s lbn count within some;
-      spare = λ honest. let before = was-honest honest in spare-stay old.image mid.image home lbn count (zeroed.keeps before).volume (spare before);
-      zeros = λ honest. zeroed.zeros (was-honest honest);
-    }
 
     pub mid-may : IsTrue mid.honest → MayExtend (with_more_free (store_on s mid) count) k count
     mid-may honest = let before = was-honest honest in subst (λ (x : Store). MayExtend (with_more_free x count) k count) (sym (same before)) (may before)
@@ -137,20 +93,8 @@ module _ (s : Structure) (tail : Tail) (lbn count : ℕ) (old : Disk) (for : IsF
 
     -- it has no place for them, and nothing was done
     module _ (now : Disk) (after : Tail) (full : HasNoPlace tail after lbn count mid now) where
-      pub now-for : IsFor s now
-      now-for = subst (IsFor s) (sym full.disk_is) mid-for
-
-      pub now-last : HoldsLast s after now
-      now-last = subst (λ (d : Disk). HoldsLast s after d) (sym full.disk_is) (subst (λ (x : Tail). HoldsLast s x mid) (sym full.tail_is) mid-last)
-
       pub now-own : 4 ≤ after.file.number
       now-own = subst (λ (x : Tail). 4 ≤ x.file.number) (sym full.tail_is) own
-
-      pub now-given : MayBeGiven home lbn count now
-      now-given = subst (MayBeGiven home lbn count) (sym full.disk_is) mid-given
-
-      pub now-full : room_in after.block ≡ 0
-      now-full = ap (λ (x : Tail). room_in x.block) full.tail_is ∙ full.room
 
       pub now-may : IsTrue now.honest → MayExtend (with_more_free (store_on s now) count) after.file.number count
       now-may =
@@ -163,7 +107,7 @@ module _ (s : Structure) (tail : Tail) (lbn count : ℕ) (old : Disk) (for : IsF
         file = given.file ∙ ap (λ (x : Tail). x.file) full.tail_is;
         last = given.last;
         bitmap = given.bitmap;
-        free = λ honest. given.free (ap (λ (d : Disk). d.honest) full.disk_is ∙ zeroed.went.honest ∙ honest) ∙ ap (λ (d : Disk). (volume_of d.image home).free) full.disk_is ∙ free-mid honest;
+        free = λ honest. given.free (ap (λ (d : Disk). d.honest) full.disk_is ∙ zeroed.went.honest ∙ honest) ∙ ap (λ (d : Disk). (volume_of d.image home).free) full.disk_is ∙ zeros-free honest;
         grew = grew-behind into (λ honest. ap (λ (x : Store). with_more_free x count) (same honest)) zeros-written
             (subst (λ (x : Tail). Grew (AppendingRun s x count mid) home (with_more_free (store_on s mid) count) x.file.number count 1 mid new) full.tail_is
             (subst (λ (d : Disk). Grew (AppendingRun s after count d) home (with_more_free (store_on s d) count) after.file.number count 1 d new) full.disk_is given.grew));
@@ -180,7 +124,7 @@ module _ (s : Structure) (tail : Tail) (lbn count : ℕ) (old : Disk) (for : IsF
 
     named : IsTrue old.honest → more ≤ room_in tail.block → (e : Extends free k count (with_zeros_more k more count st)) × (e.added ≡ 0)
     named honest fits =
-        let room = room-here s tail old for last own honest in
+        let room = room-here s tail old for last honest in
         named-extends st k count more (may honest) some (at-most-one (joins_last (runs_of (map_area tail.block)) lbn count)) (omega (arith, room, fits))
 
     naming-moment : more ≤ room_in tail.block → (image : Image) → Naming s tail lbn count mid image → P image
@@ -198,7 +142,7 @@ module _ (s : Structure) (tail : Tail) (lbn count : ℕ) (old : Disk) (for : IsF
       file = names.file_is;
       last = names.holds;
       bitmap = refl;
-      free = λ honest. names.free (zeroed.went.honest ∙ honest) ∙ free-mid honest;
+      free = λ honest. names.free (zeroed.went.honest ∙ honest) ∙ zeros-free honest;
       grew = record {
         extends = λ honest. (at honest).0;
         transfers = zeros-written.transfers + 1;

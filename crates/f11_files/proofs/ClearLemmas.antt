@@ -36,7 +36,7 @@ use Rattle.f11_files.specs.Structure.{index_in, home_of, store_on, Lies, Keeps, 
 use Rattle.f11_files.specs.Tail.{HasStore}
 use Rattle.f11_files.specs.declared.structure.Structure.{Structure}
 use Rattle.f11_files.proofs.AlterLemmas.{keeps-header}
-use Rattle.f11_files.proofs.FieldLemmas.{changes-file, segment-same, link-same}
+use Rattle.f11_files.proofs.FieldLemmas.{changes-file, changes-index, segment-same, link-same}
 use Rattle.f11_files.proofs.FirstLemmas.{table-of}
 use Rattle.f11_files.proofs.InstanceLemmas.{with_file-same}
 use Rattle.f11_files.proofs.NamedLemmas.{file-stored, is-file, held-named, attr-is, block-is}
@@ -70,8 +70,16 @@ last-stays t u f n others stays last = record {
           }
     ]
 
+-- the first header of the index file is written, or that of a file from 4 on
+changes-own : (image : Image) (home : HomeFields) (f : ℕ) (block : List ℕ) (change : File → File) → HasSoundVolume image home → (f ≡ 1) ⊎ (4 ≤ f) → IsFile (table_of image home) f
+    → SaysBut change ((table_of image home).header f) block → ChangesFile f block change home image (with_header image home f block)
+changes-own image home f block change is (inl one) file says =
+    subst (λ (k : ℕ). ChangesFile k block change home image (with_header image home k block)) (sym one)
+    (changes-index image home block change is (subst (λ (k : ℕ). SaysBut change ((table_of image home).header k) block) one says))
+changes-own image home f block change is (inr late) file says = changes-file image home f block change is late file says
+
 -- a file's first header in hand
-module _ (s : Structure) (f : FileId) (was : List ℕ) (old : Disk) (for : IsFor s old) (own : 4 ≤ f.number) (holds : HoldsFile (index_in s) f was old) where
+module _ (s : Structure) (f : FileId) (was : List ℕ) (old : Disk) (for : IsFor s old) (holds : HoldsFile (index_in s) f was old) where
   abbrev home : HomeFields
   home = home_of s
 
@@ -110,7 +118,7 @@ module _ (s : Structure) (f : FileId) (was : List ℕ) (old : Disk) (for : IsFor
     }
 
   -- it had one, and the block is written without
-  module _ (block : List ℕ) (says : SaysBut with_no_mark was block) (place : ℕ) (new : Disk) (at : place ≡ header_lbn (index_in s) f.number) where
+  module _ (own : (f.number ≡ 1) ⊎ (4 ≤ f.number)) (block : List ℕ) (says : SaysBut with_no_mark was block) (place : ℕ) (new : Disk) (at : place ≡ header_lbn (index_in s) f.number) where
     abbrev next : Image
     next = with_header old.image home f.number block
 
@@ -119,7 +127,7 @@ module _ (s : Structure) (f : FileId) (was : List ℕ) (old : Disk) (for : IsFor
 
     changes : IsTrue old.honest → ChangesFile f.number block with_no_mark home old.image next
     changes honest =
-        changes-file old.image home f.number block with_no_mark (for.sound honest) own (file-here honest)
+        changes-own old.image home f.number block with_no_mark (for.sound honest) own (file-here honest)
         (subst (λ (b : List ℕ). SaysBut with_no_mark b block) (block-is s f was old for holds honest) says)
 
     store-next : IsTrue old.honest → HasStore home (with_change (store_on s old) f.number with_no_mark) next

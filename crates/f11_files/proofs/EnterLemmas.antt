@@ -17,7 +17,7 @@ use Rattle.f11_chain.proofs.StepLemmas.{table-in_use}
 use Rattle.f11_index.specs.Calls.{SetsBit, HasBitWritten, WritesBit, FailsToWriteBit, bitmap_place, bitmap_block, with_bitmap_block}
 use Rattle.f11_index.specs.HeaderBlock.{segment_number, link_of}
 use Rattle.f11_index.specs.IndexFile.{Index, index_of, index_file, is_in_use, header_lbn, slots, free_slots as free_in_index}
-use Rattle.f11_index.specs.Kept.{index_kept}
+use Rattle.f11_index.specs.Kept.{index_kept, room}
 use Rattle.f11_index.specs.Slots.{IsLeastFree}
 use Rattle.f11_index.specs.Table.{Table, table_of}
 use Rattle.f11_index.specs.declared.index_file.IndexFile.{IndexFile}
@@ -320,8 +320,9 @@ module _ (s : Structure) (tail : Tail) (lbn count : ℕ) (old : Disk) (for : IsF
                   no_other = here.unlinked;
                 }
 
-            pub enters-header : EntersHeader s t tail lbn count id block old done
-            enters-header = record {
+            pub enters-header : room after ≡ room s.index → EntersHeader s t tail lbn count id block old done
+            enters-header left = record {
+              left = left;
               extension = new;
               holds = holds-new;
               follows = follows;

@@ -117,7 +117,7 @@ broken-stays s t from old new same for breaks = record {
 }
 
 -- an error that is handed on
-pub handed-stays : (result : Result Unit Refusal) (r : Refusal) (s t : Structure) (disk : Disk) → IsErrAnd result (λ y. y ≡ r) → is_grave r ≡ true → StaysFor true s t disk
+pub handed-stays : {T : Type 0} (result : Result T Refusal) (r : Refusal) (s t : Structure) (disk : Disk) → IsErrAnd result (λ y. y ≡ r) → is_grave r ≡ true → StaysFor true s t disk
     → StaysFor (is_refused is_grave result) s t disk
 handed-stays (Ok x) r s t disk is grave stays = absurd is
 handed-stays (Err y) r s t disk is grave stays = subst (λ (b : Bool). StaysFor b s t disk) (sym (ap is_grave is ∙ grave)) stays

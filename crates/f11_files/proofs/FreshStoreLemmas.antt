@@ -42,7 +42,7 @@ none-pass : (n : ℕ) → count_below (λ k. false) n ≡ 0
 none-pass zero = count_below-zero (λ k. false)
 none-pass (suc n) = let so_far = none-pass n in let more = count_below-suc (λ k. false) n in omega (arith, so_far, more)
 
-zero-sequence : file_sequence zero_block ≡ 0
+pub zero-sequence : file_sequence zero_block ≡ 0
 unfolding zero_block
 zero-sequence = refl
 

@@ -1,5 +1,5 @@
 -- What carries `Growing` and `Grew` from call to call.
-use Rattle.std.proofs.Common.{◌≡◌, ◌+◌, ◌*◌, ◌<◌, ◌≤◌, ℕ, true, IsTrue, Option, Some, inl, refl, sym, ap, subst, ◌∙◌, arith, unwrap_or}
+use Rattle.std.proofs.Common.{◌≡◌, ◌+◌, ◌*◌, ◌<◌, ◌≤◌, ℕ, true, IsTrue, List, length, Option, Some, inl, refl, sym, ap, subst, ◌∙◌, arith, unwrap_or}
 use Rattle.f11_dev.specs.Disk.{Disk}
 use Rattle.f11_dev.specs.Image.{Image}
 use Rattle.f11_dev.specs.Went.{Went}
@@ -22,15 +22,15 @@ use Rattle.f11_files.specs.Drops.{with_more_free}
 use Rattle.f11_files.specs.FileLaws.{room_in}
 use Rattle.f11_files.specs.Growing.{Taking, IsGrowing, Grew, GrowingInto}
 use Rattle.f11_files.specs.Pieces.{file_numbered, TakesSome}
-use Rattle.f11_files.specs.StoreOf.{store_of}
+use Rattle.f11_files.specs.StoreOf.{as_seen, store_of}
 use Rattle.f11_files.specs.Structure.{home_of, store_on, IsFor, StaysFor}
 use Rattle.f11_files.specs.Tail.{HoldsLast}
 use Rattle.f11_files.specs.declared.structure.Structure.{Structure}
 use Rattle.f11_files.specs.declared.tail.Tail.{Tail}
 use Rattle.f11_files.proofs.FirstLemmas.{table-of}
-use Rattle.f11_files.proofs.NamedLemmas.{file-stored}
-use Rattle.f11_files.proofs.RoomLemmas.{room-is}
-use Rattle.f11_files.proofs.StoreLemmas.{file-at, seen-own}
+use Rattle.f11_files.proofs.NamedLemmas.{file-stored, seen-same}
+use Rattle.f11_files.proofs.RoomLemmas.{room-is, count-is}
+use Rattle.f11_files.proofs.StoreLemmas.{file-at}
 
 -- nothing was taken
 pub takes-none : (blocks headers : ℕ) (s : Store) → TakesSome blocks headers s s
@@ -59,17 +59,18 @@ takes-within a b g h s t few fewer takes = record {
 }
 
 -- the room of a file is that of its last header, in hand
-module _ (s : Structure) (tail : Tail) (disk : Disk) (for : IsFor s disk) (last : HoldsLast s tail disk) (own : 4 ≤ tail.file.number) (honest : IsTrue disk.honest) where
+module _ (s : Structure) (tail : Tail) (disk : Disk) (for : IsFor s disk) (last : HoldsLast s tail disk) (honest : IsTrue disk.honest) where
   abbrev k : ℕ
   k = tail.file.number
 
   abbrev t : Table
   t = table_of disk.image (home_of s)
 
-  file-is : (store_on s disk).file k ≡ Some (file_in (home_of s) k disk.image)
-  file-is =
-      file-stored disk.image (home_of s) k
-      ∙ file-at disk.image t k (Some (file_in (home_of s) k disk.image)) (λ _. ap Some (seen-own k (file_in (home_of s) k disk.image) own)) (λ none. absurd (none (file_of-header (last.is_last honest).of)))
+  abbrev there : File
+  there = file_in (home_of s) k disk.image
+
+  file-is : (store_on s disk).file k ≡ Some (as_seen k there)
+  file-is = file-stored disk.image (home_of s) k ∙ file-at disk.image t k (Some (as_seen k there)) (λ _. refl) (λ none. absurd (none (file_of-header (last.is_last honest).of)))
 
   pub last-here : tail.block ≡ t.header tail.number
   last-here = last.header.block_is honest ∙ ap (λ (u : Table). u.header tail.number) (table-of s disk for honest)
@@ -77,7 +78,13 @@ module _ (s : Structure) (tail : Tail) (disk : Disk) (for : IsFor s disk) (last 
   pub room-here : (file_numbered (store_on s disk) k).room ≡ room_in tail.block
   room-here =
       let few : segment_number (t.header tail.number) < 256 = let same = ap segment_number last-here in omega (arith, same, last.few) in
-      ap (λ (o : Option File). (unwrap_or o no_file).room) file-is ∙ room-is disk.image t k tail.number (last.is_last honest) few ∙ ap room_in (sym last-here)
+      ap (λ (o : Option File). (unwrap_or o no_file).room) file-is ∙ seen-same (λ (g : File). g.room) (λ g. refl) k there ∙ room-is disk.image t k tail.number (last.is_last honest) few ∙ ap room_in (sym last-here)
+
+  pub headers-here : length (file_numbered (store_on s disk) k).held ≡ segment_number tail.block + 1
+  headers-here =
+      let few : segment_number (t.header tail.number) < 256 = let same = ap segment_number last-here in omega (arith, same, last.few) in
+      ap (λ (o : Option File). length (unwrap_or o no_file).held) file-is ∙ seen-same (λ (g : File). length g.held) (λ g. refl) k there ∙ count-is disk.image t k tail.number (last.is_last honest) few
+      ∙ ap (λ (b : List ℕ). segment_number b + 1) (sym last-here)
 
 -- images that stand after the store was as it is
 pub into-same : (home : HomeFields) (s t : Store) (k n : ℕ) (a b : Disk) → b.honest ≡ a.honest → (IsTrue a.honest → t ≡ s) → (image : Image) → GrowingInto home t (with_more_free t n) k n b image
@@ -137,6 +144,14 @@ taking-stays {blocks = blocks} {headers = headers} {from = from} {s = s} {old = 
 -- so many transfers at most
 pub went-writes : {P : Image → Type 0} {old new : Disk} {most faults : ℕ} → Went P old new most faults → Writes P most old new faults
 went-writes {most = most} went = record { transfers = most; went = went; few = λ _. omega arith }
+
+-- of another kind of images
+pub breaks-weaker : {P Q : Image → Type 0} {most : ℕ} {old new : Disk} {r : Refusal} → ((image : Image) → Q image → P image) → Breaks Q most r old new → Breaks P most r old new
+breaks-weaker {P = P} {Q = Q} weaker breaks = record {
+  grave = breaks.grave;
+  undamaged = breaks.undamaged;
+  writes = record { transfers = breaks.writes.transfers; went = went_weaker Q P weaker breaks.writes.went; few = breaks.writes.few };
+}
 
 -- a transfer that failed
 pub breaks-fault : {P : Image → Type 0} {most : ℕ} {old new : Disk} → Writes P most old new 1 → Breaks P most DeviceFault old new

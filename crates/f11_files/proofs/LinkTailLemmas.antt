@@ -62,7 +62,7 @@ module _ (was block : List ℕ) (id : FileId) (sets : SetsLink was block id) whe
     places_are = ap (λ (m : ℕ). min m ((length (map_area block) - 10) / 2) / 2) most ∙ ap (λ (l : ℕ). min (most_words (map_area was)) ((l - 10) / 2) / 2) sets.link.size;
   }
 
-module _ (s : Structure) (tail : Tail) (block : List ℕ) (id : FileId) (old : Disk) (for : IsFor s old) (last : HoldsLast s tail old) (own : 4 ≤ tail.file.number) (early : segment_number tail.block < 255)
+module _ (s : Structure) (tail : Tail) (block : List ℕ) (id : FileId) (old : Disk) (for : IsFor s old) (last : HoldsLast s tail old) (early : segment_number tail.block < 255)
     (follows : IsTrue old.honest → MayFollow (table_of old.image (home_of s)) tail id) (sets : SetsLink tail.block block id) where
   abbrev home : HomeFields
   home = home_of s
@@ -108,7 +108,7 @@ module _ (s : Structure) (tail : Tail) (block : List ℕ) (id : FileId) (old : D
     segment-next : segment_number (t.header id.number) ≡ segment_number block + 1
     segment-next = may.segment ∙ ap (λ (k : ℕ). k + 1) (sym (segment-linked tail.block block id sets))
 
-    becomes : MayBecome (volume_of old.image home) n block
+    pub becomes : MayBecome (volume_of old.image home) n block
     unfolding volume_of
     becomes = record {
       valid = valid;
@@ -125,10 +125,7 @@ module _ (s : Structure) (tail : Tail) (block : List ℕ) (id : FileId) (old : D
       };
     }
 
-    pub wrote-link : WritesHeader n block home old.image next
-    wrote-link = file-rewrite-keeps old.image home (for.sound honest) n block f own (last.is_last honest).of becomes
-
-    links : LinksOnTo t f n id.number block
+    pub links : LinksOnTo t f n id.number block
     links = record {
       stands = record {
         of = (last.is_last honest).of;
@@ -148,52 +145,59 @@ module _ (s : Structure) (tail : Tail) (block : List ℕ) (id : FileId) (old : D
       blocks = blocks-are;
     }
 
-    last-now : IsLastOf (table_of next home) f id.number
-    last-now = last-linked old.image next home f n id.number block (as-header n block home old.image next wrote-link) links
+  -- of a file that requests reach
+  module _ (own : 4 ≤ tail.file.number) where
+    module _ (honest : IsTrue old.honest) where
+      pub wrote-link : WritesHeader n block home old.image next
+      wrote-link = file-rewrite-keeps old.image home (for.sound honest) n block f own (last.is_last honest).of (becomes honest)
 
-    header-stays : (table_of next home).header id.number ≡ t.header id.number
-    header-stays = m-stays old.image next home f n id.number block (as-header n block home old.image next wrote-link) links
+      last-now : IsLastOf (table_of next home) f id.number
+      last-now = last-linked old.image next home f n id.number block (as-header n block home old.image next wrote-link) (links honest)
 
-    pub store-linked : HasStore home (with_change (store_on s old) f (with_header_more old.image t id.number)) next
-    store-linked =
-        let late : 2 ≤ f = omega (arith, own) in
-        record {
-          sound = wrote-link.slot.sound;
-          store = file-stored old.image next home n block wrote-link good.sequence f (with_header_more old.image t id.number) own (last.is_last honest).of
-              (of-now old.image next home f n block (as-header n block home old.image next wrote-link) links.stands) (file-linked old.image next home f n id.number block late wrote-link links);
+      header-stays : (table_of next home).header id.number ≡ t.header id.number
+      header-stays = m-stays old.image next home f n id.number block (as-header n block home old.image next wrote-link) (links honest)
+
+      pub store-linked : HasStore home (with_change (store_on s old) f (with_header_more old.image t id.number)) next
+      store-linked =
+          let late : 2 ≤ f = omega (arith, own) in
+          record {
+            sound = wrote-link.slot.sound;
+            store = file-stored old.image next home n block wrote-link (good honest).sequence f (with_header_more old.image t id.number) own (last.is_last honest).of
+                (of-now old.image next home f n block (as-header n block home old.image next wrote-link) (links honest).stands)
+                (file-linked old.image next home f n id.number block late wrote-link (links honest));
+          }
+
+    -- it is written
+    module _ (place : ℕ) (new : Disk) (at : place ≡ header_lbn (index_in s) n) where
+      written-is : IsTrue old.honest → set old.image place block ≡ next
+      written-is honest = ap (λ (l : ℕ). set old.image l block) (at ∙ ap (λ (x : Index). header_lbn x n) (for.keeps honest).index_is)
+
+      moment : Linking s tail id old (set old.image place block)
+      moment honest = subst (HasStore home (with_change (store_on s old) f (with_header_more old.image t id.number))) (sym (written-is honest)) (store-linked honest)
+
+      pub fails-link : (new ≡ with_transfer false old) ⊎ (new ≡ with_transfer false (with_block_at place block old)) → Went (Linking s tail id old) old new 1 1
+      fails-link is = went_failed_write (Linking s tail id old) old new place block is moment
+
+      module _ (is : new ≡ with_transfer true (with_block_at place block old)) where
+        went : Went (Linking s tail id old) old new 1 0
+        went = went_write (Linking s tail id old) old new place block is moment
+
+        image : IsTrue old.honest → new.image ≡ next
+        image honest = ap (λ (d : Disk). d.image) is ∙ written-is honest
+
+        was-honest : IsTrue new.honest → IsTrue old.honest
+        was-honest honest = sym went.honest ∙ honest
+
+        pub links-tail : LinksTail s tail id old new
+        links-tail = record {
+          is_for = record {
+            lies = subst (λ (k : ℕ). Lies s k) (sym went.size) for.lies;
+            sound = λ honest. let before = was-honest honest in subst (λ (i : Image). HasSoundVolume i home) (sym (image before)) (store-linked before).sound;
+            keeps = λ honest. let before = was-honest honest in subst (Keeps s) (sym (image before)) (keeps-header s n block old.image next (wrote-link before) (for.keeps before));
+          };
+          is_last = λ honest. subst (λ (i : Image). IsLastOf (table_of i home) f id.number) (sym (image honest)) (last-now honest);
+          header_stays = λ honest. ap (λ (i : Image). (table_of i home).header id.number) (image honest) ∙ header-stays honest;
+          store = λ honest. subst (HasStore home (with_change (store_on s old) f (with_header_more old.image t id.number))) (sym (image honest)) (store-linked honest);
+          free = λ honest. subst (SameFree home old.image) (sym (image honest)) (ap (λ (v : Volume). v.free) (wrote-link honest).slot.volume);
+          went = went;
         }
-
-  -- it is written
-  module _ (place : ℕ) (new : Disk) (at : place ≡ header_lbn (index_in s) n) where
-    written-is : IsTrue old.honest → set old.image place block ≡ next
-    written-is honest = ap (λ (l : ℕ). set old.image l block) (at ∙ ap (λ (x : Index). header_lbn x n) (for.keeps honest).index_is)
-
-    moment : Linking s tail id old (set old.image place block)
-    moment honest = subst (HasStore home (with_change (store_on s old) f (with_header_more old.image t id.number))) (sym (written-is honest)) (store-linked honest)
-
-    pub fails-link : (new ≡ with_transfer false old) ⊎ (new ≡ with_transfer false (with_block_at place block old)) → Went (Linking s tail id old) old new 1 1
-    fails-link is = went_failed_write (Linking s tail id old) old new place block is moment
-
-    module _ (is : new ≡ with_transfer true (with_block_at place block old)) where
-      went : Went (Linking s tail id old) old new 1 0
-      went = went_write (Linking s tail id old) old new place block is moment
-
-      image : IsTrue old.honest → new.image ≡ next
-      image honest = ap (λ (d : Disk). d.image) is ∙ written-is honest
-
-      was-honest : IsTrue new.honest → IsTrue old.honest
-      was-honest honest = sym went.honest ∙ honest
-
-      pub links-tail : LinksTail s tail id old new
-      links-tail = record {
-        is_for = record {
-          lies = subst (λ (k : ℕ). Lies s k) (sym went.size) for.lies;
-          sound = λ honest. let before = was-honest honest in subst (λ (i : Image). HasSoundVolume i home) (sym (image before)) (store-linked before).sound;
-          keeps = λ honest. let before = was-honest honest in subst (Keeps s) (sym (image before)) (keeps-header s n block old.image next (wrote-link before) (for.keeps before));
-        };
-        is_last = λ honest. subst (λ (i : Image). IsLastOf (table_of i home) f id.number) (sym (image honest)) (last-now honest);
-        header_stays = λ honest. ap (λ (i : Image). (table_of i home).header id.number) (image honest) ∙ header-stays honest;
-        store = λ honest. subst (HasStore home (with_change (store_on s old) f (with_header_more old.image t id.number))) (sym (image honest)) (store-linked honest);
-        free = λ honest. subst (SameFree home old.image) (sym (image honest)) (ap (λ (v : Volume). v.free) (wrote-link honest).slot.volume);
-        went = went;
-      }

@@ -115,7 +115,7 @@ module _ (was block : List ℕ) (lbn count : ℕ) (appends : AppendsBlocks was b
       omega (arith, has.pointers, has.places_are, within)
 
 -- it is a file's last, in hand
-module _ (s : Structure) (tail : Tail) (block : List ℕ) (lbn count : ℕ) (old : Disk) (for : IsFor s old) (last : HoldsLast s tail old) (own : 4 ≤ tail.file.number)
+module _ (s : Structure) (tail : Tail) (block : List ℕ) (lbn count : ℕ) (old : Disk) (for : IsFor s old) (last : HoldsLast s tail old)
     (given : MayBeGiven (home_of s) lbn count old) (appends : AppendsBlocks tail.block block lbn count) where
   abbrev home : HomeFields
   home = home_of s
@@ -155,7 +155,7 @@ module _ (s : Structure) (tail : Tail) (block : List ℕ) (lbn count : ℕ) (old
     blocks-are : blocks_named block ≡ blocks_named (t.header n) ++ range_with_len lbn count
     blocks-are = blocks-more tail.block block lbn count appends ∙ ap (λ (b : List ℕ). blocks_named b ++ range_with_len lbn count) was-is
 
-    becomes : MayBecome (volume_of old.image home) n block
+    pub becomes : MayBecome (volume_of old.image home) n block
     unfolding volume_of
     becomes = record {
       valid = valid;
@@ -165,10 +165,7 @@ module _ (s : Structure) (tail : Tail) (block : List ℕ) (lbn count : ℕ) (old
       link = links_to_none no-link;
     }
 
-    pub wrote-tail : WritesHeader n block home old.image next
-    wrote-tail = file-rewrite-keeps old.image home (for.sound honest) n block f own (last.is_last honest).of becomes
-
-    names : NamesMoreOf t f n block more lbn count
+    pub names : NamesMoreOf t f n block more lbn count
     names = record {
       stands = record {
         of = (last.is_last honest).of;
@@ -182,67 +179,74 @@ module _ (s : Structure) (tail : Tail) (block : List ℕ) (lbn count : ℕ) (old
       blocks = blocks-are;
     }
 
-    pub store-named : HasStore home (with_zeros_more f more count (store_on s old)) next
-    store-named = record {
-      sound = wrote-tail.slot.sound;
-      store = file-grows old.image next home f n block more lbn count own wrote-tail names
-          ∙ ap (λ (bs : List (List ℕ)). with_change (store_on s old) f (with_more_blocks more bs)) (held-zeros old.image lbn count (given.zeros honest));
-    }
+  -- of a file that requests reach
+  module _ (own : 4 ≤ tail.file.number) where
+    module _ (honest : IsTrue old.honest) where
+      pub wrote-tail : WritesHeader n block home old.image next
+      wrote-tail = file-rewrite-keeps old.image home (for.sound honest) n block f own (last.is_last honest).of (becomes honest)
 
-    pub last-named : IsLastOf (table_of next home) f n
-    last-named = record {
-      of = of-now old.image next home f n block (as-header n block home old.image next wrote-tail) names.stands;
-      no_link = ap (λ (b : List ℕ). (link_of b).number) wrote-tail.index_file.header ∙ no-link;
-    }
-
-  -- it is written
-  module _ (place : ℕ) (new : Disk) (at : place ≡ header_lbn (index_in s) n) where
-    written-is : IsTrue old.honest → set old.image place block ≡ next
-    written-is honest = ap (λ (l : ℕ). set old.image l block) (at ∙ ap (λ (x : Index). header_lbn x n) (for.keeps honest).index_is)
-
-    pub moment : Naming s tail lbn count old (set old.image place block)
-    moment honest = subst (HasStore home (with_zeros_more f more count (store_on s old))) (sym (written-is honest)) (store-named honest)
-
-    pub fails-name : (new ≡ with_transfer false old) ⊎ (new ≡ with_transfer false (with_block_at place block old)) → FailsToName s tail lbn count old new
-    fails-name is = record { fits = pointers-fit tail.block block lbn count appends; went = went_failed_write (Naming s tail lbn count old) old new place block is moment }
-
-    module _ (is : new ≡ with_transfer true (with_block_at place block old)) where
-      went : Went (Naming s tail lbn count old) old new 1 0
-      went = went_write (Naming s tail lbn count old) old new place block is moment
-
-      image : IsTrue old.honest → new.image ≡ next
-      image honest = ap (λ (d : Disk). d.image) is ∙ written-is honest
-
-      was-honest : IsTrue new.honest → IsTrue old.honest
-      was-honest honest = sym went.honest ∙ honest
-
-      for-new : IsFor s new
-      for-new = record {
-        lies = subst (λ (k : ℕ). Lies s k) (sym went.size) for.lies;
-        sound = λ honest. let before = was-honest honest in subst (λ (i : Image). HasSoundVolume i home) (sym (image before)) (store-named before).sound;
-        keeps = λ honest. let before = was-honest honest in subst (Keeps s) (sym (image before)) (keeps-header s n block old.image next (wrote-tail before) (for.keeps before));
+      pub store-named : HasStore home (with_zeros_more f more count (store_on s old)) next
+      store-named = record {
+        sound = wrote-tail.slot.sound;
+        store = file-grows old.image next home f n block more lbn count own wrote-tail (names honest)
+            ∙ ap (λ (bs : List (List ℕ)). with_change (store_on s old) f (with_more_blocks more bs)) (held-zeros old.image lbn count (given.zeros honest));
       }
 
-      pub names-run : NamesRun s tail (record tail { block = block }) lbn count old new
-      names-run = record {
-        file_is = refl;
-        number_is = refl;
-        pointers = pointers-more tail.block block lbn count appends;
-        fits = pointers-fit tail.block block lbn count appends;
-        holds = record {
-          header = record {
-            in_use = last.header.in_use;
-            valid = valid;
-            block_is = λ honest.
-                let before = was-honest honest in
-                sym (wrote-tail before).index_file.header ∙ ap (λ (i : Image). (table_of i home).header n) (sym (image before)) ∙ ap (λ (u : Table). u.header n) (sym (table-of s new for-new honest));
+      pub last-named : IsLastOf (table_of next home) f n
+      last-named = record {
+        of = of-now old.image next home f n block (as-header n block home old.image next wrote-tail) (names honest).stands;
+        no_link = ap (λ (b : List ℕ). (link_of b).number) wrote-tail.index_file.header ∙ no-link honest;
+      }
+
+    -- it is written
+    module _ (place : ℕ) (new : Disk) (at : place ≡ header_lbn (index_in s) n) where
+      written-is : IsTrue old.honest → set old.image place block ≡ next
+      written-is honest = ap (λ (l : ℕ). set old.image l block) (at ∙ ap (λ (x : Index). header_lbn x n) (for.keeps honest).index_is)
+
+      pub moment : Naming s tail lbn count old (set old.image place block)
+      moment honest = subst (HasStore home (with_zeros_more f more count (store_on s old))) (sym (written-is honest)) (store-named honest)
+
+      pub fails-name : (new ≡ with_transfer false old) ⊎ (new ≡ with_transfer false (with_block_at place block old)) → FailsToName s tail lbn count old new
+      fails-name is = record { fits = pointers-fit tail.block block lbn count appends; went = went_failed_write (Naming s tail lbn count old) old new place block is moment }
+
+      module _ (is : new ≡ with_transfer true (with_block_at place block old)) where
+        went : Went (Naming s tail lbn count old) old new 1 0
+        went = went_write (Naming s tail lbn count old) old new place block is moment
+
+        image : IsTrue old.honest → new.image ≡ next
+        image honest = ap (λ (d : Disk). d.image) is ∙ written-is honest
+
+        was-honest : IsTrue new.honest → IsTrue old.honest
+        was-honest honest = sym went.honest ∙ honest
+
+        for-new : IsFor s new
+        for-new = record {
+          lies = subst (λ (k : ℕ). Lies s k) (sym went.size) for.lies;
+          sound = λ honest. let before = was-honest honest in subst (λ (i : Image). HasSoundVolume i home) (sym (image before)) (store-named before).sound;
+          keeps = λ honest. let before = was-honest honest in subst (Keeps s) (sym (image before)) (keeps-header s n block old.image next (wrote-tail before) (for.keeps before));
+        }
+
+        pub names-run : NamesRun s tail (record tail { block = block }) lbn count old new
+        names-run = record {
+          file_is = refl;
+          number_is = refl;
+          pointers = pointers-more tail.block block lbn count appends;
+          fits = pointers-fit tail.block block lbn count appends;
+          holds = record {
+            header = record {
+              in_use = last.header.in_use;
+              valid = valid;
+              block_is = λ honest.
+                  let before = was-honest honest in
+                  sym (wrote-tail before).index_file.header ∙ ap (λ (i : Image). (table_of i home).header n) (sym (image before))
+                  ∙ ap (λ (u : Table). u.header n) (sym (table-of s new for-new honest));
+            };
+            no_link = ap (λ l. l.number) (link-more tail.block block lbn count appends) ∙ last.no_link;
+            few = let same = segment-more tail.block block lbn count appends in omega (arith, same, last.few);
+            is_last = λ honest. let before = was-honest honest in subst (λ (i : Image). IsLastOf (table_of i home) f n) (sym (image before)) (last-named before);
           };
-          no_link = ap (λ l. l.number) (link-more tail.block block lbn count appends) ∙ last.no_link;
-          few = let same = segment-more tail.block block lbn count appends in omega (arith, same, last.few);
-          is_last = λ honest. let before = was-honest honest in subst (λ (i : Image). IsLastOf (table_of i home) f n) (sym (image before)) (last-named before);
-        };
-        is_for = for-new;
-        store = λ honest. subst (HasStore home (with_zeros_more f more count (store_on s old))) (sym (image honest)) (store-named honest);
-        free = λ honest. subst (SameFree home old.image) (sym (image honest)) (ap (λ (v : Volume). v.free) (wrote-tail honest).slot.volume);
-        went = went;
-      }
+          is_for = for-new;
+          store = λ honest. subst (HasStore home (with_zeros_more f more count (store_on s old))) (sym (image honest)) (store-named honest);
+          free = λ honest. subst (SameFree home old.image) (sym (image honest)) (ap (λ (v : Volume). v.free) (wrote-tail honest).slot.volume);
+          went = went;
+        }

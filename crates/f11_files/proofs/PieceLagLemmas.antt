@@ -1,16 +1,16 @@
 -- What stands while a file of the plain store grows piece by piece lags the store before.
 use Rattle.std.proofs.Common.{◌≡◌, ℕ, zero, suc, ◌+◌, ◌-◌, ◌≤◌, ◌==◌, ◌||◌, ◌⊎◌, inl, inr, Bool, true, false, List, ◌∷◌, Option, Some, None, length, take, replicate, unwrap_or, option_map, refl, sym, ◌∙◌, ap, subst, arith, if◌then◌else◌}
-use Rattle.std.proofs.lemmas.List.{length-drop, take-replicate}
+use Rattle.std.proofs.lemmas.List.{take-replicate}
 use Rattle.f11_store.proofs.Frees.{same_limits, same_limits_then}
 use Rattle.f11_store.proofs.Growth.{extend_and_slots, grown_alike, StoresAlike}
 use Rattle.f11_store.proofs.LagLaws.{last_there, Takes}
 use Rattle.f11_store.proofs.StoreLemmas.{same_number}
 use Rattle.f11_store.specs.Changes.{grown_file, is_in, next_sequence, with_change, with_grown_file, MayGrow}
 use Rattle.f11_store.specs.File.{File, need, no_file, zero_blocks}
-use Rattle.f11_store.specs.Lags.{extend_parts, extend_work, file_changes, last_of, with_no_mark, with_parts, with_zero_block, AreLike, LagsBy, Part}
+use Rattle.f11_store.specs.Lags.{extend_parts, extend_work, file_changes, last_of, with_no_mark, with_parts, with_zero_block, AreLike, LagsBy, Part, Work}
 use Rattle.f11_store.specs.Store.{Store, free_headers, free_slots}
 use Rattle.f11_files.specs.Pieces.{file_numbered, ClearedLags, ExtendedLags, TakenLags, TakesSome}
-use Rattle.f11_files.proofs.PieceLemmas.{cleared-twice, free-cleared, free-grown, needs-add}
+use Rattle.f11_files.proofs.PieceLemmas.{cleared-twice, free-cleared, headers-grown, needs-add}
 use Rattle.f11_files.proofs.StoreLemmas.{same-store}
 
 -- the parts of growing by some of the blocks are the first ones of growing by all
@@ -37,6 +37,15 @@ piece-lags s t k room n a few files takes = record {
     there : (m : ℕ) → m ≤ t.slots → last_of s m ≡ s.last m
     there m h = last_there s m (omega (arith, h, takes.slots))
 
+-- a slot that was given its next sequence number is in use, and isn't given another
+pub once : (x c : Bool) (l v : ℕ)
+    → (v ≡ (if x then next_sequence l else l)) ⊎ (((x || c) ≡ false) × (v ≡ next_sequence (if x then next_sequence l else l)))
+    → (v ≡ l) ⊎ (v ≡ next_sequence l)
+once true c l v (inl e) = inr e
+once true c l v (inr (free, e)) = absurd (cc)
+once false c l v (inl e) = inl e
+once false c l v (inr (free, e)) = inr e
+
 -- a file grew, and then some was taken for more
 module _ (s : Store) (k n a b : ℕ) (f : File) (added pointers room : ℕ) (may : MayGrow f a added pointers room) (few : a + b ≤ n) where
   abbrev grown : Store
@@ -45,7 +54,7 @@ module _ (s : Store) (k n a b : ℕ) (f : File) (added pointers room : ℕ) (may
   piece-takes : (u : Store) → TakesSome b (need room b) grown u → Takes s (λ m. m == k) n (need f.room n) u
   piece-takes u takes =
       let need_less : added + need room b ≤ need f.room n = needs-add f n a b added pointers room may few in
-      let left : free_headers grown ≡ free_headers s - added = ap length (free-grown s k a f (zero_blocks a) added pointers room) ∙ length-drop added (free_slots s) in
+      let left : free_headers grown ≡ free_headers s - added = headers-grown s k a f (zero_blocks a) added pointers room in
       record {
         others = λ m out. takes.files m ∙ ap (λ (here : Bool). if here then Some (grown_file s f (zero_blocks a) added pointers room) else s.file m) out;
         free = omega (arith, takes.free, few);
@@ -57,14 +66,6 @@ module _ (s : Store) (k n a b : ℕ) (f : File) (added pointers room : ℕ) (may
         slots = takes.slots;
         same = same_limits_then s grown u (same_limits refl refl refl) takes.limits;
       }
-    where
-      once : (x c : Bool) (l v : ℕ)
-          → (v ≡ (if x then next_sequence l else l)) ⊎ (((x || c) ≡ false) × (v ≡ next_sequence (if x then next_sequence l else l)))
-          → (v ≡ l) ⊎ (v ≡ next_sequence l)
-      once true c l v (inl e) = inr e
-      once true c l v (inr (free, e)) = absurd (cc)
-      once false c l v (inl e) = inl e
-      once false c l v (inr (free, e)) = inr e
 
   grown-lags : (u : Store) → s.file k ≡ Some f → TakesSome b (need room b) grown u → LagsBy (extend_work k f.room n) u s
   grown-lags u was takes =
@@ -85,7 +86,7 @@ taken-lags s t u k n a b may e few takes =
     g = with_grown_file s k e.before a (zero_blocks a) e.added e.pointers e.room
 
 -- nothing was taken
-takes-none : (s : Store) (h : ℕ) → TakesSome 0 h s s
+pub takes-none : (s : Store) (h : ℕ) → TakesSome 0 h s s
 takes-none s h = record {
   files = λ n. refl;
   free = omega arith;
@@ -122,19 +123,25 @@ cleared-once s k =
     by_number false o p = refl
 
 -- what some parts make once the mark is cleared, some parts make before
-cleared-parts : (s : Store) (k n d : ℕ) → (j : ℕ) × (with_parts (with_change s k with_no_mark) (take d (extend_parts k n)) ≡ with_parts s (take j (extend_parts k n)))
-unfolding extend_parts
-cleared-parts s k n zero = (1, refl)
-cleared-parts s k n (suc d) = (suc d, ap (λ (x : Store). with_parts x (take d (replicate n (file_changes k with_zero_block)))) (cleared-once s k))
+cleared-parts : (s : Store) (k d : ℕ) (parts : List Part)
+    → (j : ℕ) × (with_parts (with_change s k with_no_mark) (take d (file_changes k with_no_mark ∷ parts)) ≡ with_parts s (take j (file_changes k with_no_mark ∷ parts)))
+cleared-parts s k zero parts = (1, refl)
+cleared-parts s k (suc d) parts = (suc d, ap (λ (x : Store). with_parts x (take d parts)) (cleared-once s k))
 
-pub cleared-lags : ClearedLags
-cleared-lags s t k room n lags =
-    let parts = cleared-parts s k n lags.done in
+-- work on file k that first clears its mark
+abbrev pub marked_work : ℕ → List Part → ℕ → ℕ → Work
+marked_work k parts blocks headers = record { parts = file_changes k with_no_mark ∷ parts; is_meant = λ m. m == k; blocks = blocks; headers = headers }
+
+pub cleared-work :
+    (s t : Store) (k : ℕ) (parts : List Part) (blocks headers : ℕ) →
+    LagsBy (marked_work k parts blocks headers) t (with_change s k with_no_mark) → LagsBy (marked_work k parts blocks headers) t s
+cleared-work s t k parts blocks headers lags =
+    let made = cleared-parts s k lags.done parts in
     let left : free_headers (with_change s k with_no_mark) ≡ free_headers s = ap length (free-cleared s k) in
     record {
-      done = parts.0;
-      files = λ m. subst (λ (x : Store). AreLike (t.file m) (x.file m)) parts.1 (lags.files m);
-      slots = lags.slots ∙ ap (λ (x : Store). x.slots) parts.1;
+      done = made.0;
+      files = λ m. subst (λ (x : Store). AreLike (t.file m) (x.file m)) made.1 (lags.files m);
+      slots = lags.slots ∙ ap (λ (x : Store). x.slots) made.1;
       others = λ m out. lags.others m out ∙ ap (λ (here : Bool). if here then option_map with_no_mark (s.file k) else s.file m) out;
       free_blocks = lags.free_blocks;
       headers = omega (arith, lags.headers, left);
@@ -142,3 +149,7 @@ cleared-lags s t k room n lags =
       no_header = lags.no_header;
       limits = same_limits lags.limits.bitmap_blocks lags.limits.index_bitmap_blocks lags.limits.limit;
     }
+
+pub cleared-lags : ClearedLags
+unfolding extend_parts
+cleared-lags s t k room n lags = cleared-work s t k (replicate n (file_changes k with_zero_block)) n (need room n) lags

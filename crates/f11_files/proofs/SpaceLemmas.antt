@@ -18,7 +18,7 @@ free-of : (image : Image) (home : HomeFields) → (store_of image home).free ≡
 unfolding store_of
 free-of image home = refl
 
-slots-of : (image : Image) (home : HomeFields) → (store_of image home).slots ≡ slots (index_of image home)
+pub slots-of : (image : Image) (home : HomeFields) → (store_of image home).slots ≡ slots (index_of image home)
 unfolding store_of table_in
 slots-of image home = refl
 

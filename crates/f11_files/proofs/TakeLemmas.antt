@@ -15,7 +15,7 @@ use Rattle.f11_dev.specs.Image.{Image}
 use Rattle.f11_dev.specs.Went.{Went}
 use Rattle.f11_dev.proofs.WentLemmas.{went_looked, went_weaker}
 use Rattle.f11_home.specs.Home.{HomeFields}
-use Rattle.f11_index.specs.Kept.{LiesWithin}
+use Rattle.f11_index.specs.Kept.{LiesWithin, room}
 use Rattle.f11_store.specs.Store.{Store, free_headers, free_slots}
 use Rattle.f11_store.specs.declared.refusals.Refusal.TheVariants.{DeviceFault, Damaged}
 use Rattle.f11_vfy.specs.Space.{storage_bitmap}
@@ -151,10 +151,11 @@ module _ (s : Structure) (from most : ℕ) (old : Disk) (for : IsFor s old) wher
       spare-now : AreSpare (volume_of new.image home) lbn count
       spare-now = front-spare lbn count count new.image takes.within.some (omega arith) takes.within.asked honest (takes.first honest).each (takes.marked.marks honest)
 
-    pub takes-run : (t : Structure) → index_in t ≡ index_in s → bitmap_in t ≡ bitmap_in s → TakesRun s t from most lbn count old new
-    takes-run t index bitmaps = record {
+    pub takes-run : (t : Structure) → index_in t ≡ index_in s → bitmap_in t ≡ bitmap_in s → room t.index ≡ room s.index → TakesRun s t from most lbn count old new
+    takes-run t index bitmaps left = record {
       index = index;
       bitmap = bitmaps;
+      left = left;
       within = takes.within;
       keeps = kept;
       spare = spare-now;

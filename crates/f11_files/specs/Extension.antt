@@ -8,6 +8,7 @@ use Rattle.f11_dev.specs.Image.{Image}
 use Rattle.f11_header.specs.Fields.{owner, protection}
 use Rattle.f11_header.specs.Header.{IsHeader}
 use Rattle.f11_index.specs.HeaderBlock.{segment_number, link_of, blocks_named}
+use Rattle.f11_index.specs.Kept.{room}
 use Rattle.f11_index.specs.Table.{table_of}
 use Rattle.f11_header.specs.Fields.{file_sequence}
 use Rattle.f11_store.specs.Changes.{with_slots}
@@ -45,6 +46,7 @@ pub record EntersHeader (s after : Structure) (tail : Tail) (lbn count : ℕ) (i
   pub last : HoldsLast after tail new
   pub zeros : IsTrue old.honest → HoldsZeros new.image lbn count
   pub bitmap : bitmap_in after ≡ bitmap_in s
+  pub left : room after.index ≡ room s.index
   pub free : IsTrue old.honest → SameFree (home_of s) old.image new.image
   pub slot : IsTrue old.honest → id.number ≡ least_free (store_on s old)
   pub store : IsTrue old.honest → store_of new.image (home_of s) ≡ with_slots (store_on s old) (id.number ∷ [])

@@ -32,3 +32,6 @@ pub mod Growing
 pub mod Take
 pub mod Extension
 pub mod Extend
+pub mod IndexPieces
+pub mod IndexGrowth
+pub mod GrowIndex

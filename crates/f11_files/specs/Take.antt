@@ -6,6 +6,7 @@ use Rattle.f11_bits.specs.Run.{IsRunWithin}
 use Rattle.f11_bits.specs.Transfers.{blocks_to, blocks_touched}
 use Rattle.f11_dev.specs.Disk.{Disk}
 use Rattle.f11_dev.specs.Image.{Image}
+use Rattle.f11_index.specs.Kept.{room}
 use Rattle.f11_store.specs.Store.{Store}
 use Rattle.f11_vfy.specs.Volume.{volume_of}
 use Rattle.f11_writes.specs.Kept.{KeepsButFree}
@@ -28,6 +29,7 @@ with_fewer_free s count = record s { free = s.free - count }
 pub record TakesRun (s after : Structure) (from most lbn count : ℕ) (old new : Disk) : Type 0 where
   pub index : index_in after ≡ index_in s
   pub bitmap : bitmap_in after ≡ bitmap_in s
+  pub left : room after.index ≡ room s.index
   pub within : IsRunWithin (bitmap_in s).size from most lbn count
   pub keeps : IsTrue old.honest → KeepsButFree (home_of s) old.image new.image
   pub spare : IsTrue old.honest → AreSpare (volume_of new.image (home_of s)) lbn count

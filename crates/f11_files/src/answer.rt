@@ -1,6 +1,7 @@
 //! What is answered where a walk along headers fails, and which answers fail the volume.
-ghost use Rattle.std.specs.Prelude.{◌≡◌};
+ghost use Rattle.std.specs.Prelude.{◌≡◌, ◌==◌};
 ghost use Rattle.f11_files.specs.Answers.{is_refused, is_grave, refusal_for};
+ghost use Rattle.f11_store.specs.Refusal.{refusal_number};
 
 use f11_chain::ChainFault;
 use f11_store::Refusal;
@@ -21,4 +22,11 @@ pub(crate) fn refusal_for(fault: ChainFault) -> Refusal
         ChainFault::DeviceFault => Refusal::DeviceFault,
         ChainFault::Damaged => Refusal::Damaged,
     }
+}
+
+/// Whether a refusal is that no file has the identification.
+pub(crate) fn is_no_file(refusal: Refusal) -> bool
+    ensures { result ≡ (refusal_number refusal == 6) }
+{
+    matches!(refusal, Refusal::NoSuchFile)
 }

@@ -1,5 +1,5 @@
 //! The contiguous mark of a file that is to grow.
-ghost use Rattle.std.specs.Prelude.{◌≤◌, OnOk, OnErr};
+ghost use Rattle.std.specs.Prelude.{◌≡◌, ◌⊎◌, ◌≤◌, OnOk, OnErr};
 ghost use Rattle.f11_dev.specs.Went.{Went};
 ghost use Rattle.f11_files.specs.Clear.{Clearing, ClearsMark};
 ghost use Rattle.f11_files.specs.First.{HoldsFile};
@@ -24,7 +24,7 @@ impl Structure {
         first: &mut Block,
     ) -> Result<(), DeviceFault>
         requires is_for { IsFor self.now (D.disk device.old) }
-        requires own { 4 ≤ f.number }
+        requires own { (f.number ≡ 1) ⊎ (4 ≤ f.number) }
         requires holds { HoldsFile (index_in self.now) f first.old (D.disk device.old) }
         ensures clears { OnOk result
             (ClearsMark self.now f first.old first.new (D.disk device.old) (D.disk device.new)) }

@@ -28,7 +28,7 @@ use f11_store::{FileId, Refusal};
 
 /// A file's last header in hand: the first, where that links to none, or else this one.
 #[tactic(auto, unfolding(f11_index::specs::HeaderBlock::link_of))]
-fn tail_of(file: FileId, first: &Block, number: u16, last: &Block) -> Tail
+pub(crate) fn tail_of(file: FileId, first: &Block, number: u16, last: &Block) -> Tail
     requires { IsTrue (holds_header first.now) }
     ensures tail { IsTailOf file first.now number last.now result }
 {

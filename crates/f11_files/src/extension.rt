@@ -22,7 +22,7 @@ use f11_map::in_hand;
 use f11_store::{FileId, Refusal};
 
 /// The segment number that the last header of a file has at most (profile: 256 headers).
-const LAST_SEGMENT: u8 = 255;
+pub(crate) const LAST_SEGMENT: u8 = 255;
 
 /// Makes a block the header of a file behind its last one, with these blocks alone.
 fn fill_extension(block: &mut Block, id: FileId, tail: &Tail, lbn: u32, count: u32)
@@ -48,7 +48,7 @@ impl Structure {
     /// # Errors
     ///
     /// `DeviceFault` where a transfer failed, `Damaged` where no slot is free, though one should be.
-    fn enter_header<D: Device>(
+    pub(crate) fn enter_header<D: Device>(
         &mut self,
         device: &mut D,
         tail: &Tail,

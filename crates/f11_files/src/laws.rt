@@ -3,6 +3,7 @@ ghost use Rattle.f11_files.specs.ExtensionLaws as extensions;
 ghost use Rattle.f11_files.specs.FieldLaws as fields;
 ghost use Rattle.f11_files.specs.FileLaws as files;
 ghost use Rattle.f11_files.specs.FreshStore as fresh;
+ghost use Rattle.f11_files.specs.IndexPieces as index_pieces;
 ghost use Rattle.f11_files.specs.LooseLaws as loose;
 ghost use Rattle.f11_files.specs.NewFileLaws as new;
 ghost use Rattle.f11_files.specs.Pieces as pieces;
@@ -123,6 +124,27 @@ pub fn cleared_marks()
     ensures may { pieces.ClearedMayExtend }
     ensures extends { pieces.ClearedExtends }
     ensures lags { pieces.ClearedLags }
+{}
+
+/// An index file of the plain store that grows piece by piece.
+pub fn index_pieces()
+    ensures none { index_pieces.NoneIsGrown }
+    ensures add { index_pieces.GrowthsAdd }
+    ensures fewer { index_pieces.FewerMayGrow }
+    ensures others { index_pieces.OthersMayGrow }
+{}
+
+/// What stands meanwhile lags the store before.
+pub fn index_pieces_under_way()
+    ensures grown { index_pieces.GrownLags }
+    ensures taken { index_pieces.TakenIndexLags }
+{}
+
+/// An index file whose contiguous mark is cleared before it grows.
+pub fn cleared_index_marks()
+    ensures may { index_pieces.ClearedMayGrow }
+    ensures grows { index_pieces.ClearedGrows }
+    ensures lags { index_pieces.ClearedGrowLags }
 {}
 
 /// The store of a fresh volume.

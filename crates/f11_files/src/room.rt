@@ -84,7 +84,6 @@ impl Structure {
         last: &mut Block,
     ) -> Result<FileEnd, Refusal>
         requires is_for { IsFor self.now (D.disk device.old) }
-        requires own { 4 ≤ f.number }
         ensures room { IfOk result (λ end. FindsRoom self.now f n end first.new last.new
             (D.disk device.old) (D.disk device.new)) }
         ensures refused { IfErr result (λ refusal. FailsToRead false

@@ -1,7 +1,7 @@
 //! The bits of slots, kept and written.
 ghost use Rattle.std.specs.Prelude.{◌≡◌, ◌*◌, ◌<◌, ◌≤◌, true, false, length, OnOk, OnErr};
 ghost use Rattle.f11_index.specs.IndexFile.{slots, bit_of_slot};
-ghost use Rattle.f11_index.specs.Kept.{index_kept, LiesWithin};
+ghost use Rattle.f11_index.specs.Kept.{index_kept, room, LiesWithin};
 
 use crate::index_file::{BITS, IndexFile};
 use f11_bytes::{Block, is_set, set_bit};
@@ -32,6 +32,7 @@ impl IndexFile {
             (D.disk device.old) (D.disk device.new)) }
         ensures failed { OnErr result (FailsToWriteBit true n (index_kept self.old)
             (D.disk device.old) (D.disk device.new)) }
+        ensures room { room self.new ≡ room self.old }
     {
         self.write_bit(device, n, true)
     }
@@ -65,6 +66,7 @@ impl IndexFile {
             (D.disk device.old) (D.disk device.new)) }
         ensures failed { OnErr result (FailsToWriteBit value n (index_kept self.old)
             (D.disk device.old) (D.disk device.new)) }
+        ensures room { room self.new ≡ room self.old }
     {
         let place = (u32::from(n) - 1) / BITS;
         self.keep_bit(n, value);
@@ -74,7 +76,8 @@ impl IndexFile {
     /// Makes the bit of slot `n` this where it is kept.
     fn keep_bit(&mut self, n: u16, value: bool)
         requires slot { (0 < n) × (n ≤ slots (index_kept self.old)) }
-        ensures { SetsBit value n (index_kept self.old) (index_kept self.new) }
+        ensures bit { SetsBit value n (index_kept self.old) (index_kept self.new) }
+        ensures room { room self.new ≡ room self.old }
     {
         let bit = u32::from(n) - 1;
         set_bit(&mut self.bitmap[(bit / BITS) as usize], bit % BITS, value);

@@ -1,4 +1,6 @@
-//! Files of a Files-11 volume that are extended.
+//! Files of a Files-11 volume that are extended, and the index file.
+ghost use Rattle.std.specs.Prelude.{◌<◌};
+
 use crate::files::{id, is_accepted, opened};
 use crate::fixtures::{SEVENS, SYSTEM, ZEROS, get, has_words, keep, linked, memory, put_words};
 use crate::volumes;
@@ -93,6 +95,62 @@ fn a_long_run_has_two_pointers(rt: HostRuntime) -> Result<(), Fail> {
 }
 
 #[test]
+fn a_run_joins_the_last_pointer(rt: HostRuntime) -> Result<(), Fail> {
+    let mut files = fresh(rt.alloc())?;
+    assert_eq!(rt; files.extend(id(4, 4), 1), Ok(2));
+    let mut device = files.abandon();
+    // the directory has block 21, and 22 now: two words are in use still
+    assert!(rt; has_words(&mut device, 6, &[(100, 0xcc02), (102, 0x0100), (104, 21)])?);
+    assert!(rt; is_accepted(rt.alloc(), device));
+    Ok(())
+}
+
+#[test]
+fn two_headers_are_added_at_once(rt: HostRuntime) -> Result<(), Fail> {
+    let mut files = opened(rt.alloc(), volumes::made(memory(rt.alloc(), 700)?)?)?;
+    assert_eq!(rt; made(&mut files), Ok(id(6, 1)));
+    assert_eq!(rt; made(&mut files), Ok(id(7, 1)));
+    assert!(rt; in_turn(&mut files, 300));
+    assert_eq!(rt; files.delete(id(6, 1)), Ok(()));
+    assert_eq!(rt; made(&mut files), Ok(id(6, 2)));
+    let before = files.space();
+    // no two of 300 free blocks adjoin
+    assert_eq!(rt; files.extend(id(6, 2), 300), Ok(300));
+    assert_eq!(rt; (before.0, files.space().0), (378, 78));
+    assert_eq!(rt; (before.1, files.space().1), (7, 5));
+    let before = files.lent().transfers();
+    assert_eq!(rt; files.delete(id(6, 2)), Ok(()));
+    // each of three headers is read, killed, and leaves use; each pointer's bitmap block is read and written
+    assert_eq!(rt; files.lent().transfers(), before.saturating_add(609));
+    assert_eq!(rt; files.space(), (378, 8, 16));
+    assert!(rt; is_accepted(rt.alloc(), files.abandon()));
+    Ok(())
+}
+
+/// A volume of 5,000 blocks whose second bitmap block, 21, is named by a header of its own, 6.
+fn bitmap_in_two_headers(alloc: Global) -> Result<Memory, Fail> {
+    let mut device = volumes::made(memory(alloc, 5000)?)?;
+    let header = linked(id(2, 2), 0, id(6, 1), &[(19, 1)]);
+    keep(&mut device, 4, &header)?;
+    let header = linked(id(6, 1), 1, id(0, 0), &[(21, 0)]);
+    keep(&mut device, 8, &header)?;
+    put_words(&mut device, 2, &[(0, 0x3f)])?;
+    Ok(device)
+}
+
+#[test]
+fn a_bitmap_is_in_two_headers(rt: HostRuntime) -> Result<(), Fail> {
+    let mut files = opened(rt.alloc(), bitmap_in_two_headers(rt.alloc())?)?;
+    assert_eq!(rt; files.space(), (4977, 10, 16));
+    assert_eq!(rt; made(&mut files), Ok(id(7, 1)));
+    assert_eq!(rt; files.extend(id(7, 1), 4500), Ok(4500));
+    assert_eq!(rt; files.truncate(id(7, 1), 10), Ok(10));
+    assert_eq!(rt; files.space(), (4967, 9, 16));
+    assert!(rt; is_accepted(rt.alloc(), files.abandon()));
+    Ok(())
+}
+
+#[test]
 fn files_that_grow_in_turn_get_headers(rt: HostRuntime) -> Result<(), Fail> {
     let mut files = fresh(rt.alloc())?;
     assert_eq!(rt; made(&mut files), Ok(id(6, 1)));
@@ -124,7 +182,74 @@ fn headers_run_out(rt: HostRuntime) -> Result<(), Fail> {
     assert_eq!(rt; files.extend(id(6, 1), 1), Err(Refusal::NoHeader));
     assert_eq!(rt; files.extend(id(8, 1), 3), Ok(3));
     assert_eq!(rt; files.extend(id(9, 1), 103), Err(Refusal::NoHeader));
+    // H.FMAX is 4,000, and 171 blocks are free
+    assert_eq!(rt; files.grow_index(4000), Err(Refusal::IndexLimit));
+    assert_eq!(rt; files.grow_index(3984), Err(Refusal::DeviceFull));
+    assert!(rt; !files.failed() && grown(&mut files, 1) == Ok(17));
+    assert_eq!(rt; files.grow_index(3984), Err(Refusal::IndexLimit));
+    assert_eq!(rt; files.space(), (170, 1, 17));
+    assert_eq!(rt; files.extend(id(6, 1), 1), Ok(103));
+    assert_eq!(rt; files.space(), (169, 0, 17));
     assert!(rt; !files.failed() && is_accepted(rt.alloc(), files.abandon()));
+    Ok(())
+}
+
+/// More slots, asked for once more where there was no memory.
+pub fn grown<D: Device>(files: &mut Files<D>, n: u32) -> Result<u32, Refusal>
+    requires { 0 < n }
+{
+    let before = files.space();
+    match files.grow_index(n) {
+        Err(Refusal::NoMemory) if !files.failed() && files.space() == before => {
+            files.grow_index(n)
+        }
+        answer => answer,
+    }
+}
+
+#[test]
+fn the_index_file_gets_a_header(rt: HostRuntime) -> Result<(), Fail> {
+    let mut files = fresh(rt.alloc())?;
+    assert_eq!(rt; made(&mut files), Ok(id(6, 1)));
+    // a block in between, so that no two of the index file's join
+    for slots in 17..=119 {
+        assert!(rt; files.extend(id(6, 1), 1).is_ok(), "{slots}");
+        assert_eq!(rt; grown(&mut files, 1), Ok(slots));
+    }
+    let mut device = files.abandon();
+    // the last header of the index file is 7, in segment 1, and none of the new slots was given a sequence number
+    assert!(rt; has_words(&mut device, 9, &[(2, 7), (92, 1)])?);
+    assert!(rt; has_words(&mut device, 3, &[(94, 7), (96, 1)])?);
+    let mut files = opened(rt.alloc(), device)?;
+    assert_eq!(rt; files.space().2, 119);
+    for number in 9..=119 {
+        assert_eq!(rt; made(&mut files), Ok(id(number, 1)));
+    }
+    assert!(rt; is_accepted(rt.alloc(), files.abandon()));
+    Ok(())
+}
+
+#[test]
+fn a_transfer_of_growing_the_index_file_fails(rt: HostRuntime) -> Result<(), Fail> {
+    let fresh = volumes::made(memory(rt.alloc(), volumes::BLOCKS)?)?;
+    let made = fresh.transfers();
+    let opening = opened(rt.alloc(), fresh)?.lent().transfers();
+    for k in 0..=6 {
+        let at = opening.saturating_sub(made).saturating_add(k);
+        for lands in [false, true] {
+            let device = volumes::made(memory(rt.alloc(), volumes::BLOCKS)?)?;
+            let device = FailOnce::new(device, at.saturating_add(1), lands);
+            let mut files = opened(rt.alloc(), device)?;
+            let wanted = if k < 6 {
+                Err(Refusal::DeviceFault)
+            } else {
+                Ok(18)
+            };
+            assert!(rt; grown(&mut files, 2) == wanted, "{k}");
+            let device = files.abandon().into_inner();
+            assert!(rt; is_accepted(rt.alloc(), device), "{k}");
+        }
+    }
     Ok(())
 }
 

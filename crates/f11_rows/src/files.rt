@@ -7,7 +7,7 @@ use f11_bytes::Block;
 use f11_dev::{Device, DeviceFault, FailOnce, Liar, Memory};
 use f11_files::{Files, OpenFault};
 use f11_store::{Attr, Change, FileId, Refusal, Uic};
-use f11_vfy::{Report, verify};
+use f11_vfy::{Accepted, Report, verify};
 use std::alloc::Global;
 use std::test::Fail;
 
@@ -29,12 +29,17 @@ pub fn id(number: u16, sequence: u16) -> FileId
     }
 }
 
-/// Opens the volume of a device, once more where there was no memory.
+/// Opens the volume of a device.
 pub fn opened<D: Device + Drop>(alloc: Global, device: D) -> Result<Files<D>, Fail> {
     let accepted = match verify(alloc, device) {
         Ok(Report::Accepted(accepted, _)) => accepted,
         _ => return Err(DeviceFault)?,
     };
+    opened_of(alloc, accepted)
+}
+
+/// Opens an accepted volume, once more where there was no memory.
+pub fn opened_of<D: Device>(alloc: Global, accepted: Accepted<D>) -> Result<Files<D>, Fail> {
     match Files::open(alloc, accepted) {
         Ok(files) => Ok(files),
         Err(OpenFault::NoMemory(accepted)) => match Files::open(alloc, accepted) {
@@ -219,6 +224,7 @@ fn calls<D: Device>(files: &mut Files<D>) -> bool {
         files.write_block(id(4, 4), 1, &block).err(),
         files.extend(id(4, 4), 1).err(),
         files.truncate(id(4, 4), 1).err(),
+        files.grow_index(1).err(),
         files.delete(id(6, 1)).err(),
     ];
     let failed = answers
@@ -244,10 +250,11 @@ fn a_transfer_of_a_call_fails(rt: HostRuntime) -> Result<(), Fail> {
     let opened_at = files.lent().transfers();
     assert!(rt; calls(&mut files) && !files.failed());
     let done = files.lent().transfers().saturating_sub(opened_at);
-    // three each of create and delete, five of extend, four of truncate, one or two of each other
-    assert_eq!(rt; done, 25);
+    // three each of create and delete, five of extend and of grow_index, four of truncate, one or two of
+    // each other
+    assert_eq!(rt; done, 30);
     let first = opened_at.saturating_sub(made);
-    for k in 1..=25 {
+    for k in 1..=30 {
         for lands in [false, true] {
             let device = FailOnce::new(small(rt.alloc(), &[])?, first.saturating_add(k), lands);
             let mut files = opened(rt.alloc(), device)?;

@@ -290,7 +290,7 @@ added_slot : (slots n m x : ℕ) → slots < m → m ≤ slots + n → (if nat_l
 added_slot slots n m x above below = grind (arith, nat_tests)
 
 -- so what holds of a slot that was there, and of 0, holds of a slot after slots were added
-last_after_growth :
+pub last_after_growth :
     (P : ℕ → ℕ → Type 0) (slots n m x y : ℕ) → m ≤ slots + n → P x y → P 0 0 →
     P (if nat_lt slots m && nat_le m (slots + n) then 0 else x) (if nat_le m slots then y else 0)
 last_after_growth P slots n m x y within there added = by_test (nat_le m slots) refl
@@ -304,7 +304,7 @@ last_after_growth P slots n m x y within there added = by_test (nat_le m slots) 
         subst (λ (z : ℕ). P z 0) (sym (added_slot slots n m x high within)) added
 
 -- the parts of GrowIndex
-parts_of_growth : (s : Store) (n : ℕ) → with_parts s (grow_parts n) ≡ record (with_change s 1 with_no_mark) { slots = s.slots + n }
+pub parts_of_growth : (s : Store) (n : ℕ) → with_parts s (grow_parts n) ≡ record (with_change s 1 with_no_mark) { slots = s.slots + n }
 unfolding grow_parts
 parts_of_growth s n = slots_one_by_one n (with_change s 1 with_no_mark)
 

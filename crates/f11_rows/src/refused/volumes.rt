@@ -23,7 +23,7 @@ fn faulty(alloc: Global) -> Result<Memory, Fail> {
 }
 
 /// Verifies a volume, once more where there was no memory.
-fn verified(alloc: Global, device: Memory) -> Result<Report<Memory>, VfyError<Memory>> {
+pub fn verified(alloc: Global, device: Memory) -> Result<Report<Memory>, VfyError<Memory>> {
     match f11_vfy::verify(alloc, device) {
         Err(VfyError::NoMemory(device)) => f11_vfy::verify(alloc, device),
         done => done,

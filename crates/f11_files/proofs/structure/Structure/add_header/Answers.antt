@@ -1,5 +1,6 @@
-use Rattle.std.proofs.Common.{arith}
-use Rattle.f11_files.proofs.AddHeaderLemmas.{too-many, some-free, fails-enter, fails-link, failed-link-stays, appends-linked}
+use Rattle.std.proofs.Common.{refl, arith}
+use Rattle.f11_files.proofs.AddHeaderLemmas.{fails-link, failed-link-stays, appends-linked}
+use Rattle.f11_files.proofs.NewHeaderLemmas.{too-many, some-free, fails-enter}
 use Rattle.f11_files.proofs.AnswerLemmas.{handed}
 use Rattle.f11_files.proofs.ExtensionBlockLemmas.{segment-said}
 use Rattle.f11_files.proofs.FreeingLemmas.{stays-for}
@@ -8,7 +9,7 @@ use Rattle.f11_files.proofs.structure.Structure.add_header.Goals as goal
 pub returns-then-segment-eq-LAST_SEGMENT-clause-refused : goal.returns-then-segment-eq-LAST_SEGMENT-clause-refused
 returns-then-segment-eq-LAST_SEGMENT-clause-refused g c =
     let is = segment-said c.args.tail.now.block _ c.segment.result c.map.ensures c.segment.ensures in
-    too-many c.args.self.now c.args.tail.now c.args.lbn c.args.count (g.D.Device.disk c.args.device.now) c.requires.is_for c.requires.last c.requires.own c.requires.given c.requires.full c.requires.may
+    too-many _ c.args.self.now c.args.tail.now _ c.args.lbn c.args.count (g.D.Device.disk c.args.device.now) c.requires.is_for c.requires.last refl c.requires.given c.requires.full c.requires.may
     (omega (arith, is, c.if-segment-eq-LAST_SEGMENT.true))
 
 pub enter_header-requires-clause-early : goal.enter_header-requires-clause-early
@@ -18,12 +19,12 @@ enter_header-requires-clause-early g c =
 
 pub enter_header-requires-clause-free : goal.enter_header-requires-clause-free
 enter_header-requires-clause-free g c =
-    some-free c.args.self.now c.args.tail.now c.args.lbn c.args.count (g.D.Device.disk c.args.device.now) c.requires.is_for c.requires.last c.requires.own c.requires.given c.requires.full c.requires.may
+    some-free (λ t. ⊥) c.args.self.now c.args.tail.now _ c.args.lbn c.args.count (g.D.Device.disk c.args.device.now) c.requires.is_for c.requires.last refl c.requires.given c.requires.full c.requires.may
 
 pub returns-in_err-id-clause-refused : goal.returns-in_err-id-clause-refused
 returns-in_err-id-clause-refused g c =
     handed _ c.from_residual.result _ c.from_residual.ensures.1
-    (fails-enter c.args.self.now c.args.tail.now c.args.lbn c.args.count (g.D.Device.disk c.args.device.now) c.requires.is_for c.requires.last c.requires.own c.requires.given c.requires.full c.requires.may
+    (fails-enter _ c.args.self.now c.args.tail.now _ c.args.lbn c.args.count (g.D.Device.disk c.args.device.now) c.requires.is_for c.requires.last refl c.requires.given c.requires.full c.requires.may
     _ _ c.in_err-id.ensures.refused)
 
 pub link_tail-requires-clause-is_for : goal.link_tail-requires-clause-is_for

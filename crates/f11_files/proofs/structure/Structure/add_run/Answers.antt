@@ -1,4 +1,6 @@
-use Rattle.f11_files.proofs.AddRunLemmas.{fails-take, run-last, run-may, fails-append, adds-run}
+use Rattle.f11_files.proofs.AddRunLemmas.{fails-take, run-may, fails-append, adds-run}
+use Rattle.f11_files.proofs.PieceLemmas.{may-free}
+use Rattle.f11_files.proofs.TakenRunLemmas.{run-last}
 use Rattle.f11_files.proofs.AnswerLemmas.{handed}
 use Rattle.f11_files.proofs.structure.Structure.add_run.Goals as goal
 
@@ -7,7 +9,7 @@ returns-in_err-lbn-clause-refused g c =
     handed _ c.from_residual.result _ c.from_residual.ensures.1 (fails-take c.args.self.now c.args.tail.now c.args.from c.args.most _ _ _ c.in_err-lbn.ensures.refused)
 
 pub append_run-requires-clause-last : goal.append_run-requires-clause-last
-append_run-requires-clause-last g c = run-last c.args.self.now _ c.args.tail.now c.args.from c.args.most _ _ _ _ c.requires.is_for c.requires.last c.requires.may c.in_ok-lbn.ensures.taken (rw c.in_ok-lbn.was at c.take_run.ensures.stays)
+append_run-requires-clause-last g c = run-last c.args.self.now _ c.args.tail.now c.args.from c.args.most _ _ _ _ c.requires.is_for c.requires.last (λ honest. may-free _ _ _ (c.requires.may honest)) c.in_ok-lbn.ensures.taken (rw c.in_ok-lbn.was at c.take_run.ensures.stays)
 
 pub append_run-requires-clause-may : goal.append_run-requires-clause-may
 append_run-requires-clause-may g c = run-may c.args.self.now _ c.args.tail.now c.args.from c.args.most _ _ _ _ c.requires.is_for c.requires.last c.requires.may c.in_ok-lbn.ensures.taken (rw c.in_ok-lbn.was at c.take_run.ensures.stays)

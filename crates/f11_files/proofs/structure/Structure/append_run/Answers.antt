@@ -1,7 +1,8 @@
 use Rattle.std.proofs.Common.{refl}
 use Rattle.std.proofs.lemmas.Result.{IfErr-weaker, on_ok_weaker}
-use Rattle.f11_files.proofs.AppendRunLemmas.{sound-moment, fails-zeros, mid-for, mid-last, mid-given, named-stays, now-for, now-last, now-own, now-given, now-full, now-may, appends-header, fails-header, fails-named, appends-named}
+use Rattle.f11_files.proofs.AppendRunLemmas.{sound-moment, fails-zeros, named-stays, now-own, now-may, appends-header, fails-header, fails-named, appends-named}
 use Rattle.f11_files.proofs.GrowingLemmas.{breaks-stays}
+use Rattle.f11_files.proofs.ZeroedLemmas.{mid-for, mid-last, mid-given, now-for, now-last, now-given, now-full}
 use Rattle.f11_files.proofs.structure.Structure.append_run.Goals as goal
 
 pub returns-in-Err-clause-refused : goal.returns-in-Err-clause-refused
@@ -15,13 +16,13 @@ returns-in-Err-clause-stays g c =
     (fails-zeros c.args.self.now c.args.tail.now c.args.lbn c.args.count _ c.requires.is_for c.requires.last c.requires.own c.requires.within c.requires.few.0 c.requires.few.1 c.requires.spare c.requires.may _ c.in-Err.ensures.failed)
 
 pub name_run-requires-clause-is_for : goal.name_run-requires-clause-is_for
-name_run-requires-clause-is_for g c = mid-for c.args.self.now c.args.tail.now c.args.lbn c.args.count _ c.requires.is_for c.requires.last c.requires.own c.requires.within c.requires.few.0 c.requires.few.1 c.requires.spare c.requires.may _ c.in-Ok.ensures.zeroes
+name_run-requires-clause-is_for g c = mid-for c.args.self.now c.args.tail.now c.args.lbn c.args.count _ _ c.requires.is_for c.requires.last c.requires.within c.requires.few.0 c.requires.few.1 c.requires.spare c.in-Ok.ensures.zeroes
 
 pub name_run-requires-clause-last : goal.name_run-requires-clause-last
-name_run-requires-clause-last g c = mid-last c.args.self.now c.args.tail.now c.args.lbn c.args.count _ c.requires.is_for c.requires.last c.requires.own c.requires.within c.requires.few.0 c.requires.few.1 c.requires.spare c.requires.may _ c.in-Ok.ensures.zeroes
+name_run-requires-clause-last g c = mid-last c.args.self.now c.args.tail.now c.args.lbn c.args.count _ _ c.requires.is_for c.requires.last c.requires.within c.requires.few.0 c.requires.few.1 c.requires.spare c.in-Ok.ensures.zeroes
 
 pub name_run-requires-clause-given : goal.name_run-requires-clause-given
-name_run-requires-clause-given g c = mid-given c.args.self.now c.args.tail.now c.args.lbn c.args.count _ c.requires.is_for c.requires.last c.requires.own c.requires.within c.requires.few.0 c.requires.few.1 c.requires.spare c.requires.may _ c.in-Ok.ensures.zeroes
+name_run-requires-clause-given g c = mid-given c.args.self.now c.args.tail.now c.args.lbn c.args.count _ _ c.requires.is_for c.requires.last c.requires.within c.requires.few.0 c.requires.few.1 c.requires.spare c.in-Ok.ensures.zeroes
 
 pub returns-in-Err-name_run-clause-refused : goal.returns-in-Err-name_run-clause-refused
 returns-in-Err-name_run-clause-refused g c =
@@ -39,19 +40,19 @@ pub returns-then-named-clause-stays : goal.returns-then-named-clause-stays
 returns-then-named-clause-stays g c = named-stays (c.in-Ok-name_run.ensures.names c.if-named.true)
 
 pub add_header-requires-clause-is_for : goal.add_header-requires-clause-is_for
-add_header-requires-clause-is_for g c = now-for c.args.self.now c.args.tail.now c.args.lbn c.args.count _ c.requires.is_for c.requires.last c.requires.own c.requires.within c.requires.few.0 c.requires.few.1 c.requires.spare c.requires.may _ c.in-Ok.ensures.zeroes _ _ (c.in-Ok-name_run.ensures.full c.if-named.false)
+add_header-requires-clause-is_for g c = now-for c.args.self.now c.args.tail.now c.args.lbn c.args.count _ _ c.requires.is_for c.requires.last c.requires.within c.requires.few.0 c.requires.few.1 c.requires.spare c.in-Ok.ensures.zeroes _ _ (c.in-Ok-name_run.ensures.full c.if-named.false)
 
 pub add_header-requires-clause-last : goal.add_header-requires-clause-last
-add_header-requires-clause-last g c = now-last c.args.self.now c.args.tail.now c.args.lbn c.args.count _ c.requires.is_for c.requires.last c.requires.own c.requires.within c.requires.few.0 c.requires.few.1 c.requires.spare c.requires.may _ c.in-Ok.ensures.zeroes _ _ (c.in-Ok-name_run.ensures.full c.if-named.false)
+add_header-requires-clause-last g c = now-last c.args.self.now c.args.tail.now c.args.lbn c.args.count _ _ c.requires.is_for c.requires.last c.requires.within c.requires.few.0 c.requires.few.1 c.requires.spare c.in-Ok.ensures.zeroes _ _ (c.in-Ok-name_run.ensures.full c.if-named.false)
 
 pub add_header-requires-clause-own : goal.add_header-requires-clause-own
 add_header-requires-clause-own g c = now-own c.args.self.now c.args.tail.now c.args.lbn c.args.count _ c.requires.is_for c.requires.last c.requires.own c.requires.within c.requires.few.0 c.requires.few.1 c.requires.spare c.requires.may _ c.in-Ok.ensures.zeroes _ _ (c.in-Ok-name_run.ensures.full c.if-named.false)
 
 pub add_header-requires-clause-given : goal.add_header-requires-clause-given
-add_header-requires-clause-given g c = now-given c.args.self.now c.args.tail.now c.args.lbn c.args.count _ c.requires.is_for c.requires.last c.requires.own c.requires.within c.requires.few.0 c.requires.few.1 c.requires.spare c.requires.may _ c.in-Ok.ensures.zeroes _ _ (c.in-Ok-name_run.ensures.full c.if-named.false)
+add_header-requires-clause-given g c = now-given c.args.self.now c.args.tail.now c.args.lbn c.args.count _ _ c.requires.is_for c.requires.last c.requires.within c.requires.few.0 c.requires.few.1 c.requires.spare c.in-Ok.ensures.zeroes _ _ (c.in-Ok-name_run.ensures.full c.if-named.false)
 
 pub add_header-requires-clause-full : goal.add_header-requires-clause-full
-add_header-requires-clause-full g c = now-full c.args.self.now c.args.tail.now c.args.lbn c.args.count _ c.requires.is_for c.requires.last c.requires.own c.requires.within c.requires.few.0 c.requires.few.1 c.requires.spare c.requires.may _ c.in-Ok.ensures.zeroes _ _ (c.in-Ok-name_run.ensures.full c.if-named.false)
+add_header-requires-clause-full g c = now-full c.args.self.now c.args.tail.now c.args.lbn c.args.count _ _ c.requires.is_for c.requires.last c.requires.within c.requires.few.0 c.requires.few.1 c.requires.spare c.in-Ok.ensures.zeroes _ _ (c.in-Ok-name_run.ensures.full c.if-named.false)
 
 pub add_header-requires-clause-may : goal.add_header-requires-clause-may
 add_header-requires-clause-may g c = now-may c.args.self.now c.args.tail.now c.args.lbn c.args.count _ c.requires.is_for c.requires.last c.requires.own c.requires.within c.requires.few.0 c.requires.few.1 c.requires.spare c.requires.may _ c.in-Ok.ensures.zeroes _ _ (c.in-Ok-name_run.ensures.full c.if-named.false)

@@ -11,7 +11,7 @@ returns-then-not-clear_contiguous-clause-clears g c =
     let old = g.D.Device.disk c.args.device.now in
     let none = c.if-not-clear_contiguous.true in
     subst (λ (b : List ℕ). ClearsMark s c.args.f c.args.first.now b old old) (sym (c.clear_contiguous.ensures.unchanged none))
-    (clears-none s c.args.f c.args.first.now old c.requires.is_for c.requires.own c.requires.holds (c.clear_contiguous.ensures.none none))
+    (clears-none s c.args.f c.args.first.now old c.requires.is_for c.requires.holds (c.clear_contiguous.ensures.none none))
 
 pub lbn_of_header-requires-clause-slot : goal.lbn_of_header-requires-clause-slot
 lbn_of_header-requires-clause-slot g c = in_use-slot (index_in c.args.self.now) c.args.f.number c.requires.holds.header.in_use
@@ -25,10 +25,10 @@ write-requires g c =
 
 pub returns-in-Ok-clause-clears : goal.returns-in-Ok-clause-clears
 returns-in-Ok-clause-clears g c =
-    clears-mark c.args.self.now c.args.f c.args.first.now (g.D.Device.disk c.args.device.now) c.requires.is_for c.requires.own c.requires.holds _ (c.clear_contiguous.ensures.cleared c.if-not-clear_contiguous.false)
+    clears-mark c.args.self.now c.args.f c.args.first.now (g.D.Device.disk c.args.device.now) c.requires.is_for c.requires.holds c.requires.own _ (c.clear_contiguous.ensures.cleared c.if-not-clear_contiguous.false)
     _ _ c.lbn_of_header.ensures c.in-Ok.ensures.writes.ok
 
 pub returns-in-Err-clause-failed : goal.returns-in-Err-clause-failed
 returns-in-Err-clause-failed g c =
-    fails-clear c.args.self.now c.args.f c.args.first.now (g.D.Device.disk c.args.device.now) c.requires.is_for c.requires.own c.requires.holds _ (c.clear_contiguous.ensures.cleared c.if-not-clear_contiguous.false)
+    fails-clear c.args.self.now c.args.f c.args.first.now (g.D.Device.disk c.args.device.now) c.requires.is_for c.requires.holds c.requires.own _ (c.clear_contiguous.ensures.cleared c.if-not-clear_contiguous.false)
     _ _ c.lbn_of_header.ensures c.in-Err.ensures.writes.err

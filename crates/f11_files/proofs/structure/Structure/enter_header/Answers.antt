@@ -42,7 +42,7 @@ pub returns-in-Ok-set-clause-entered : goal.returns-in-Ok-set-clause-entered
 returns-in-Ok-set-clause-entered g c =
     enters-header c.args.self.now c.args.tail.now c.args.lbn c.args.count (g.D.Device.disk c.args.device.now) c.requires.is_for c.requires.last c.requires.given
     c.in-Some.number _ _ c.read.new.into c.next_sequence.result c.in-Some.ensures c.lbn_of_header-at.ensures c.in-Ok.ensures.reads.counts c.in-Ok.ensures.reads.gives c.next_sequence.ensures.next
-    c.fill_extension.new.block c.fill_extension.ensures _ c.in-Ok-write.ensures.writes.ok c.set.new.self _ c.in-Ok-set.ensures.done
+    c.fill_extension.new.block c.fill_extension.ensures _ c.in-Ok-write.ensures.writes.ok c.set.new.self _ c.in-Ok-set.ensures.done c.set.ensures.room
 
 pub returns-in-Ok-set-clause-stays : goal.returns-in-Ok-set-clause-stays
 returns-in-Ok-set-clause-stays g c =

@@ -1,5 +1,6 @@
 use Rattle.f11_files.proofs.AnswerLemmas.{handed}
-use Rattle.f11_files.proofs.ExtendLemmas.{fails-clearing, stays-clearing, holds-last, may-extend, fails-growing, extends-file, length-after}
+use Rattle.f11_files.proofs.ClearedLemmas.{holds-last}
+use Rattle.f11_files.proofs.ExtendLemmas.{fails-clearing, stays-clearing, may-extend, fails-growing, extends-file, length-after}
 use Rattle.f11_files.proofs.structure.Structure.extend.Goals as goal
 
 pub returns-in-Err-clause-refused : goal.returns-in-Err-clause-refused
@@ -10,7 +11,7 @@ returns-in-Err-clause-stays g c = stays-clearing c.args.self.now c.args.f c.args
 
 pub extend_by-requires-clause-last : goal.extend_by-requires-clause-last
 extend_by-requires-clause-last g c =
-    holds-last c.args.self.now c.args.f c.args.n _ _ _ _ _ c.requires.is_for c.requires.own c.in_ok-end.ensures.room _ _ c.in-Ok.ensures.clears _ c.tail_of-tail.ensures.tail
+    holds-last c.args.self.now c.args.f c.args.n _ _ _ _ _ c.requires.is_for c.in_ok-end.ensures.room _ _ c.in-Ok.ensures.clears _ c.tail_of-tail.ensures.tail
 
 pub extend_by-requires-clause-may : goal.extend_by-requires-clause-may
 extend_by-requires-clause-may g c =

@@ -18,10 +18,10 @@ write-requires g c =
 
 pub returns-in-Ok-clause-links : goal.returns-in-Ok-clause-links
 returns-in-Ok-clause-links g c =
-    links-tail c.args.self.now c.args.tail.now c.set_link.new.block c.args.id (g.D.Device.disk c.args.device.now) c.requires.is_for c.requires.last c.requires.own c.requires.early c.requires.next c.set_link.ensures.sets
+    links-tail c.args.self.now c.args.tail.now c.set_link.new.block c.args.id (g.D.Device.disk c.args.device.now) c.requires.is_for c.requires.last c.requires.early c.requires.next c.set_link.ensures.sets c.requires.own
     _ _ c.lbn_of_header.ensures c.in-Ok.ensures.writes.ok
 
 pub returns-in-Err-clause-failed : goal.returns-in-Err-clause-failed
 returns-in-Err-clause-failed g c =
-    fails-link c.args.self.now c.args.tail.now c.set_link.new.block c.args.id (g.D.Device.disk c.args.device.now) c.requires.is_for c.requires.last c.requires.own c.requires.early c.requires.next c.set_link.ensures.sets
+    fails-link c.args.self.now c.args.tail.now c.set_link.new.block c.args.id (g.D.Device.disk c.args.device.now) c.requires.is_for c.requires.last c.requires.early c.requires.next c.set_link.ensures.sets c.requires.own
     _ _ c.lbn_of_header.ensures c.in-Err.ensures.writes.err

@@ -18,10 +18,10 @@ write-requires g c =
 
 pub returns-in-Ok-write-clause-names : goal.returns-in-Ok-write-clause-names
 returns-in-Ok-write-clause-names g c = λ _.
-    names-run c.args.self.now c.args.tail.now c.append.new.block c.args.lbn c.args.count (g.D.Device.disk c.args.device.now) c.requires.is_for c.requires.last c.requires.own c.requires.given c.in-Ok.ensures.ok
+    names-run c.args.self.now c.args.tail.now c.append.new.block c.args.lbn c.args.count (g.D.Device.disk c.args.device.now) c.requires.is_for c.requires.last c.requires.given c.in-Ok.ensures.ok c.requires.own
     _ _ c.lbn_of_header.ensures c.in-Ok-write.ensures.writes.ok
 
 pub returns-in-Err-write-clause-failed : goal.returns-in-Err-write-clause-failed
 returns-in-Err-write-clause-failed g c =
-    fails-name c.args.self.now c.args.tail.now c.append.new.block c.args.lbn c.args.count (g.D.Device.disk c.args.device.now) c.requires.is_for c.requires.last c.requires.own c.requires.given c.in-Ok.ensures.ok
+    fails-name c.args.self.now c.args.tail.now c.append.new.block c.args.lbn c.args.count (g.D.Device.disk c.args.device.now) c.requires.is_for c.requires.last c.requires.given c.in-Ok.ensures.ok c.requires.own
     _ _ c.lbn_of_header.ensures c.in-Err-write.ensures.writes.err

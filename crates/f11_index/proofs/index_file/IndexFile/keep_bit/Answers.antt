@@ -5,8 +5,8 @@ use Rattle.f11_index.specs.Kept.{index_kept}
 use Rattle.f11_index.proofs.BitLemmas.{SetsBit-block}
 use Rattle.f11_index.proofs.index_file.IndexFile.keep_bit.Goals as goal
 
-pub returns : goal.returns
-returns c =
+pub returns-clause-bit : goal.returns-clause-bit
+returns-clause-bit c =
     let place = (c.from-bit.result - 1) / 4096 in
     let within : place < length c.args.self.now.bitmap.items = omega arith in
     let block = get_or_read_under c.args.self.now.bitmap.items place _ _ [] c.index_mut.ensures.value within refl in

@@ -1,0 +1,20 @@
+use Rattle.std.proofs.Common.{arith}
+use Rattle.f11_files.proofs.FilesLemmas.{files-for}
+use Rattle.f11_files.specs.Structure.{StaysFor}
+use Rattle.f11_files.proofs.GrowIndexLemmas.{as-grow}
+use Rattle.f11_files.proofs.OpenLemmas.{stays-opened}
+use Rattle.f11_files.proofs.WriteLemmas.{had-failed}
+use Rattle.f11_files.proofs.files.Files.grow_index.Goals as goal
+
+pub grow_index-answer-requires-clause-is_for : goal.grow_index-answer-requires-clause-is_for
+grow_index-answer-requires-clause-is_for g c = files-for c.args.self.now (g.met.D.Device.is_image c.args.self.now.device) c.if-self.false
+
+pub invariant_of-self : goal.invariant_of-self
+invariant_of-self g c =
+    let failed = c.is_grave-self.result in
+    let stays : StaysFor failed c.args.self.now.structure c.grow_index-answer.new.self (g.D.Device.disk c.grow_index-answer.new.device) = rw c.is_grave-self.ensures c.grow_index-answer.ensures.stays in
+    let is = stays-opened _ _ failed _ (g.met.D.Device.is_image c.grow_index-answer.new.device) stays in
+    record { lies = is.lies; accepted = is.accepted; home = is.home; keeps = is.keeps }
+
+pub returns-then-self-clause-refused : goal.returns-then-self-clause-refused
+returns-then-self-clause-refused g c = as-grow (λ is. omega (arith, is)) (had-failed _ c.if-self.true)

@@ -1,0 +1,71 @@
+use Rattle.std.proofs.Common.{arith}
+use Rattle.f11_files.proofs.AddIndexHeaderLemmas.{may-file, names-these, may-become, within-then, fails-link, failed-link-stays, appends-linked, linked-stays}
+use Rattle.f11_files.proofs.AnswerLemmas.{handed}
+use Rattle.f11_files.proofs.ExtensionBlockLemmas.{segment-said}
+use Rattle.f11_files.proofs.FreeingLemmas.{stays-for}
+use Rattle.f11_files.proofs.NewHeaderLemmas.{too-many, some-free, fails-enter}
+use Rattle.f11_files.proofs.structure.Structure.add_index_header.Goals as goal
+
+pub returns-then-segment-eq-LAST_SEGMENT-clause-refused : goal.returns-then-segment-eq-LAST_SEGMENT-clause-refused
+returns-then-segment-eq-LAST_SEGMENT-clause-refused g c =
+    let is = segment-said c.args.tail.now.block _ c.segment.result c.map.ensures c.segment.ensures in
+    too-many _ c.args.self.now c.args.tail.now _ c.args.lbn c.args.count (g.D.Device.disk c.args.device.now) c.requires.is_for c.requires.last c.requires.index c.requires.given c.requires.full
+    (may-file c.args.self.now c.args.tail.now c.args.lbn c.args.count (g.D.Device.disk c.args.device.now) c.requires.is_for c.requires.last c.requires.index c.requires.given c.requires.full c.requires.reserved c.requires.may)
+    (omega (arith, is, c.if-segment-eq-LAST_SEGMENT.true))
+
+pub enter_header-requires-clause-early : goal.enter_header-requires-clause-early
+enter_header-requires-clause-early g c =
+    let is = segment-said c.args.tail.now.block _ c.segment.result c.map.ensures c.segment.ensures in
+    omega (arith, is, c.if-segment-eq-LAST_SEGMENT.false, c.requires.last.few)
+
+pub enter_header-requires-clause-free : goal.enter_header-requires-clause-free
+enter_header-requires-clause-free g c =
+    some-free (λ t. ⊥) c.args.self.now c.args.tail.now _ c.args.lbn c.args.count (g.D.Device.disk c.args.device.now) c.requires.is_for c.requires.last c.requires.index c.requires.given c.requires.full
+    (may-file c.args.self.now c.args.tail.now c.args.lbn c.args.count (g.D.Device.disk c.args.device.now) c.requires.is_for c.requires.last c.requires.index c.requires.given c.requires.full c.requires.reserved c.requires.may)
+
+pub returns-in_err-id-clause-refused : goal.returns-in_err-id-clause-refused
+returns-in_err-id-clause-refused g c =
+    handed _ c.from_residual.result _ c.from_residual.ensures.1
+    (fails-enter _ c.args.self.now c.args.tail.now _ c.args.lbn c.args.count (g.D.Device.disk c.args.device.now) c.requires.is_for c.requires.last c.requires.index c.requires.given c.requires.full
+    (may-file c.args.self.now c.args.tail.now c.args.lbn c.args.count (g.D.Device.disk c.args.device.now) c.requires.is_for c.requires.last c.requires.index c.requires.given c.requires.full c.requires.reserved c.requires.may)
+    _ _ c.in_err-id.ensures.refused)
+
+pub link_slots-requires-clause-is_for : goal.link_slots-requires-clause-is_for
+link_slots-requires-clause-is_for g c = stays-for c.in_ok-id.ensures.stays
+
+pub link_slots-requires-clause-early : goal.link_slots-requires-clause-early
+link_slots-requires-clause-early g c =
+    let is = segment-said c.args.tail.now.block _ c.segment.result c.map.ensures c.segment.ensures in
+    omega (arith, is, c.if-segment-eq-LAST_SEGMENT.false, c.requires.last.few)
+
+pub link_slots-requires-clause-named : goal.link_slots-requires-clause-named
+link_slots-requires-clause-named g c = names-these c.args.self.now c.args.tail.now c.args.lbn c.args.count (g.D.Device.disk c.args.device.now) c.requires.is_for c.requires.last c.requires.index c.requires.given c.requires.full c.requires.reserved c.requires.may
+    _ c.in_ok-id.id c.enter_header.new.block _ c.in_ok-id.ensures.entered c.in_ok-id.ensures.stays
+
+pub link_slots-requires-clause-within : goal.link_slots-requires-clause-within
+link_slots-requires-clause-within g c = within-then c.args.self.now c.args.tail.now c.args.lbn c.args.count (g.D.Device.disk c.args.device.now) c.requires.is_for c.requires.last c.requires.index c.requires.given c.requires.full c.requires.reserved c.requires.may
+    _ c.in_ok-id.id c.enter_header.new.block _ c.in_ok-id.ensures.entered c.in_ok-id.ensures.stays c.requires.within
+
+pub link_slots-requires-clause-slots : goal.link_slots-requires-clause-slots
+link_slots-requires-clause-slots g c = may-become c.args.self.now c.args.tail.now c.args.lbn c.args.count (g.D.Device.disk c.args.device.now) c.requires.is_for c.requires.last c.requires.index c.requires.given c.requires.full c.requires.reserved c.requires.may
+    _ c.in_ok-id.id c.enter_header.new.block _ c.in_ok-id.ensures.entered c.in_ok-id.ensures.stays
+
+pub returns-in-Err-clause-refused : goal.returns-in-Err-clause-refused
+returns-in-Err-clause-refused g c = fails-link c.args.self.now c.args.tail.now c.args.lbn c.args.count (g.D.Device.disk c.args.device.now) c.requires.is_for c.requires.last c.requires.index c.requires.given c.requires.full c.requires.reserved c.requires.may
+    _ c.in_ok-id.id c.enter_header.new.block _ c.in_ok-id.ensures.entered c.in_ok-id.ensures.stays _ c.in-Err.ensures.failed
+
+pub returns-in-Err-clause-stays : goal.returns-in-Err-clause-stays
+returns-in-Err-clause-stays g c =
+    failed-link-stays c.args.self.now c.args.tail.now c.args.lbn c.args.count (g.D.Device.disk c.args.device.now) c.requires.is_for c.requires.last c.requires.index c.requires.given c.requires.full c.requires.reserved c.requires.may
+    _ c.in_ok-id.id c.enter_header.new.block _ c.in_ok-id.ensures.entered c.in_ok-id.ensures.stays _ _ c.link_slots.ensures.home c.in-Err.ensures.failed
+
+pub returns-clause-appended : goal.returns-clause-appended
+returns-clause-appended g c =
+    let is = segment-said c.args.tail.now.block _ c.segment.result c.map.ensures c.segment.ensures in
+    appends-linked c.args.self.now c.args.tail.now c.args.lbn c.args.count (g.D.Device.disk c.args.device.now) c.requires.is_for c.requires.last c.requires.index c.requires.given c.requires.full c.requires.reserved c.requires.may
+    _ c.in_ok-id.id c.enter_header.new.block _ c.in_ok-id.ensures.entered c.in_ok-id.ensures.stays _ _ c.in-Ok.ensures.links c.in-Ok.ensures.stays
+    (omega (arith, is, c.if-segment-eq-LAST_SEGMENT.false, c.requires.last.few)) _ _ _ c.link_slots.ensures.file
+
+pub returns-clause-stays : goal.returns-clause-stays
+returns-clause-stays g c = linked-stays c.args.self.now c.args.tail.now c.args.lbn c.args.count (g.D.Device.disk c.args.device.now) c.requires.is_for c.requires.last c.requires.index c.requires.given c.requires.full c.requires.reserved c.requires.may
+    _ c.in_ok-id.id c.enter_header.new.block _ c.in_ok-id.ensures.entered c.in_ok-id.ensures.stays _ _ c.in-Ok.ensures.links c.in-Ok.ensures.stays

@@ -1,0 +1,26 @@
+use Rattle.f11_files.proofs.AddSlotsLemmas.{fails-take, run-may, fails-append, adds-slots}
+use Rattle.f11_files.proofs.IndexPieceLemmas.{as-file}
+use Rattle.f11_files.proofs.PieceLemmas.{may-free}
+use Rattle.f11_files.proofs.TakenRunLemmas.{run-last}
+use Rattle.f11_files.proofs.AnswerLemmas.{handed}
+use Rattle.f11_files.proofs.structure.Structure.add_slots.Goals as goal
+
+pub returns-in_err-lbn-clause-refused : goal.returns-in_err-lbn-clause-refused
+returns-in_err-lbn-clause-refused g c =
+    handed _ c.from_residual.result _ c.from_residual.ensures.1 (fails-take c.args.self.now c.args.from c.args.most _ _ _ c.in_err-lbn.ensures.refused)
+
+pub append_slots-requires-clause-last : goal.append_slots-requires-clause-last
+append_slots-requires-clause-last g c = run-last c.args.self.now _ c.args.tail.now c.args.from c.args.most _ _ _ _ c.requires.is_for c.requires.last (λ honest. may-free _ 1 _ (as-file _ _ (c.requires.may honest))) c.in_ok-lbn.ensures.taken (rw c.in_ok-lbn.was at c.take_run.ensures.stays)
+
+pub append_slots-requires-clause-may : goal.append_slots-requires-clause-may
+append_slots-requires-clause-may g c = run-may c.args.self.now _ c.args.tail.now c.args.from c.args.most _ _ _ _ c.requires.is_for c.requires.last c.requires.may c.in_ok-lbn.ensures.taken (rw c.in_ok-lbn.was at c.take_run.ensures.stays)
+
+pub returns-in_err-append_slots-clause-refused : goal.returns-in_err-append_slots-clause-refused
+returns-in_err-append_slots-clause-refused g c =
+    handed _ c.from_residual-in_err-append_slots.result _ c.from_residual-in_err-append_slots.ensures.1
+    (fails-append c.args.self.now _ c.args.tail.now c.args.from c.args.most _ _ _ _ c.requires.is_for c.requires.last c.requires.may c.in_ok-lbn.ensures.taken (rw c.in_ok-lbn.was at c.take_run.ensures.stays) _ _ c.in_err-append_slots.ensures.refused)
+
+pub returns-clause-added : goal.returns-clause-added
+returns-clause-added g c =
+    adds-slots c.args.self.now _ c.args.tail.now c.args.from c.args.most _ _ _ _ c.requires.is_for c.requires.last c.requires.may c.in_ok-lbn.ensures.taken (rw c.in_ok-lbn.was at c.take_run.ensures.stays) _ _ _ c.in_ok-append_slots.ensures.appended
+    (rw c.in_ok-append_slots.was at c.append_slots.ensures.stays)

@@ -1,0 +1,64 @@
+use Rattle.std.proofs.Common.{refl, arith}
+use Rattle.f11_store.specs.Store.{index_file}
+use Rattle.f11_files.specs.GrowIndex.{index_id}
+use Rattle.f11_files.specs.Structure.{store_on}
+use Rattle.f11_files.proofs.AnswerLemmas.{handed}
+use Rattle.f11_files.proofs.ClearedLemmas.{holds-last}
+use Rattle.f11_files.proofs.FreeingLemmas.{handed-stays, stays-then}
+use Rattle.f11_files.proofs.GrowIndexLemmas.{reserved-for, reserved-finds, as-grow, no-want, read-cost, wants-memory, fails-clearing, stays-clearing, may-grow, fails-growing, grows-file, slots-after}
+use Rattle.f11_files.proofs.WriteLemmas.{fails-unread}
+use Rattle.f11_files.proofs.structure.Structure.grow_index.Goals as goal
+
+pub returns-in_err-end-clause-refused : goal.returns-in_err-end-clause-refused
+returns-in_err-end-clause-refused g c =
+    let fails = c.in_err-end.ensures.refused in
+    handed _ c.from_residual.result _ c.from_residual.ensures.1
+    (as-grow (no-want (store_on c.args.self.now (g.D.Device.disk c.args.device.now)) c.args.n _ _ _ fails.right) (fails-unread (let cost = read-cost (store_on c.args.self.now (g.D.Device.disk c.args.device.now)) (index_file (store_on c.args.self.now (g.D.Device.disk c.args.device.now))) c.args.n in omega (arith, cost)) fails))
+
+pub returns-in-Err-clause-refused : goal.returns-in-Err-clause-refused
+returns-in-Err-clause-refused g c =
+    wants-memory c.args.self.now c.args.n _ _ _ (g.D.Device.disk c.args.device.now) (g.D.Device.disk c.find_index_room.new.device) c.requires.is_for c.in_ok-end.ensures.room
+
+pub returns-in-Err-clear_mark-clause-refused : goal.returns-in-Err-clear_mark-clause-refused
+returns-in-Err-clear_mark-clause-refused g c = fails-clearing (record c.args.self.now { index = c.reserve.new.self }) c.args.n _ _ _ (g.D.Device.disk c.args.device.now) (g.D.Device.disk c.find_index_room.new.device) (reserved-for c.args.self.now c.reserve.new.self c.reserve.ensures.kept _ c.requires.is_for)
+    (reserved-finds c.args.self.now c.reserve.new.self c.reserve.ensures.kept c.args.n _ _ _ _ _ c.in_ok-end.ensures.room) _ (rw c.index_id.ensures at c.in-Err-clear_mark.ensures.failed)
+
+pub returns-in-Err-clear_mark-clause-stays : goal.returns-in-Err-clear_mark-clause-stays
+returns-in-Err-clear_mark-clause-stays g c =
+    stays-then refl
+    (stays-clearing (record c.args.self.now { index = c.reserve.new.self }) c.args.n _ _ _ (g.D.Device.disk c.args.device.now) (g.D.Device.disk c.find_index_room.new.device) (reserved-for c.args.self.now c.reserve.new.self c.reserve.ensures.kept _ c.requires.is_for)
+    (reserved-finds c.args.self.now c.reserve.new.self c.reserve.ensures.kept c.args.n _ _ _ _ _ c.in_ok-end.ensures.room) _ (rw c.index_id.ensures at c.in-Err-clear_mark.ensures.failed))
+
+pub grow_by-requires-clause-last : goal.grow_by-requires-clause-last
+grow_by-requires-clause-last g c =
+    holds-last (record c.args.self.now { index = c.reserve.new.self }) index_id c.args.n _ _ _ (g.D.Device.disk c.args.device.now) (g.D.Device.disk c.find_index_room.new.device) (reserved-for c.args.self.now c.reserve.new.self c.reserve.ensures.kept _ c.requires.is_for)
+    (reserved-finds c.args.self.now c.reserve.new.self c.reserve.ensures.kept c.args.n _ _ _ _ _ c.in_ok-end.ensures.room).room
+    _ _ (rw c.index_id.ensures at c.in-Ok-clear_mark.ensures.clears) _ (rw c.index_id-2.ensures at c.tail_of-tail.ensures.tail)
+
+pub grow_by-requires-clause-may : goal.grow_by-requires-clause-may
+grow_by-requires-clause-may g c = may-grow (record c.args.self.now { index = c.reserve.new.self }) c.args.n _ _ _ (g.D.Device.disk c.args.device.now) (g.D.Device.disk c.find_index_room.new.device) (reserved-for c.args.self.now c.reserve.new.self c.reserve.ensures.kept _ c.requires.is_for)
+    (reserved-finds c.args.self.now c.reserve.new.self c.reserve.ensures.kept c.args.n _ _ _ _ _ c.in_ok-end.ensures.room)
+    _ _ (rw c.index_id.ensures at c.in-Ok-clear_mark.ensures.clears)
+
+pub returns-in_err-grow_by-clause-refused : goal.returns-in_err-grow_by-clause-refused
+returns-in_err-grow_by-clause-refused g c =
+    handed _ c.from_residual-in_err-grow_by.result _ c.from_residual-in_err-grow_by.ensures.1
+    (fails-growing (record c.args.self.now { index = c.reserve.new.self }) c.args.n _ _ _ (g.D.Device.disk c.args.device.now) (g.D.Device.disk c.find_index_room.new.device) (reserved-for c.args.self.now c.reserve.new.self c.reserve.ensures.kept _ c.requires.is_for)
+    (reserved-finds c.args.self.now c.reserve.new.self c.reserve.ensures.kept c.args.n _ _ _ _ _ c.in_ok-end.ensures.room)
+    _ _ (rw c.index_id.ensures at c.in-Ok-clear_mark.ensures.clears) _ (g.D.Device.disk c.grow_by.new.device) c.in_err-grow_by.ensures.refused)
+
+pub returns-in_err-grow_by-clause-stays : goal.returns-in_err-grow_by-clause-stays
+returns-in_err-grow_by-clause-stays g c =
+    let grave = c.in_err-grow_by.ensures.refused.grave in
+    handed-stays c.from_residual-in_err-grow_by.result _ _ _ _ c.from_residual-in_err-grow_by.ensures.1 grave
+    (stays-then refl (rw grave at c.in_err-grow_by.ensures.stays))
+
+pub returns-clause-grown : goal.returns-clause-grown
+returns-clause-grown g c = (
+  slots-after (record c.args.self.now { index = c.reserve.new.self }) c.args.n _ _ _ (g.D.Device.disk c.args.device.now) (g.D.Device.disk c.find_index_room.new.device) (reserved-for c.args.self.now c.reserve.new.self c.reserve.ensures.kept _ c.requires.is_for)
+      (reserved-finds c.args.self.now c.reserve.new.self c.reserve.ensures.kept c.args.n _ _ _ _ _ c.in_ok-end.ensures.room)
+      _ _ (rw c.index_id.ensures at c.in-Ok-clear_mark.ensures.clears) c.grow_by.new.self _ _ c.in_ok-grow_by.ensures.grown (rw c.in_ok-grow_by.was at c.grow_by.ensures.stays) c.slots.ensures,
+  grows-file (record c.args.self.now { index = c.reserve.new.self }) c.args.n _ _ _ (g.D.Device.disk c.args.device.now) (g.D.Device.disk c.find_index_room.new.device) (reserved-for c.args.self.now c.reserve.new.self c.reserve.ensures.kept _ c.requires.is_for)
+      (reserved-finds c.args.self.now c.reserve.new.self c.reserve.ensures.kept c.args.n _ _ _ _ _ c.in_ok-end.ensures.room)
+      _ _ (rw c.index_id.ensures at c.in-Ok-clear_mark.ensures.clears) _ c.in_ok-grow_by.ensures.grown,
+)

@@ -1,0 +1,34 @@
+use Rattle.f11_index.proofs.InUseLemmas.{in_use-some, in_use-slot, header-within}
+use Rattle.f11_files.specs.Structure.{index_in}
+use Rattle.f11_files.proofs.LinkSlotsLemmas.{links-slots, links-stays, fails-slots}
+use Rattle.f11_files.proofs.structure.Structure.link_slots.Goals as goal
+
+pub lbn_of_header-requires-clause-some : goal.lbn_of_header-requires-clause-some
+lbn_of_header-requires-clause-some g c = in_use-some (index_in c.args.self.now) c.args.tail.now.number c.requires.last.header.in_use
+
+pub lbn_of_header-requires-clause-slot : goal.lbn_of_header-requires-clause-slot
+lbn_of_header-requires-clause-slot g c = in_use-slot (index_in c.args.self.now) c.args.tail.now.number c.requires.last.header.in_use
+
+pub write-requires : goal.write-requires
+write-requires g c =
+    let index = index_in c.args.self.now in
+    let n = c.args.tail.now.number in
+    let in_use = c.requires.last.header.in_use in
+    rw c.lbn_of_header.ensures (header-within index n _ c.requires.is_for.lies.index (in_use-some index n in_use) (in_use-slot index n in_use))
+
+pub returns-in-Err-clause-failed : goal.returns-in-Err-clause-failed
+returns-in-Err-clause-failed g c =
+    fails-slots c.args.self.now c.args.tail.now c.set_link.new.block c.args.id c.args.lbn c.args.count (g.D.Device.disk c.args.device.now) c.requires.is_for c.requires.last c.requires.early
+    c.requires.next c.set_link.ensures.sets c.requires.index c.requires.named c.requires.within c.requires.zeros c.requires.slots _ _ c.lbn_of_header.ensures c.in-Err.ensures.writes.err
+
+pub returns-clause-links : goal.returns-clause-links
+returns-clause-links g c =
+    links-slots c.args.self.now c.args.tail.now c.set_link.new.block c.args.id c.args.lbn c.args.count (g.D.Device.disk c.args.device.now) c.requires.is_for c.requires.last c.requires.early
+    c.requires.next c.set_link.ensures.sets c.requires.index c.requires.named c.requires.within c.requires.zeros c.requires.slots _ _ c.lbn_of_header.ensures
+    c.grow.new.self c.grow.ensures.grown c.grow.ensures.room c.in-Ok.ensures.writes.ok
+
+pub returns-clause-stays : goal.returns-clause-stays
+returns-clause-stays g c =
+    links-stays c.args.self.now c.args.tail.now c.set_link.new.block c.args.id c.args.lbn c.args.count (g.D.Device.disk c.args.device.now) c.requires.is_for c.requires.last c.requires.early
+    c.requires.next c.set_link.ensures.sets c.requires.index c.requires.named c.requires.within c.requires.zeros c.requires.slots _ _ c.lbn_of_header.ensures
+    c.grow.new.self c.grow.ensures.grown c.grow.ensures.room c.in-Ok.ensures.writes.ok
