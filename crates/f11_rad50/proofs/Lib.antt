@@ -5,3 +5,4 @@ pub mod Texts
 pub mod Places
 pub mod SystemFiles
 pub mod Spelled
+pub mod Padded

@@ -34,7 +34,7 @@ IsCharacter-place cs h k =
       | inr ge ↦ rw (get_or_past cs k 32 ge) space_is_character
     ]
 
-abbrev InName : ℕ → Type 0
+abbrev pub InName : ℕ → Type 0
 InName c = is_name_character c ≡ true
 
 -- the first n characters of a list, spaces past its end

@@ -1,10 +1,10 @@
-ghost use Rattle.std.specs.Prelude.{◌≡◌, ◌↔◌, ℕ, ◌≤◌, List, ◌++◌, length, drop, IsTrue, IfOk, IfSome, SomeIff, string_bytes, slice_index_or, if◌then◌else◌};
+ghost use Rattle.std.specs.Prelude.{◌≡◌, ◌↔◌, ℕ, ◌<◌, ◌≤◌, List, [], ◌∷◌, ◌++◌, length, drop, IsTrue, IfOk, IfSome, SomeIff, string_bytes, slice_index_or, if◌then◌else◌};
 ghost use Rattle.std.specs.Result.{result_ok};
 ghost use Rattle.f11_rad50.specs.Radix50.{characters_of, radix50};
 ghost use Rattle.f11_rad50.specs.Name.{IsProper, words_of, unpadded, name_of, type_of, IsName, name_text, Spells, is_name, words_spelled};
 
 use crate::errors::BadName;
-use crate::{pieces, radix50};
+use crate::{coded, pieces, radix50};
 use f11_bytes::NoMemory;
 use std::alloc::Global;
 use std::fmt;
@@ -50,6 +50,13 @@ fn word_at(part: &[u8], at: usize) -> u16
     ])
 }
 
+/// Whether a number is a version.
+fn is_version(version: u16) -> bool
+    ensures { IsTrue result ↔ ((0 < version) × (version < 32768)) }
+{
+    (1..=32767).contains(&version)
+}
+
 /// Whether the parts are those of a name.
 fn is_proper(name: &[u8], kind: &[u8], version: u16) -> bool
     ensures { IsTrue result ↔ IsProper name.now kind.now version }
@@ -57,7 +64,14 @@ fn is_proper(name: &[u8], kind: &[u8], version: u16) -> bool
     pieces::is_part(name, 9)
         && pieces::is_part(kind, 3)
         && !(name.is_empty() && kind.is_empty())
-        && (1..=32767).contains(&version)
+        && is_version(version)
+}
+
+/// Whether five words are those of a name.
+fn is_name(first: u16, second: u16, third: u16, kind: u16, version: u16) -> bool
+    ensures { IsTrue result ↔ IsName (first ∷ second ∷ third ∷ kind ∷ version ∷ []) }
+{
+    coded::are_named(first, second, third, kind) && is_version(version)
 }
 
 impl Name {
@@ -121,14 +135,12 @@ impl Name {
         // The same as one equation.
         ensures exact { result ≡ (if is_name words then Some words else None) }
     {
-        let characters = name_characters(&words);
-        let kind = type_characters(&words);
-        let name = Name::of_parts(
-            pieces::unpadded(&characters),
-            pieces::unpadded(&kind),
-            words[4],
-        )?;
-        (name.words == words).then_some(name)
+        let [first, second, third, kind, version] = words;
+        if is_name(first, second, third, kind, version) {
+            Some(Name { words })
+        } else {
+            None
+        }
     }
 
     /// The five words: three of the name, the type, the version.

@@ -5,6 +5,7 @@
 //! is the name of a file. The crate stands on [`f11_bytes`] for bytes that are put and octal digits.
 #![tactic(auto)]
 
+mod coded;
 mod errors;
 mod file_name;
 mod pieces;
