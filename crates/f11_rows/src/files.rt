@@ -39,7 +39,7 @@ pub fn opened<D: Device + Drop>(alloc: Global, device: D) -> Result<Files<D>, Fa
 }
 
 /// Opens an accepted volume, once more where there was no memory.
-pub fn opened_of<D: Device>(alloc: Global, accepted: Accepted<D>) -> Result<Files<D>, Fail> {
+pub fn opened_of<D: Device + Drop>(alloc: Global, accepted: Accepted<D>) -> Result<Files<D>, Fail> {
     match Files::open(alloc, accepted) {
         Ok(files) => Ok(files),
         Err(OpenFault::NoMemory(accepted)) => match Files::open(alloc, accepted) {
