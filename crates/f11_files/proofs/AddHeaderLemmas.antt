@@ -24,7 +24,7 @@ use Rattle.f11_files.specs.Link.{Linking, LinksTail}
 use Rattle.f11_files.specs.Pieces.{MayExtend}
 use Rattle.f11_files.specs.StoreOf.{store_of}
 use Rattle.f11_files.specs.Structure.{home_of, store_on, IsFor, StaysFor}
-use Rattle.f11_files.specs.Tail.{HasStore, HoldsLast, MayBeGiven}
+use Rattle.f11_files.specs.Tail.{HasStore, HoldsLast, MayBeGiven, whose}
 use Rattle.f11_files.specs.declared.structure.Structure.{Structure}
 use Rattle.f11_files.specs.declared.tail.Tail.{Tail}
 use Rattle.f11_files.proofs.GrowingLemmas.{breaks-fault, breaks-stays}
@@ -121,7 +121,7 @@ module _ (s : Structure) (tail : Tail) (lbn count : ℕ) (old : Disk) (for : IsF
         few = λ honest. let few = enters.writes.few honest in let one = (extended new.image links.store honest).1 in omega (arith, few, one);
       }
 
-      holds-added : segment_number tail.block < 255 → (file : FileId) (owner : Uic) (protection : ℕ) → file ≡ tail.file
+      holds-added : segment_number tail.block < 255 → (file : FileId) (owner : Uic) (protection : ℕ) → (file, owner, protection) ≡ whose tail
           → HoldsLast after (record { file = file; owner = owner; protection = protection; number = id.number; block = block }) new
       holds-added early file owner protection same = record {
         header = record {
@@ -133,14 +133,14 @@ module _ (s : Structure) (tail : Tail) (lbn count : ℕ) (old : Disk) (for : IsF
         };
         no_link = enters.extension.no_link;
         few = omega (arith, enters.extension.segment, early);
-        is_last = λ honest. subst (λ (f : FileId). IsLastOf (table_of new.image (home_of after)) f.number id.number) (sym same) (links.is_last (sym links.went.honest ∙ honest));
+        is_last = λ honest. subst (λ (f : FileId). IsLastOf (table_of new.image (home_of after)) f.number id.number) (sym (ap (λ (w : FileId × Uic × ℕ). w.0) same)) (links.is_last (sym links.went.honest ∙ honest));
       }
 
       -- the blocks that are free are as they were
       same-free : IsTrue old.honest → SameFree home old.image new.image
       same-free honest = subst (λ (h : HomeFields). SameFree h mid.image new.image) stays.home (links.free (still-honest honest)) ∙ enters.free honest
 
-      pub appends-linked : segment_number tail.block < 255 → (file : FileId) (owner : Uic) (protection : ℕ) → file ≡ tail.file
+      pub appends-linked : segment_number tail.block < 255 → (file : FileId) (owner : Uic) (protection : ℕ) → (file, owner, protection) ≡ whose tail
           → AppendsRun s after tail (record { file = file; owner = owner; protection = protection; number = id.number; block = block }) count 1 old new
       appends-linked early file owner protection same = record {
         file = same;

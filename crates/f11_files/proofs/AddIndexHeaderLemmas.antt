@@ -28,7 +28,7 @@ use Rattle.f11_files.specs.IndexPieces.{MayGrowIndex}
 use Rattle.f11_files.specs.Pieces.{MayExtend}
 use Rattle.f11_files.specs.StoreOf.{store_of}
 use Rattle.f11_files.specs.Structure.{bitmap_in, home_of, store_on, IsFor, StaysFor}
-use Rattle.f11_files.specs.Tail.{HasStore, HoldsLast, MayBeGiven}
+use Rattle.f11_files.specs.Tail.{HasStore, HoldsLast, MayBeGiven, whose}
 use Rattle.f11_files.specs.declared.structure.Structure.{Structure}
 use Rattle.f11_files.specs.declared.tail.Tail.{Tail}
 use Rattle.f11_files.proofs.FirstLemmas.{table-of}
@@ -137,7 +137,7 @@ module _ (s : Structure) (tail : Tail) (lbn count : ℕ) (old : Disk) (for : IsF
         few = λ honest. let few = enters.writes.few honest in let one = (grown new.image links.store honest).1 in omega (arith, few, one);
       }
 
-      holds-added : segment_number tail.block < 255 → (file : FileId) (owner : Uic) (protection : ℕ) → file ≡ tail.file
+      holds-added : segment_number tail.block < 255 → (file : FileId) (owner : Uic) (protection : ℕ) → (file, owner, protection) ≡ whose tail
           → HoldsLast t (record { file = file; owner = owner; protection = protection; number = id.number; block = block }) new
       holds-added early file owner protection same = record {
         header = record {
@@ -152,10 +152,10 @@ module _ (s : Structure) (tail : Tail) (lbn count : ℕ) (old : Disk) (for : IsF
         few = omega (arith, enters.extension.segment, early);
         is_last = λ honest.
             subst (λ (h : HomeFields). IsLastOf (table_of new.image h) file.number id.number) (sym kept.home)
-            (subst (λ (f : ℕ). IsLastOf (table_of new.image (home_of after)) f id.number) (sym (ap (λ (f : FileId). f.number) same ∙ index)) (links.is_last (sym links.went.honest ∙ honest)));
+            (subst (λ (f : ℕ). IsLastOf (table_of new.image (home_of after)) f id.number) (sym (ap (λ (w : FileId × Uic × ℕ). w.0.number) same ∙ index)) (links.is_last (sym links.went.honest ∙ honest)));
       }
 
-      pub appends-linked : segment_number tail.block < 255 → (file : FileId) (owner : Uic) (protection : ℕ) → file ≡ tail.file
+      pub appends-linked : segment_number tail.block < 255 → (file : FileId) (owner : Uic) (protection : ℕ) → (file, owner, protection) ≡ whose tail
           → AppendsSlots s t tail (record { file = file; owner = owner; protection = protection; number = id.number; block = block }) count 1 old new
       appends-linked early file owner protection same = record {
         file = same;

@@ -23,7 +23,7 @@ use Rattle.f11_files.specs.Growing.{Grew, GrowingInto, SameFree}
 use Rattle.f11_files.specs.Pieces.{file_numbered, MayExtend, TakesSome}
 use Rattle.f11_files.specs.StoreOf.{store_of}
 use Rattle.f11_files.specs.Structure.{bitmap_in, home_of, store_on, IsFor, StaysFor}
-use Rattle.f11_files.specs.Tail.{HoldsLast, Naming, NamesRun, FailsToName, HasNoPlace, pointers_more, with_zeros_more}
+use Rattle.f11_files.specs.Tail.{HoldsLast, Naming, NamesRun, FailsToName, HasNoPlace, pointers_more, with_zeros_more, whose}
 use Rattle.f11_files.specs.Zeros.{Keeping, Zeroes, FailsToZero}
 use Rattle.f11_files.specs.declared.structure.Structure.{Structure}
 use Rattle.f11_files.specs.declared.tail.Tail.{Tail}
@@ -104,7 +104,7 @@ module _ (s : Structure) (tail : Tail) (lbn count : ℕ) (old : Disk) (for : IsF
       -- a new header names them
       pub appends-header : (t : Structure) (later : Tail) (new : Disk) → AppendsRun s t after later count 1 now new → AppendsRun s t tail later count (count + 1) old new
       appends-header t later new given = record {
-        file = given.file ∙ ap (λ (x : Tail). x.file) full.tail_is;
+        file = given.file ∙ ap whose full.tail_is;
         last = given.last;
         bitmap = given.bitmap;
         free = λ honest. given.free (ap (λ (d : Disk). d.honest) full.disk_is ∙ zeroed.went.honest ∙ honest) ∙ ap (λ (d : Disk). (volume_of d.image home).free) full.disk_is ∙ zeros-free honest;

@@ -26,7 +26,7 @@ use Rattle.f11_files.specs.IndexPieces.{MayGrowIndex}
 use Rattle.f11_files.specs.Pieces.{file_numbered, TakesSome}
 use Rattle.f11_files.specs.StoreOf.{store_of}
 use Rattle.f11_files.specs.Structure.{bitmap_in, home_of, store_on, IsFor, StaysFor}
-use Rattle.f11_files.specs.Tail.{HoldsLast, HasNoPlace, MayBeGiven, pointers_more}
+use Rattle.f11_files.specs.Tail.{HoldsLast, HasNoPlace, MayBeGiven, pointers_more, whose}
 use Rattle.f11_files.specs.Zeros.{Keeping, Zeroes, FailsToZero}
 use Rattle.f11_files.specs.declared.structure.Structure.{Structure}
 use Rattle.f11_files.specs.declared.tail.Tail.{Tail}
@@ -117,7 +117,7 @@ module _ (s : Structure) (tail : Tail) (lbn count : ℕ) (old : Disk) (for : IsF
       appends-header t later new appends =
           let given = subst (λ (x : Structure). AppendsSlots x t after later count 1 now new) same_is appends in
           record {
-            file = given.file ∙ ap (λ (x : Tail). x.file) full.tail_is;
+            file = given.file ∙ ap whose full.tail_is;
             last = given.last;
             bitmap = given.bitmap;
             left = given.left;

@@ -11,6 +11,7 @@ use Rattle.f11_store.specs.Changes.{Extends}
 use Rattle.f11_store.specs.File.{File, no_file, need}
 use Rattle.f11_store.specs.Lags.{Work, LagsBy, extend_work}
 use Rattle.f11_store.specs.Store.{Store}
+use Rattle.f11_store.specs.declared.callers.Uic.{Uic}
 use Rattle.f11_store.specs.declared.files.FileId.{FileId}
 use Rattle.f11_store.specs.declared.refusals.Refusal.{Refusal}
 use Rattle.f11_vfy.specs.Sound.{HasSoundVolume}
@@ -20,7 +21,7 @@ use Rattle.f11_files.specs.Growing.{GrowingBy, Grew, IsGrowing}
 use Rattle.f11_files.specs.Pieces.{file_numbered, MayExtend, TakesSome, ExtendsSome}
 use Rattle.f11_files.specs.StoreOf.{store_of}
 use Rattle.f11_files.specs.Structure.{bitmap_in, home_of, store_on, IsFor, StaysFor}
-use Rattle.f11_files.specs.Tail.{HoldsLast}
+use Rattle.f11_files.specs.Tail.{HoldsLast, whose}
 use Rattle.f11_files.specs.Take.{NoneBelow}
 use Rattle.f11_files.specs.declared.structure.Structure.{Structure}
 use Rattle.f11_files.specs.declared.tail.Tail.{Tail}
@@ -37,7 +38,7 @@ tail_work s tail n old = extend_work tail.file.number (file_numbered (store_on s
 pub record Extending (s t : Structure) (tail later : Tail) (n from left : ℕ) (old now : Disk) : Type 0 where
   pub done : ℕ
   pub sum : done + left ≡ n
-  pub file : later.file ≡ tail.file
+  pub file : whose later ≡ whose tail
   pub last : HoldsLast t later now
   pub stays : StaysFor false s t now
   pub bitmap : bitmap_in t ≡ bitmap_in s
@@ -90,7 +91,7 @@ module _ (s : Structure) (tail : Tail) (n : ℕ) (old : Disk) (for : IsFor s old
     was-honest honest = sym so_far.grew.went.honest ∙ honest
 
     number : later.file.number ≡ k
-    number = ap (λ (f : FileId). f.number) so_far.file
+    number = ap (λ (w : FileId × Uic × ℕ). w.0.number) so_far.file
 
     -- what the file has so far
     abbrev has : IsTrue old.honest → Extends st k so_far.done tn

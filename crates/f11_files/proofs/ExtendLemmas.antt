@@ -1,5 +1,5 @@
 -- A file that is extended: its last header in hand once it has no contiguous mark, and what stands meanwhile.
-use Rattle.std.proofs.Common.{◌≡◌, ◌+◌, ◌*◌, ◌/◌, ◌≤◌, ℕ, Bool, true, false, cond, IsTrue, List, Option, Some, None, option_map, unwrap_or, refl, sym, ap, subst, ◌∙◌, eqb, arith}
+use Rattle.std.proofs.Common.{◌≡◌, ◌+◌, ◌-◌, ◌*◌, ◌/◌, ◌≤◌, ℕ, Bool, true, false, cond, IsTrue, List, Option, Some, None, option_map, unwrap_or, refl, sym, ap, subst, ◌∙◌, eqb, arith}
 use Rattle.f11_dev.specs.Disk.{Disk}
 use Rattle.f11_dev.specs.Image.{Image}
 use Rattle.f11_dev.specs.Went.{Went}
@@ -91,7 +91,7 @@ module _ (s : Structure) (f : FileId) (n : ℕ) (end : FileEnd) (was last : List
         lags = subst (λ (x : Store). LagsBy work x st) (sym (there.store ∙ ap (λ (i : Image). with_change (store_of i home) k with_no_mark) (image-read s f n end was last old read for finds))) (clear-lags st k named.room n);
       }
 
-  clear-cost : header_count named + 1 ≤ growth_cost st named n
+  clear-cost : header_count named + 1 ≤ growth_cost st named n - 1
   clear-cost = let many = enough st.index_bitmap_blocks ((n + 101) / 102) in omega (arith, many)
 
   pub fails-clearing : (new : Disk) → Went (Clearing s f read) read new 1 1 → FailsToExtend false home f n DeviceFault old new

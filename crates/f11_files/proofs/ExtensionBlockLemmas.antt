@@ -67,6 +67,8 @@ module _ (tail : Tail) (id : FileId) (segment : ℕ) (empty : List ℕ) (holds :
       sequence = ap (λ (h : HeaderFields). h.sequence) held.1 ∙ blank.sequence_is;
       owner_is = ap (λ (h : HeaderFields). h.owner) held.1 ∙ blank.owner_is;
       protection_is = ap (λ (h : HeaderFields). h.protection) held.1 ∙ blank.protection_is;
+      no_characteristics = ap (λ (h : HeaderFields). h.characteristics) held.1 ∙ blank.no_characteristics;
+      no_attributes = ap (λ (h : HeaderFields). h.attributes) held.1 ∙ blank.no_attributes;
       segment = segment-more empty block lbn count appends ∙ numbered ∙ ap (λ (k : ℕ). k + 1) is;
       no_link = ap (λ (l : FileId). l.number) (link-more empty block lbn count appends) ∙ links-none;
       names = blocks-more empty block lbn count appends ∙ ap (λ (bs : List ℕ). bs ++ range_with_len lbn count) names-none;

@@ -12,6 +12,7 @@ use Rattle.f11_store.specs.Changes.{GrowsIndex}
 use Rattle.f11_store.specs.File.{File, no_file, need}
 use Rattle.f11_store.specs.Lags.{Work, LagsBy, grow_work}
 use Rattle.f11_store.specs.Store.{Store, index_file}
+use Rattle.f11_store.specs.declared.callers.Uic.{Uic}
 use Rattle.f11_store.specs.declared.files.FileId.{FileId}
 use Rattle.f11_store.specs.declared.refusals.Refusal.{Refusal}
 use Rattle.f11_vfy.specs.Sound.{HasSoundVolume}
@@ -22,7 +23,7 @@ use Rattle.f11_files.specs.IndexPieces.{MayGrowIndex}
 use Rattle.f11_files.specs.Pieces.{TakesSome}
 use Rattle.f11_files.specs.StoreOf.{store_of}
 use Rattle.f11_files.specs.Structure.{bitmap_in, home_of, store_on, IsFor, StaysFor}
-use Rattle.f11_files.specs.Tail.{HoldsLast}
+use Rattle.f11_files.specs.Tail.{HoldsLast, whose}
 use Rattle.f11_files.specs.Take.{NoneBelow}
 use Rattle.f11_files.specs.declared.structure.Structure.{Structure}
 use Rattle.f11_files.specs.declared.tail.Tail.{Tail}
@@ -39,7 +40,7 @@ index_work s n old = grow_work (index_file (store_on s old)).room n
 pub record GrowingOn (s t : Structure) (tail later : Tail) (n from left : ℕ) (old now : Disk) : Type 0 where
   pub done : ℕ
   pub sum : done + left ≡ n
-  pub file : later.file ≡ tail.file
+  pub file : whose later ≡ whose tail
   pub last : HoldsLast t later now
   pub stays : StaysFor false s t now
   pub bitmap : bitmap_in t ≡ bitmap_in s
@@ -96,7 +97,7 @@ module _ (s : Structure) (tail : Tail) (n : ℕ) (old : Disk) (for : IsFor s old
     has = so_far.grew.grows
 
     pub next-index : later.file.number ≡ 1
-    next-index = ap (λ (f : FileId). f.number) so_far.file ∙ index
+    next-index = ap (λ (w : FileId × Uic × ℕ). w.0.number) so_far.file ∙ index
 
     pub next-may : IsTrue now.honest → MayGrowIndex (store_on t now) left
     next-may honest =

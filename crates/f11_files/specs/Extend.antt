@@ -17,7 +17,7 @@ use Rattle.f11_files.specs.Growing.{Grew, GrowingBy}
 use Rattle.f11_files.specs.Operations.{extend_causes}
 use Rattle.f11_files.specs.StoreOf.{store_of}
 use Rattle.f11_files.specs.Structure.{bitmap_in, home_of, store_on}
-use Rattle.f11_files.specs.Tail.{HoldsLast}
+use Rattle.f11_files.specs.Tail.{HoldsLast, whose}
 use Rattle.f11_files.specs.Take.{NoneBelow}
 use Rattle.f11_files.specs.declared.structure.Structure.{Structure}
 use Rattle.f11_files.specs.declared.tail.Tail.{Tail}
@@ -30,9 +30,9 @@ pub record IsTailOf (f : FileId) (first : List ℕ) (number : ℕ) (last : List 
   pub alone : (link_of first).number ≡ 0 → (tail.number ≡ f.number) × (tail.block ≡ first)
   pub other : (link_of first).number ≢ 0 → (tail.number ≡ number) × (tail.block ≡ last)
 
--- A file has a run of blocks more, the lowest that were free, which ends before `end`: its last header is in hand.
+-- A file has a run of blocks more: no block below `end` is free then, and its last header is in hand.
 pub record AddsRun (s after : Structure) (tail later : Tail) (from most end count : ℕ) (old new : Disk) : Type 0 where
-  pub file : later.file ≡ tail.file
+  pub file : whose later ≡ whose tail
   pub last : HoldsLast after later new
   pub bitmap : bitmap_in after ≡ bitmap_in s
   pub some : 0 < count
@@ -50,11 +50,11 @@ ExtendingBy s k n old new =
     let st = store_on s old in
     Grew (Meanwhile (extend_work k (file_numbered st k).room n) (home_of s) old) (home_of s) st k n ((bitmap_in s).size / 4096 + 5 * n) old new
 
--- A file was extended by n blocks of zeros.
+-- A file was extended by n blocks of zeros: one transfer less than the cost, which counts a look at its right.
 abbrev pub ExtendsFile : HomeFields → FileId → ℕ → Disk → Disk → Type 0
 ExtendsFile home f n old new =
     let s = store_of old.image home in
-    Does (extend_causes s f n) (extend_work f.number (file_named s f).room n) (growth_cost s (file_named s f) n) (Extends s f.number n) home old new
+    Does (extend_causes s f n) (extend_work f.number (file_named s f).room n) (growth_cost s (file_named s f) n - 1) (Extends s f.number n) home old new
 
 -- and this is its length then
 abbrev pub IsLengthAfter : HomeFields → FileId → ℕ → Disk → ℕ → Type 0
@@ -64,4 +64,4 @@ IsLengthAfter home f n old blocks = IsTrue old.honest → blocks ≡ length_of (
 abbrev pub FailsToExtend : Bool → HomeFields → FileId → ℕ → Refusal → Disk → Disk → Type 0
 FailsToExtend failed home f n refusal old new =
     let s = store_of old.image home in
-    FailsToWrite failed (extend_causes s f n) (growth_cost s (file_named s f) n) (extend_work f.number (file_named s f).room n) home refusal old new
+    FailsToWrite failed (extend_causes s f n) (growth_cost s (file_named s f) n - 1) (extend_work f.number (file_named s f).room n) home refusal old new

@@ -1,16 +1,15 @@
 -- A new last header of a file, and what is done with a run of blocks: the last header names them, or links to a new one that does (Files-11
 -- On-Disk Structure Level 1, "File Header" and "Map Area"; profile: what a header that is added says).
-use Rattle.std.specs.Prelude.{◌≡◌, ℕ, ◌+◌, IsTrue, List, [], ◌∷◌}
+use Rattle.std.specs.Prelude.{◌≡◌, ℕ, ◌+◌, IsTrue, List, [], ◌∷◌, replicate}
 use Rattle.std.specs.List.{range_with_len}
 use Rattle.f11_chain.specs.Calls.{HoldsHeader}
 use Rattle.f11_dev.specs.Disk.{Disk}
 use Rattle.f11_dev.specs.Image.{Image}
-use Rattle.f11_header.specs.Fields.{owner, protection}
+use Rattle.f11_header.specs.Fields.{file_sequence, owner, protection, characteristics, attributes}
 use Rattle.f11_header.specs.Header.{IsHeader}
 use Rattle.f11_index.specs.HeaderBlock.{segment_number, link_of, blocks_named}
 use Rattle.f11_index.specs.Kept.{room}
 use Rattle.f11_index.specs.Table.{table_of}
-use Rattle.f11_header.specs.Fields.{file_sequence}
 use Rattle.f11_store.specs.Changes.{with_slots}
 use Rattle.f11_store.specs.Store.{least_free}
 use Rattle.f11_store.specs.declared.files.FileId.{FileId}
@@ -21,17 +20,20 @@ use Rattle.f11_files.specs.Growing.{Taking, GrowingInto, Grew, SameFree}
 use Rattle.f11_files.specs.Link.{MayFollow}
 use Rattle.f11_files.specs.StoreOf.{store_of}
 use Rattle.f11_files.specs.Structure.{index_in, bitmap_in, home_of, store_on}
-use Rattle.f11_files.specs.Tail.{HoldsLast}
+use Rattle.f11_files.specs.Tail.{HoldsLast, whose}
 use Rattle.f11_files.specs.Zeros.{HoldsZeros}
 use Rattle.f11_files.specs.declared.structure.Structure.{Structure}
 use Rattle.f11_files.specs.declared.tail.Tail.{Tail}
 
--- A block is a valid header for the run, in a file behind its last one: it has the owner and the protection of the file, one pointer of 102, and no link.
+-- A block is a valid header for the run, in a file behind its last one: it has the owner and the
+-- protection of the file, no characteristics, attributes of zeros, one pointer in 102 places, and no link.
 pub record IsExtension (tail : Tail) (id : FileId) (lbn count : ℕ) (block : List ℕ) : Type 0 where
   pub valid : IsHeader block id.number
   pub sequence : file_sequence block ≡ id.sequence
   pub owner_is : owner block ≡ tail.owner
   pub protection_is : protection block ≡ tail.protection
+  pub no_characteristics : characteristics block ≡ 0
+  pub no_attributes : attributes block ≡ replicate 32 0
   pub segment : segment_number block ≡ segment_number tail.block + 1
   pub no_link : (link_of block).number ≡ 0
   pub names : blocks_named block ≡ range_with_len lbn count
@@ -58,7 +60,7 @@ AppendingRun s tail count old = GrowingInto (home_of s) (store_on s old) (with_m
 
 -- It has them: its last header is in hand.
 pub record AppendsRun (s after : Structure) (tail later : Tail) (count most : ℕ) (old new : Disk) : Type 0 where
-  pub file : later.file ≡ tail.file
+  pub file : whose later ≡ whose tail
   pub last : HoldsLast after later new
   pub bitmap : bitmap_in after ≡ bitmap_in s
   pub free : IsTrue old.honest → SameFree (home_of s) old.image new.image

@@ -22,7 +22,7 @@ use Rattle.f11_files.specs.Operations.{grow_causes}
 use Rattle.f11_files.specs.Room.{FindsRoom}
 use Rattle.f11_files.specs.StoreOf.{store_of}
 use Rattle.f11_files.specs.Structure.{bitmap_in, home_of, store_on}
-use Rattle.f11_files.specs.Tail.{HoldsLast}
+use Rattle.f11_files.specs.Tail.{HoldsLast, whose}
 use Rattle.f11_files.specs.Take.{NoneBelow}
 use Rattle.f11_files.specs.declared.structure.Structure.{Structure}
 use Rattle.f11_files.specs.declared.tail.Tail.{Tail}
@@ -49,16 +49,16 @@ AppendingSlots s count old =
 
 -- The index file has them: its last header is in hand.
 pub record AppendsSlots (s after : Structure) (tail later : Tail) (count most : ℕ) (old new : Disk) : Type 0 where
-  pub file : later.file ≡ tail.file
+  pub file : whose later ≡ whose tail
   pub last : HoldsLast after later new
   pub bitmap : bitmap_in after ≡ bitmap_in s
   pub left : room s.index ≤ room after.index + count
   pub free : IsTrue old.honest → SameFree (home_of s) old.image new.image
   pub grew : GrewIndex (AppendingSlots s count old) (home_of s) (with_more_free (store_on s old) count) count most old new
 
--- The index file has a run of slots more, of the lowest blocks that were free, which ends before `end`: its last header is in hand.
+-- The index file has a run of slots more: no block below `end` is free then, and its last header is in hand.
 pub record AddsSlots (s after : Structure) (tail later : Tail) (from most end count : ℕ) (old new : Disk) : Type 0 where
-  pub file : later.file ≡ tail.file
+  pub file : whose later ≡ whose tail
   pub last : HoldsLast after later new
   pub bitmap : bitmap_in after ≡ bitmap_in s
   pub left : room s.index ≤ room after.index + count
@@ -86,7 +86,7 @@ pub record FindsIndexRoom (s : Structure) (n : ℕ) (end : FileEnd) (first last 
   pub within : IsTrue old.honest → (store_on s old).slots + n ≤ (store_on s old).limit
   pub room : FindsRoom s index_id n end first last old new
 
--- The index file has n slots more, whose blocks are zeros.
+-- The index file has n slots more, none of which was given a sequence number.
 abbrev pub GrowsIndexFile : HomeFields → ℕ → Disk → Disk → Type 0
 GrowsIndexFile home n old new =
     let s = store_of old.image home in
@@ -96,7 +96,8 @@ GrowsIndexFile home n old new =
 abbrev pub IsSlotsAfter : HomeFields → ℕ → Disk → ℕ → Type 0
 IsSlotsAfter home n old slots = IsTrue old.honest → slots ≡ (store_of old.image home).slots + n
 
--- It has not, or not all of them. Where memory was wanting there was no cause, and where the volume wasn't failed no block was written.
+-- It has not, or not all of them. Where the answer is that memory was wanting, there was no cause. Unless the refusal fails the volume no block
+-- was written.
 pub record FailsToGrow (failed : Bool) (home : HomeFields) (n : ℕ) (refusal : Refusal) (old new : Disk) : Type 0 where
   pub right : refusal ≢ NoMemory → IsRight failed old.honest (grow_causes (store_of old.image home) n) refusal
   pub wanting : refusal ≡ NoMemory → (failed ≡ false) × (IsTrue old.honest → first_of (grow_causes (store_of old.image home) n) ≡ None)

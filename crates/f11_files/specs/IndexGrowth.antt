@@ -16,7 +16,7 @@ use Rattle.f11_store.specs.declared.files.FileId.{FileId}
 use Rattle.f11_files.specs.FileLaws.{room_in, with_more_blocks, with_header_linked}
 use Rattle.f11_files.specs.Growing.{SameFree}
 use Rattle.f11_files.specs.Structure.{index_in, bitmap_in, home_of, store_on}
-use Rattle.f11_files.specs.Tail.{HasStore, HoldsLast, pointers_more}
+use Rattle.f11_files.specs.Tail.{HasStore, HoldsLast, pointers_more, whose}
 use Rattle.f11_files.specs.declared.structure.Structure.{Structure}
 use Rattle.f11_files.specs.declared.tail.Tail.{Tail}
 
@@ -36,7 +36,7 @@ NamingSlots s tail lbn count old image =
 
 -- The header names them too, and was written.
 pub record NamesSlots (s after : Structure) (tail later : Tail) (lbn count : ℕ) (old new : Disk) : Type 0 where
-  pub file_is : later.file ≡ tail.file
+  pub file_is : whose later ≡ whose tail
   pub fits : pointers_more tail.block lbn count ≤ room_in tail.block
   pub holds : HoldsLast after later new
   pub bitmap : bitmap_in after ≡ bitmap_in s

@@ -14,6 +14,8 @@ use Rattle.f11_chain.specs.Calls.{HoldsHeader}
 use Rattle.f11_store.specs.Changes.{with_change}
 use Rattle.f11_store.specs.File.{zero_blocks}
 use Rattle.f11_store.specs.Store.{Store}
+use Rattle.f11_store.specs.declared.callers.Uic.{Uic}
+use Rattle.f11_store.specs.declared.files.FileId.{FileId}
 use Rattle.f11_vfy.specs.Sound.{HasSoundVolume}
 use Rattle.f11_vfy.specs.Volume.{volume_of}
 use Rattle.f11_writes.specs.NameLaws.{AreSpare}
@@ -24,6 +26,10 @@ use Rattle.f11_files.specs.Structure.{index_in, home_of, store_on, IsFor}
 use Rattle.f11_files.specs.Zeros.{HoldsZeros}
 use Rattle.f11_files.specs.declared.structure.Structure.{Structure}
 use Rattle.f11_files.specs.declared.tail.Tail.{Tail}
+
+-- the file that a header in hand is of, and what each header that it gets says of it
+abbrev pub whose : Tail → FileId × Uic × ℕ
+whose tail = (tail.file, tail.owner, tail.protection)
 
 -- The block is a valid header in use, which links to none; it is the last of the file where the disk is honest.
 pub record HoldsLast (s : Structure) (tail : Tail) (disk : Disk) : Type 0 where
@@ -60,7 +66,7 @@ Naming s tail lbn count old image =
 
 -- The header names these blocks too, and was written.
 pub record NamesRun (s : Structure) (tail after : Tail) (lbn count : ℕ) (old new : Disk) : Type 0 where
-  pub file_is : after.file ≡ tail.file
+  pub file_is : whose after ≡ whose tail
   pub number_is : after.number ≡ tail.number
   pub pointers : HasPointersMore (pointers_more tail.block lbn count) tail.block after.block
   pub fits : pointers_more tail.block lbn count ≤ room_in tail.block

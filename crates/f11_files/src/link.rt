@@ -3,7 +3,7 @@ ghost use Rattle.std.specs.Prelude.{◌≡◌, ◌≤◌, ◌<◌, IsTrue, OnOk,
 ghost use Rattle.f11_dev.specs.Went.{Went};
 ghost use Rattle.f11_files.specs.Link.{MayFollow, Linking, LinksTail};
 ghost use Rattle.f11_files.specs.Structure.{home_of, IsFor};
-ghost use Rattle.f11_files.specs.Tail.{HoldsLast};
+ghost use Rattle.f11_files.specs.Tail.{HoldsLast, whose};
 ghost use Rattle.f11_index.specs.HeaderBlock.{segment_number};
 ghost use Rattle.f11_index.specs.Table.{table_of};
 
@@ -31,7 +31,7 @@ impl Structure {
         requires early { segment_number tail.old.block < 255 }
         requires next { IsTrue (D.disk device.old).honest
             → MayFollow (table_of (D.disk device.old).image (home_of self.now)) tail.old id }
-        ensures file { tail.new.file ≡ tail.old.file }
+        ensures file { whose tail.new ≡ whose tail.old }
         ensures links { OnOk result
             (LinksTail self.now tail.old id (D.disk device.old) (D.disk device.new)) }
         ensures failed { OnErr result (Went (Linking self.now tail.old id (D.disk device.old))

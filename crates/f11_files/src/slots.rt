@@ -4,7 +4,7 @@ ghost use Rattle.f11_dev.specs.Went.{Went};
 ghost use Rattle.f11_files.specs.IndexGrowth.{FailsToNameSlots, LinkingSlots, LinksSlots, MayBecomeSlots, NamesSlots, NamesThese};
 ghost use Rattle.f11_files.specs.Link.{MayFollow};
 ghost use Rattle.f11_files.specs.Structure.{bitmap_in, home_of, IsFor, StaysFor};
-ghost use Rattle.f11_files.specs.Tail.{HoldsLast, MayBeGiven, HasNoPlace};
+ghost use Rattle.f11_files.specs.Tail.{HoldsLast, MayBeGiven, HasNoPlace, whose};
 ghost use Rattle.f11_files.specs.Zeros.{HoldsZeros};
 ghost use Rattle.f11_index.specs.HeaderBlock.{segment_number};
 ghost use Rattle.f11_index.specs.Table.{table_of};
@@ -80,7 +80,7 @@ impl Structure {
         requires zeros { IsTrue (D.disk device.old).honest
             → HoldsZeros (D.disk device.old).image lbn count }
         requires slots { MayBecomeSlots self.old count (D.disk device.old) }
-        ensures file { tail.new.file ≡ tail.old.file }
+        ensures file { whose tail.new ≡ whose tail.old }
         ensures links { OnOk result
             (LinksSlots self.old self.new id count (D.disk device.old) (D.disk device.new)) }
         ensures failed { OnErr result (Went (LinkingSlots self.old id count (D.disk device.old))

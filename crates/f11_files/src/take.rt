@@ -11,7 +11,7 @@ use f11_dev::Device;
 use f11_store::Refusal;
 
 impl Structure {
-    /// Marks the lowest free blocks used, 256 at most and `most` at most, and gives the first of them and how many they are. None below
+    /// Marks the first run of free blocks used, 256 at most and `most` at most, and gives the first of them and how many they are. None below
     /// `from` is free. Each bitmap block from that of `from` to that of the block behind them is read once at most, and one or two are
     /// written.
     ///
