@@ -1,5 +1,6 @@
 -- A file that gets a header more: that is written and entered, and then the last one links to it.
 use Rattle.std.proofs.Common.{◌≡◌, ◌+◌, ◌<◌, ◌≤◌, ℕ, true, false, IsTrue, List, [], ◌∷◌, ◌++◌, map, inr, refl, sym, ap, subst, ◌∙◌, arith}
+use Rattle.std.specs.List.{range_with_len}
 use Rattle.f11_dev.specs.Disk.{Disk}
 use Rattle.f11_dev.specs.Image.{Image}
 use Rattle.f11_dev.specs.Went.{Went}
@@ -7,7 +8,7 @@ use Rattle.f11_dev.proofs.WentLemmas.{went_more, went_weaker}
 use Rattle.f11_home.specs.Home.{HomeFields}
 use Rattle.f11_index.specs.HeaderBlock.{segment_number, blocks_named}
 use Rattle.f11_index.specs.Headers.{IsLastOf}
-use Rattle.f11_index.specs.Table.{Table, table_of}
+use Rattle.f11_index.specs.Table.{Table, table_of, IsLive}
 use Rattle.f11_store.specs.Changes.{with_change, with_slots, Extends}
 use Rattle.f11_store.specs.File.{File, zero_blocks}
 use Rattle.f11_store.specs.Store.{Store}
@@ -15,6 +16,7 @@ use Rattle.f11_store.specs.declared.callers.Uic.{Uic}
 use Rattle.f11_store.specs.declared.files.FileId.{FileId}
 use Rattle.f11_store.specs.declared.refusals.Refusal.TheVariants.{DeviceFault}
 use Rattle.f11_vfy.specs.Contents.{block_or_zeros}
+use Rattle.f11_files.specs.Allocation.{LinksLoose, NamesMore}
 use Rattle.f11_files.specs.Answers.{Breaks}
 use Rattle.f11_files.specs.Drops.{with_more_free}
 use Rattle.f11_files.specs.Extension.{AppendingRun, AppendsRun, EntersHeader}
@@ -27,6 +29,7 @@ use Rattle.f11_files.specs.Structure.{home_of, store_on, IsFor, StaysFor}
 use Rattle.f11_files.specs.Tail.{HasStore, HoldsLast, MayBeGiven, whose}
 use Rattle.f11_files.specs.declared.structure.Structure.{Structure}
 use Rattle.f11_files.specs.declared.tail.Tail.{Tail}
+use Rattle.f11_files.proofs.AllocationLemmas.{adds-linked}
 use Rattle.f11_files.proofs.GrowingLemmas.{breaks-fault, breaks-stays}
 use Rattle.f11_files.proofs.FirstLemmas.{table-of}
 use Rattle.f11_files.proofs.FreeingLemmas.{stays-for}
@@ -140,12 +143,22 @@ module _ (s : Structure) (tail : Tail) (lbn count : ℕ) (old : Disk) (for : IsF
       same-free : IsTrue old.honest → SameFree home old.image new.image
       same-free honest = subst (λ (h : HomeFields). SameFree h mid.image new.image) stays.home (links.free (still-honest honest)) ∙ enters.free honest
 
+      -- the file has the run
+      names-run : IsTrue old.honest → NamesMore k (range_with_len lbn count) (table_of old.image home) (table_of new.image home)
+      names-run honest =
+          let there : LinksLoose k id.number (table_of mid.image home) (table_of new.image home) =
+          subst (λ (h : HomeFields). LinksLoose k id.number (table_of mid.image h) (table_of new.image h)) stays.home (links.links (still-honest honest)) in
+          let live : IsLive (table_of mid.image home) id.number = (enters.follows honest).live in
+          subst (λ (l : List ℕ). NamesMore k l (table_of old.image home) (table_of new.image home)) (ap blocks_named (here honest) ∙ enters.extension.names)
+          (adds-linked k id.number (table_of old.image home) (table_of mid.image home) (table_of new.image home) live (enters.adds honest) there)
+
       pub appends-linked : segment_number tail.block < 255 → (file : FileId) (owner : Uic) (protection : ℕ) → (file, owner, protection) ≡ whose tail
-          → AppendsRun s after tail (record { file = file; owner = owner; protection = protection; number = id.number; block = block }) count 1 old new
+          → AppendsRun s after tail (record { file = file; owner = owner; protection = protection; number = id.number; block = block }) lbn count 1 old new
       appends-linked early file owner protection same = record {
         file = same;
         last = holds-added early file owner protection same;
         bitmap = enters.bitmap;
         free = same-free;
+        names = names-run;
         grew = adds-header;
       }

@@ -1,5 +1,6 @@
 -- The index file gets a header more, which names slots: that is written and entered, and then the last one links to it.
 use Rattle.std.proofs.Common.{◌≡◌, ◌+◌, ◌<◌, ◌≤◌, ℕ, true, false, IsTrue, List, [], ◌∷◌, ◌++◌, inr, sym, ap, subst, ◌∙◌, arith}
+use Rattle.std.specs.List.{range_with_len}
 use Rattle.std.proofs.lemmas.List.{append-nil}
 use Rattle.f11_bits.specs.Bitmap.{Bitmap}
 use Rattle.f11_dev.specs.Disk.{Disk}
@@ -10,13 +11,14 @@ use Rattle.f11_home.specs.Home.{HomeFields}
 use Rattle.f11_index.specs.HeaderBlock.{segment_number, blocks_named}
 use Rattle.f11_index.specs.Headers.{IsLastOf}
 use Rattle.f11_index.specs.Kept.{room}
-use Rattle.f11_index.specs.Table.{Table, table_of}
+use Rattle.f11_index.specs.Table.{Table, table_of, IsLive}
 use Rattle.f11_store.specs.Changes.{with_change, with_more_slots, with_slots, GrowsIndex}
 use Rattle.f11_store.specs.File.{File}
 use Rattle.f11_store.specs.Store.{Store}
 use Rattle.f11_store.specs.declared.callers.Uic.{Uic}
 use Rattle.f11_store.specs.declared.files.FileId.{FileId}
 use Rattle.f11_store.specs.declared.refusals.Refusal.TheVariants.{DeviceFault}
+use Rattle.f11_files.specs.Allocation.{AddsLoose, AddsZeroSlots, LinksLoose, NamesMore}
 use Rattle.f11_files.specs.Answers.{Breaks}
 use Rattle.f11_files.specs.Drops.{with_more_free}
 use Rattle.f11_files.specs.Extension.{EntersHeader}
@@ -31,6 +33,8 @@ use Rattle.f11_files.specs.Structure.{bitmap_in, home_of, store_on, IsFor, Stays
 use Rattle.f11_files.specs.Tail.{HasStore, HoldsLast, MayBeGiven, whose}
 use Rattle.f11_files.specs.declared.structure.Structure.{Structure}
 use Rattle.f11_files.specs.declared.tail.Tail.{Tail}
+use Rattle.f11_files.proofs.AllocationLemmas.{adds-linked}
+use Rattle.f11_files.proofs.ZeroSlotLemmas.{zero-then}
 use Rattle.f11_files.proofs.FirstLemmas.{table-of}
 use Rattle.f11_files.proofs.FreeingLemmas.{stays-for}
 use Rattle.f11_files.proofs.GrowingLemmas.{breaks-fault, breaks-stays}
@@ -155,14 +159,33 @@ module _ (s : Structure) (tail : Tail) (lbn count : ℕ) (old : Disk) (for : IsF
             (subst (λ (f : ℕ). IsLastOf (table_of new.image (home_of after)) f id.number) (sym (ap (λ (w : FileId × Uic × ℕ). w.0.number) same ∙ index)) (links.is_last (sym links.went.honest ∙ honest)));
       }
 
+      -- and the slots that came are zeros
+      zero-slots : IsTrue old.honest → AddsZeroSlots (table_of old.image home) (table_of new.image home)
+      zero-slots honest =
+          zero-then (table_of old.image home) (table_of mid.image home) (table_of new.image home) (enters.slots honest)
+          (subst (λ (h : HomeFields). AddsZeroSlots (table_of mid.image h) (table_of new.image h)) stays.home (links.slots (still-honest honest)))
+
+      -- the index file has the run
+      names-run : IsTrue old.honest → NamesMore 1 (range_with_len lbn count) (table_of old.image home) (table_of new.image home)
+      names-run honest =
+          let there : LinksLoose 1 id.number (table_of mid.image home) (table_of new.image home) =
+          subst (λ (h : HomeFields). LinksLoose 1 id.number (table_of mid.image h) (table_of new.image h)) stays.home (links.links (still-honest honest)) in
+          let live : IsLive (table_of mid.image home) id.number = (enters.follows honest).live in
+          let adds : AddsLoose 1 id.number (table_of old.image home) (table_of mid.image home) =
+          subst (λ (f : ℕ). AddsLoose f id.number (table_of old.image home) (table_of mid.image home)) index (enters.adds honest) in
+          subst (λ (l : List ℕ). NamesMore 1 l (table_of old.image home) (table_of new.image home)) (ap blocks_named (here honest) ∙ enters.extension.names)
+          (adds-linked 1 id.number (table_of old.image home) (table_of mid.image home) (table_of new.image home) live adds there)
+
       pub appends-linked : segment_number tail.block < 255 → (file : FileId) (owner : Uic) (protection : ℕ) → (file, owner, protection) ≡ whose tail
-          → AppendsSlots s t tail (record { file = file; owner = owner; protection = protection; number = id.number; block = block }) count 1 old new
+          → AppendsSlots s t tail (record { file = file; owner = owner; protection = protection; number = id.number; block = block }) lbn count 1 old new
       appends-linked early file owner protection same = record {
         file = same;
         last = holds-added early file owner protection same;
         bitmap = links.bitmap ∙ enters.bitmap;
         left = let one = enters.left in let two = links.left in omega (arith, one, two);
         free = λ honest. subst (λ (h : HomeFields). SameFree h mid.image new.image) stays.home (links.free (still-honest honest)) ∙ enters.free honest;
+        names = names-run;
+        slots = zero-slots;
         grew = adds-slots;
       }
 

@@ -26,7 +26,7 @@ use Rattle.f11_files.proofs.FreeingLemmas.{breaks-behind, breaks-within, writes-
 use Rattle.f11_files.proofs.GrowingLemmas.{takes-within, grew-behind, grew-within}
 use Rattle.f11_files.proofs.PieceLemmas.{may-free, fewer-may, taking-adds}
 use Rattle.f11_files.proofs.TakeLemmas.{takes-blocks}
-use Rattle.f11_files.proofs.TakenRunLemmas.{run-cost, break-cost, store-mid, store-free, none-left}
+use Rattle.f11_files.proofs.TakenRunLemmas.{run-cost, break-cost, store-mid, store-free, none-left, run-gained}
 
 -- what stands while a run is taken
 taking-grows : (s : Structure) (tail : Tail) (most : ℕ) (old : Disk) (image : Image) → Taking (home_of s) most 0 (store_on s old) old image → GrowingBy (home_of s) (store_on s old) tail.file.number most old image
@@ -99,7 +99,7 @@ module _ (s t : Structure) (tail : Tail) (from most lbn count : ℕ) (old mid : 
   fails-append new r breaks =
       breaks-within (λ _. break-cost (bitmap_in s) from most lbn count takes.within.above takes.within.some takes.within.short few) (breaks-behind appending-moment taken breaks)
 
-  pub adds-run : (u : Structure) (later : Tail) (new : Disk) → AppendsRun t u tail later count (count + 1) mid new → StaysFor false t u new → AddsRun s u tail later from most (lbn + count) count old new
+  pub adds-run : (u : Structure) (later : Tail) (new : Disk) → AppendsRun t u tail later lbn count (count + 1) mid new → StaysFor false t u new → AddsRun s u tail later from most (lbn + count) count old new
   adds-run u later new given kept = record {
     file = given.file;
     last = given.last;
@@ -109,6 +109,7 @@ module _ (s t : Structure) (tail : Tail) (from most lbn count : ℕ) (old mid : 
     above = let above = takes.within.above in omega (arith, above);
     within = takes.within.within;
     none_below = none-left s t tail from most lbn count old mid for last enough takes stays u new given.bitmap given.grew.went.honest given.free kept;
+    gains = run-gained s t tail from most lbn count old mid for last enough takes stays u new k given.bitmap given.grew.went.honest given.free given.names kept;
     grew = grew-within (λ _. run-cost (bitmap_in s) from lbn count takes.within.above takes.within.some takes.within.short)
         (grew-behind appending-moment (store-free s t tail from most lbn count old mid for last enough takes stays) taken (subst (λ (h : HomeFields). Grew (AppendingRun t tail count mid) h (with_more_free now count) k count (count + 1) mid new) stays.home given.grew));
   }

@@ -28,7 +28,7 @@ use Rattle.f11_files.proofs.GrowingIndexLemmas.{index-behind, index-within}
 use Rattle.f11_files.proofs.IndexPieceLemmas.{as-file, fewer-grow}
 use Rattle.f11_files.proofs.PieceLemmas.{may-free, taking-adds}
 use Rattle.f11_files.proofs.TakeLemmas.{takes-blocks}
-use Rattle.f11_files.proofs.TakenRunLemmas.{run-cost, break-cost, store-mid, store-free, none-left}
+use Rattle.f11_files.proofs.TakenRunLemmas.{run-cost, break-cost, store-mid, store-free, none-left, run-gained, slots-gained}
 
 -- what stands while a run is taken
 taking-grows : (s : Structure) (most : ℕ) (old : Disk) (image : Image) → Taking (home_of s) most 0 (store_on s old) old image → GrowingIndexBy (home_of s) (store_on s old) most old image
@@ -98,7 +98,7 @@ module _ (s t : Structure) (tail : Tail) (from most lbn count : ℕ) (old mid : 
   fails-append new r breaks =
       breaks-within (λ _. break-cost (bitmap_in s) from most lbn count takes.within.above takes.within.some takes.within.short few) (breaks-behind appending-moment taken breaks)
 
-  pub adds-slots : (u : Structure) (later : Tail) (new : Disk) → AppendsSlots t u tail later count (count + 1) mid new → StaysFor false t u new → AddsSlots s u tail later from most (lbn + count) count old new
+  pub adds-slots : (u : Structure) (later : Tail) (new : Disk) → AppendsSlots t u tail later lbn count (count + 1) mid new → StaysFor false t u new → AddsSlots s u tail later from most (lbn + count) count old new
   adds-slots u later new given kept = record {
     file = given.file;
     last = given.last;
@@ -109,6 +109,10 @@ module _ (s t : Structure) (tail : Tail) (from most lbn count : ℕ) (old mid : 
     above = let above = takes.within.above in omega (arith, above);
     within = takes.within.within;
     none_below = none-left s t tail from most lbn count old mid for last enough takes stays u new given.bitmap given.grew.went.honest given.free kept;
+    gains = λ honest. record {
+      blocks = run-gained s t tail from most lbn count old mid for last enough takes stays u new 1 given.bitmap given.grew.went.honest given.free given.names kept honest;
+      slots = slots-gained s t tail from most lbn count old mid for last enough takes stays new given.slots honest;
+    };
     grew = index-within (λ _. run-cost (bitmap_in s) from lbn count takes.within.above takes.within.some takes.within.short)
         (index-behind appending-moment (store-free s t tail from most lbn count old mid for last enough takes stays) taken (subst (λ (h : HomeFields). GrewIndex (AppendingSlots t count mid) h (with_more_free now count) count (count + 1) mid new) stays.home given.grew));
   }

@@ -8,15 +8,15 @@ use Rattle.f11_dev.proofs.WentLemmas.{went_write, went_failed_write}
 use Rattle.f11_index.specs.Growth.{with_header}
 use Rattle.f11_index.specs.IndexFile.{Index, header_lbn}
 use Rattle.f11_index.specs.Table.{Table, table_of, IsFile}
-use Rattle.f11_chain.specs.Calls.{table}
 use Rattle.f11_store.specs.File.{File}
 use Rattle.f11_store.specs.Lags.{Work, LagsBy, one_part, file_changes}
 use Rattle.f11_store.specs.Store.{Store}
 use Rattle.f11_store.specs.declared.files.FileId.{FileId}
 use Rattle.f11_store.specs.declared.refusals.Refusal.TheVariants.{DeviceFault}
 use Rattle.f11_store.proofs.LagLaws.{change_lags}
-use Rattle.f11_vfy.specs.Volume.{Volume}
+use Rattle.f11_vfy.specs.Volume.{Volume, volume_of}
 use Rattle.f11_writes.specs.Kept.{KeepsButSlot, WritesHeader}
+use Rattle.f11_files.specs.Allocation.{KeepsBlocks}
 use Rattle.f11_files.specs.Answers.{Meanwhile}
 use Rattle.f11_files.specs.FieldLaws.{SaysBut, ChangesFile}
 use Rattle.f11_files.specs.Fields.{Alters, FailsToAlter}
@@ -25,7 +25,7 @@ use Rattle.f11_files.specs.StoreOf.{store_of}
 use Rattle.f11_files.specs.Structure.{index_in, bitmap_in, home_of, store_on, Keeps, IsFor, StaysFor}
 use Rattle.f11_files.specs.declared.structure.Structure.{Structure}
 use Rattle.f11_files.proofs.AnswerLemmas.{right-fault, reads-looked}
-use Rattle.f11_files.proofs.FieldLemmas.{changes-file}
+use Rattle.f11_files.proofs.FieldLemmas.{changes-file, field-keeps}
 use Rattle.f11_files.proofs.FirstLemmas.{table-of}
 use Rattle.f11_files.proofs.NamedLemmas.{is-file, block-is, no-file-cause}
 use Rattle.f11_files.proofs.StoreLemmas.{free-count}
@@ -61,12 +61,23 @@ module _ (s : Structure) (f : FileId) (change : File → File) (was block : List
   is-written honest = ap (λ (i : Image). set i lbn block) finds.looked.image
       ∙ ap (λ (l : ℕ). set old.image l block) (at ∙ ap (λ (x : Index). header_lbn x f.number) (for.keeps honest).index_is)
 
+  file-here : IsTrue old.honest → IsFile (table_of old.image (home_of s)) f.number
+  file-here honest = subst (λ (t : Table). IsFile t f.number) (table-of s old for honest) (is-file s f was old for finds.holds honest).file
+
+  says-here : IsTrue old.honest → SaysBut change ((table_of old.image (home_of s)).header f.number) block
+  says-here honest = subst (λ (b : List ℕ). SaysBut change b block) (block-is s f was old for finds.holds honest) says
+
   changes : IsTrue old.honest → ChangesFile f.number block change (home_of s) old.image written
   changes honest =
-      let same : table (index_in s) old ≡ table_of old.image (home_of s) = table-of s old for honest in
-      let file : IsFile (table_of old.image (home_of s)) f.number = subst (λ (t : Table). IsFile t f.number) same (is-file s f was old for finds.holds honest).file in
-      let here : SaysBut change ((table_of old.image (home_of s)).header f.number) block = subst (λ (b : List ℕ). SaysBut change b block) (block-is s f was old for finds.holds honest) says in
-      subst (ChangesFile f.number block change (home_of s) old.image) (sym (is-written honest)) (changes-file old.image (home_of s) f.number block change (for.sound honest) own file here)
+      subst (ChangesFile f.number block change (home_of s) old.image) (sym (is-written honest))
+      (changes-file old.image (home_of s) f.number block change (for.sound honest) own (file-here honest) (says-here honest))
+
+  -- and the header names what it named
+  keeps : IsTrue old.honest → KeepsBlocks (volume_of old.image (home_of s)) (volume_of written (home_of s))
+  keeps honest =
+      subst (λ (i : Image). KeepsBlocks (volume_of old.image (home_of s)) (volume_of i (home_of s))) (sym (is-written honest))
+      (field-keeps old.image (home_of s) f.number block change (for.sound honest) (file-here honest) (says-here honest)
+      (subst (λ (i : Image). WritesHeader f.number block (home_of s) old.image i) (is-written honest) (changes honest).header))
 
   moment : P written
   moment honest = record {
@@ -79,6 +90,7 @@ module _ (s : Structure) (f : FileId) (change : File → File) (was block : List
     alters is = record {
       no_cause = λ honest. no-file-cause s f was old for finds.holds honest;
       makes = λ honest. ap (λ (d : Disk). store_of d.image (home_of s)) is ∙ (changes honest).store;
+      allots = λ honest. subst (λ (d : Disk). KeepsBlocks (volume_of old.image (home_of s)) (volume_of d.image (home_of s))) (sym is) (keeps honest);
       writes = writes-behind (reads-looked finds.looked) (went_write P now new lbn block is moment);
     }
 

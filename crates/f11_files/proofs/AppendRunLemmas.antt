@@ -1,11 +1,13 @@
 -- A run of blocks that a file gets: it is made zeros, and its last header names it, or a new one.
 use Rattle.std.proofs.Common.{◌≡◌, ◌+◌, ◌<◌, ◌≤◌, ℕ, Bool, true, false, cond, IsTrue, inl, inr, refl, sym, ap, subst, ◌∙◌, arith}
+use Rattle.std.specs.List.{range_with_len}
 use Rattle.f11_dev.specs.Disk.{Disk}
 use Rattle.f11_dev.specs.Image.{Image}
 use Rattle.f11_dev.proofs.WentLemmas.{went_more, went_weaker}
 use Rattle.f11_header.specs.Fields.{map_area}
 use Rattle.f11_home.specs.Home.{HomeFields}
 use Rattle.f11_map.specs.MapArea.{runs_of}
+use Rattle.f11_index.specs.Table.{Table, table_of}
 use Rattle.f11_map.specs.MapWriting.{joins_last}
 use Rattle.f11_store.specs.Changes.{Extends}
 use Rattle.f11_store.specs.File.{need}
@@ -15,6 +17,7 @@ use Rattle.f11_store.specs.declared.refusals.Refusal.TheVariants.{DeviceFault}
 use Rattle.f11_vfy.specs.Sound.{HasSoundVolume}
 use Rattle.f11_vfy.specs.Volume.{volume_of}
 use Rattle.f11_writes.specs.NameLaws.{AreSpare}
+use Rattle.f11_files.specs.Allocation.{NamesMore}
 use Rattle.f11_files.specs.Answers.{Writes, Breaks}
 use Rattle.f11_files.specs.Drops.{with_more_free}
 use Rattle.f11_files.specs.Extension.{AppendingRun, AppendsRun}
@@ -78,6 +81,9 @@ module _ (s : Structure) (tail : Tail) (lbn count : ℕ) (old : Disk) (for : IsF
     zeros-free : IsTrue old.honest → SameFree home old.image mid.image
     zeros-free = free-mid s tail lbn count old mid for last within some few spare zeroed
 
+    zeros-table : IsTrue old.honest → table_of mid.image home ≡ table_of old.image home
+    zeros-table honest = (zeroed.keeps honest).volume.index_file.table
+
     was-honest : IsTrue mid.honest → IsTrue old.honest
     was-honest honest = sym zeroed.went.honest ∙ honest
 
@@ -102,12 +108,16 @@ module _ (s : Structure) (tail : Tail) (lbn count : ℕ) (old : Disk) (for : IsF
           (subst (λ (x : Tail). IsTrue mid.honest → MayExtend (with_more_free (store_on s mid) count) x.file.number count) (sym full.tail_is) mid-may)
 
       -- a new header names them
-      pub appends-header : (t : Structure) (later : Tail) (new : Disk) → AppendsRun s t after later count 1 now new → AppendsRun s t tail later count (count + 1) old new
+      pub appends-header : (t : Structure) (later : Tail) (new : Disk) → AppendsRun s t after later lbn count 1 now new → AppendsRun s t tail later lbn count (count + 1) old new
       appends-header t later new given = record {
         file = given.file ∙ ap whose full.tail_is;
         last = given.last;
         bitmap = given.bitmap;
         free = λ honest. given.free (ap (λ (d : Disk). d.honest) full.disk_is ∙ zeroed.went.honest ∙ honest) ∙ ap (λ (d : Disk). (volume_of d.image home).free) full.disk_is ∙ zeros-free honest;
+        names = λ honest.
+            subst (λ (x : Tail). NamesMore x.file.number (range_with_len lbn count) (table_of old.image home) (table_of new.image home)) full.tail_is
+            (subst (λ (t : Table). NamesMore after.file.number (range_with_len lbn count) t (table_of new.image home)) (ap (λ (d : Disk). table_of d.image home) full.disk_is ∙ zeros-table honest)
+            (given.names (ap (λ (d : Disk). d.honest) full.disk_is ∙ zeroed.went.honest ∙ honest)));
         grew = grew-behind into (λ honest. ap (λ (x : Store). with_more_free x count) (same honest)) zeros-written
             (subst (λ (x : Tail). Grew (AppendingRun s x count mid) home (with_more_free (store_on s mid) count) x.file.number count 1 mid new) full.tail_is
             (subst (λ (d : Disk). Grew (AppendingRun s after count d) home (with_more_free (store_on s d) count) after.file.number count 1 d new) full.disk_is given.grew));
@@ -137,12 +147,13 @@ module _ (s : Structure) (tail : Tail) (lbn count : ℕ) (old : Disk) (for : IsF
         breaks-within (λ _. omega arith)
         (breaks-behind (λ image is. is) zeros-written (breaks-fault (went-writes (went_weaker (Naming s tail lbn count mid) P (naming-moment fails.fits) fails.went))))
 
-    pub appends-named : (after : Tail) (new : Disk) → NamesRun s tail after lbn count mid new → AppendsRun s s tail after count (count + 1) old new
+    pub appends-named : (after : Tail) (new : Disk) → NamesRun s tail after lbn count mid new → AppendsRun s s tail after lbn count (count + 1) old new
     appends-named after new names = record {
       file = names.file_is;
       last = names.holds;
       bitmap = refl;
       free = λ honest. names.free (zeroed.went.honest ∙ honest) ∙ zeros-free honest;
+      names = λ honest. subst (λ (t : Table). NamesMore k (range_with_len lbn count) t (table_of new.image home)) (zeros-table honest) (names.names (zeroed.went.honest ∙ honest));
       grew = record {
         extends = λ honest. (at honest).0;
         transfers = zeros-written.transfers + 1;

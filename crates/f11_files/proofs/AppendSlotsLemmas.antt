@@ -1,11 +1,13 @@
 -- A run of blocks that become slots: it is made zeros, and the index file's last header names it, or a new one.
 use Rattle.std.proofs.Common.{◌≡◌, ◌+◌, ◌<◌, ◌≤◌, ℕ, Bool, IsTrue, inl, inr, sym, ap, subst, ◌∙◌, arith}
+use Rattle.std.specs.List.{range_with_len}
 use Rattle.f11_dev.specs.Disk.{Disk}
 use Rattle.f11_dev.specs.Image.{Image}
 use Rattle.f11_dev.proofs.WentLemmas.{went_more, went_weaker}
 use Rattle.f11_header.specs.Fields.{map_area}
 use Rattle.f11_home.specs.Home.{HomeFields}
 use Rattle.f11_index.specs.Kept.{room}
+use Rattle.f11_index.specs.Table.{Table, table_of}
 use Rattle.f11_map.specs.MapArea.{runs_of}
 use Rattle.f11_map.specs.MapWriting.{joins_last}
 use Rattle.f11_store.specs.Changes.{GrowsIndex}
@@ -16,6 +18,7 @@ use Rattle.f11_store.specs.declared.refusals.Refusal.TheVariants.{DeviceFault}
 use Rattle.f11_vfy.specs.Sound.{HasSoundVolume}
 use Rattle.f11_vfy.specs.Volume.{volume_of}
 use Rattle.f11_writes.specs.NameLaws.{AreSpare}
+use Rattle.f11_files.specs.Allocation.{AddsZeroSlots, NamesMore}
 use Rattle.f11_files.specs.Answers.{Writes, Breaks}
 use Rattle.f11_files.specs.Drops.{with_more_free}
 use Rattle.f11_files.specs.FileLaws.{room_in}
@@ -71,6 +74,9 @@ module _ (s : Structure) (tail : Tail) (lbn count : ℕ) (old : Disk) (for : IsF
     zeros-free : IsTrue old.honest → SameFree home old.image mid.image
     zeros-free = free-mid s tail lbn count old mid for last within some few spare zeroed
 
+    zeros-table : IsTrue old.honest → table_of mid.image home ≡ table_of old.image home
+    zeros-table honest = (zeroed.keeps honest).volume.index_file.table
+
     was-honest : IsTrue mid.honest → IsTrue old.honest
     was-honest honest = sym zeroed.went.honest ∙ honest
 
@@ -113,15 +119,22 @@ module _ (s : Structure) (tail : Tail) (lbn count : ℕ) (old : Disk) (for : IsF
           (subst (λ (d : Disk). IsTrue d.honest → MayGrowIndex (with_more_free (store_on s d) count) count) (sym full.disk_is) mid-may)
 
       -- a new header names them
-      pub appends-header : (t : Structure) (later : Tail) (new : Disk) → AppendsSlots u t after later count 1 now new → AppendsSlots s t tail later count (count + 1) old new
+      pub appends-header : (t : Structure) (later : Tail) (new : Disk) → AppendsSlots u t after later lbn count 1 now new → AppendsSlots s t tail later lbn count (count + 1) old new
       appends-header t later new appends =
-          let given = subst (λ (x : Structure). AppendsSlots x t after later count 1 now new) same_is appends in
+          let given = subst (λ (x : Structure). AppendsSlots x t after later lbn count 1 now new) same_is appends in
           record {
             file = given.file ∙ ap whose full.tail_is;
             last = given.last;
             bitmap = given.bitmap;
             left = given.left;
             free = λ honest. given.free (ap (λ (d : Disk). d.honest) full.disk_is ∙ zeroed.went.honest ∙ honest) ∙ ap (λ (d : Disk). (volume_of d.image home).free) full.disk_is ∙ zeros-free honest;
+            names = λ honest.
+                subst (λ (t : Table). NamesMore 1 (range_with_len lbn count) t (table_of new.image home))
+                (ap (λ (d : Disk). table_of d.image home) full.disk_is ∙ zeros-table honest)
+                (given.names (ap (λ (d : Disk). d.honest) full.disk_is ∙ zeroed.went.honest ∙ honest));
+            slots = λ honest.
+                subst (λ (t : Table). AddsZeroSlots t (table_of new.image home)) (ap (λ (d : Disk). table_of d.image home) full.disk_is ∙ zeros-table honest)
+                (given.slots (ap (λ (d : Disk). d.honest) full.disk_is ∙ zeroed.went.honest ∙ honest));
             grew = index-behind into (λ honest. ap (λ (x : Store). with_more_free x count) (same honest)) zeros-written
                 (subst (λ (d : Disk). GrewIndex (AppendingSlots s count d) home (with_more_free (store_on s d) count) count 1 d new) full.disk_is given.grew);
           }
@@ -153,13 +166,17 @@ module _ (s : Structure) (tail : Tail) (lbn count : ℕ) (old : Disk) (for : IsF
         breaks-within (λ _. omega arith)
         (breaks-behind (λ image is. is) zeros-written (breaks-fault (went-writes (went_weaker (NamingSlots s tail lbn count mid) P (naming-moment fails.fits) fails.went))))
 
-    pub appends-named : (t : Structure) (after : Tail) (new : Disk) → NamesSlots s t tail after lbn count mid new → AppendsSlots s t tail after count (count + 1) old new
+    pub appends-named : (t : Structure) (after : Tail) (new : Disk) → NamesSlots s t tail after lbn count mid new → AppendsSlots s t tail after lbn count (count + 1) old new
     appends-named t after new names = record {
       file = names.file_is;
       last = names.holds;
       bitmap = names.bitmap;
       left = names.left;
       free = λ honest. names.free (zeroed.went.honest ∙ honest) ∙ zeros-free honest;
+      names = λ honest.
+          subst (λ (t : Table). NamesMore 1 (range_with_len lbn count) t (table_of new.image home)) (zeros-table honest)
+          (names.names (zeroed.went.honest ∙ honest));
+      slots = λ honest. subst (λ (t : Table). AddsZeroSlots t (table_of new.image home)) (zeros-table honest) (names.slots (zeroed.went.honest ∙ honest));
       grew = record {
         grows = λ honest. (at honest).0;
         transfers = zeros-written.transfers + 1;

@@ -9,13 +9,16 @@ use Rattle.f11_store.specs.declared.files.FileId.{FileId}
 use Rattle.f11_store.specs.declared.refusals.Refusal.TheVariants.{DeviceFault}
 use Rattle.f11_store.specs.Lags.{LagsBy}
 use Rattle.f11_store.proofs.LagLaws.{change_lags}
+use Rattle.f11_vfy.specs.Volume.{volume_of}
 use Rattle.f11_writes.specs.Kept.{WritesBlock}
 use Rattle.f11_writes.proofs.OtherLemmas.{file-keeps}
+use Rattle.f11_files.specs.Allocation.{KeepsBlocks}
 use Rattle.f11_files.specs.Answers.{Meanwhile}
 use Rattle.f11_files.specs.Blocks.{FindsBlock, StoresBlock, FailsToStore, block_work}
 use Rattle.f11_files.specs.StoreOf.{store_of}
 use Rattle.f11_files.specs.Structure.{home_of, store_on, Keeps, IsFor, StaysFor}
 use Rattle.f11_files.specs.declared.structure.Structure.{Structure}
+use Rattle.f11_files.proofs.AllocationLemmas.{keeps-same}
 use Rattle.f11_files.proofs.AnswerLemmas.{right-fault}
 use Rattle.f11_files.proofs.StoreLemmas.{block-stored}
 use Rattle.f11_files.proofs.WriteLemmas.{keeps-volume, failed-stays, served-stays, writes-behind}
@@ -38,6 +41,9 @@ module _ (s : Structure) (f : FileId) (vbn lbn : ℕ) (block : List ℕ) (old no
   makes : IsTrue old.honest → store_of written (home_of s) ≡ with_change (store_on s old) f.number (with_block vbn block)
   makes honest = block-stored old.image written (home_of s) f.number vbn block own (writes honest)
 
+  keeps : IsTrue old.honest → KeepsBlocks (volume_of old.image (home_of s)) (volume_of written (home_of s))
+  keeps honest = keeps-same (volume_of old.image (home_of s)) (volume_of written (home_of s)) (writes honest).keeps.volume
+
   moment : P written
   moment honest = record {
     sound = (writes honest).keeps.sound;
@@ -49,6 +55,7 @@ module _ (s : Structure) (f : FileId) (vbn lbn : ℕ) (block : List ℕ) (old no
     stores-block is = record {
       no_cause = finds.no_cause;
       makes = λ honest. ap (λ (d : Disk). store_of d.image (home_of s)) is ∙ makes honest;
+      allots = λ honest. subst (λ (d : Disk). KeepsBlocks (volume_of old.image (home_of s)) (volume_of d.image (home_of s))) (sym is) (keeps honest);
       writes = writes-behind finds.reads (went_write P now new lbn block is moment);
     }
 

@@ -36,6 +36,7 @@ use Rattle.f11_writes.proofs.BitLemmas.{clear-keeps}
 use Rattle.f11_writes.proofs.HeaderLemmas.{kill-keeps}
 use Rattle.f11_writes.proofs.NameLemmas.{own-names, lost-unnamed}
 use Rattle.f11_files.specs.Drops.{FreesMore, IsFreeing, Freeing, BreaksOff, AreAllSpare, MayDrop, Buries}
+use Rattle.f11_files.specs.Growing.{SameFree}
 use Rattle.f11_files.specs.SlotLaws.{with_use, IsLoose}
 use Rattle.f11_files.specs.StoreOf.{is_first, store_of}
 use Rattle.f11_files.specs.Structure.{index_in, bitmap_in, home_of, store_on, Lies, Keeps, IsFor, StaysFor}
@@ -173,6 +174,9 @@ module _ (s : Structure) (n lbn : ℕ) (block dead : List ℕ) (old : Disk) (for
         header = λ m away used. two.slot.others.header m away (one.slot.others.in_use m away ∙ used) ∙ one.slot.others.header m away used;
       }
 
+      free-now : SameFree home old.image cleared
+      free-now = ap (λ (v : Volume). v.free) two.slot.volume ∙ ap (λ (v : Volume). v.free) one.slot.volume
+
       spare-now : AreAllSpare (volume_of cleared home) (blocks_named block)
       unfolding volume_of
       spare-now =
@@ -239,6 +243,7 @@ module _ (s : Structure) (n lbn : ℕ) (block dead : List ℕ) (old : Disk) (for
       buries = record {
         others = λ honest. subst (λ (i : Image). KeepsOtherSlots n t (table_of i home)) (sym image-new) (others-now honest (index_kept after) cleared_is.bit);
         unused = λ honest. ap (λ (i : Image). (table_of i home).in_use n) image-new ∙ unused-now honest (index_kept after) cleared_is.bit;
+        free = λ honest. ap (λ (i : Image). (volume_of i home).free) image-new ∙ free-now honest (index_kept after) cleared_is.bit;
         spare = λ honest. subst (λ (i : Image). AreAllSpare (volume_of i home) (blocks_named block)) (sym image-new) (spare-now honest (index_kept after) cleared_is.bit);
         store = λ honest. ap (λ (i : Image). store_of i home) image-new ∙ store-cleared honest (index_kept after) cleared_is.bit;
         writes = record {

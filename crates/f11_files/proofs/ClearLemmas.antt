@@ -15,7 +15,7 @@ use Rattle.f11_index.specs.Growth.{with_header}
 use Rattle.f11_index.specs.HeaderBlock.{segment_number, link_of}
 use Rattle.f11_index.specs.Headers.{IsLastOf}
 use Rattle.f11_index.specs.IndexFile.{Index, header_lbn}
-use Rattle.f11_index.specs.Table.{Table, table_of, IsFile, IsHeaderOf}
+use Rattle.f11_index.specs.Table.{Table, table_of, IsFile, IsHeaderOf, IsWholeFile}
 use Rattle.f11_index.proofs.ChainLemmas.{live_of-header}
 use Rattle.f11_index.proofs.HeadersLemmas.{last-whole}
 use Rattle.f11_index.proofs.StayLemmas.{whole-stays}
@@ -28,6 +28,9 @@ use Rattle.f11_store.specs.declared.files.FileId.{FileId}
 use Rattle.f11_vfy.specs.Sound.{HasSoundVolume}
 use Rattle.f11_writes.specs.Kept.{file_in}
 use Rattle.f11_writes.specs.OtherSlots.{KeepsOtherSlots}
+use Rattle.f11_vfy.specs.Volume.{volume_of}
+use Rattle.f11_vfy.proofs.FileLemmas.{image-files}
+use Rattle.f11_files.specs.Allocation.{AddsZeroSlots, GainsBlocks}
 use Rattle.f11_files.specs.Clear.{Clearing, ClearsMark}
 use Rattle.f11_files.specs.FieldLaws.{SaysBut, ChangesFile}
 use Rattle.f11_files.specs.First.{HoldsFile, IsFirstOf}
@@ -35,8 +38,10 @@ use Rattle.f11_files.specs.StoreOf.{as_seen}
 use Rattle.f11_files.specs.Structure.{index_in, home_of, store_on, Lies, Keeps, IsFor}
 use Rattle.f11_files.specs.Tail.{HasStore}
 use Rattle.f11_files.specs.declared.structure.Structure.{Structure}
+use Rattle.f11_files.proofs.AllocationLemmas.{gains-nothing}
+use Rattle.f11_files.proofs.ZeroSlotLemmas.{zero-same, zero-header}
 use Rattle.f11_files.proofs.AlterLemmas.{keeps-header}
-use Rattle.f11_files.proofs.FieldLemmas.{changes-file, changes-index, segment-same, link-same}
+use Rattle.f11_files.proofs.FieldLemmas.{changes-file, changes-index, field-gains, segment-same, link-same}
 use Rattle.f11_files.proofs.FirstLemmas.{table-of}
 use Rattle.f11_files.proofs.InstanceLemmas.{with_file-same}
 use Rattle.f11_files.proofs.NamedLemmas.{file-stored, is-file, held-named, attr-is, block-is}
@@ -46,29 +51,33 @@ use Rattle.f11_files.proofs.StoreLemmas.{file-at}
 unchanged : (st : Store) (k : ℕ) (g : File) (change : File → File) → st.file k ≡ Some g → change g ≡ g → with_change st k change ≡ st
 unchanged st k g change is same = with_file-same st k (option_map change (st.file k)) (is ∙ sym (ap (option_map change) is ∙ ap Some same))
 
--- a file whose first header has the link that it had has the last header that it had
-last-stays : (t u : Table) (f n : ℕ) → KeepsOtherSlots f t u → StaysHeader t u f → IsLastOf t f n → IsLastOf u f n
-last-stays t u f n others stays last = record {
-  of = ((whole-stays t u f (last-whole t f n last) each).1 n).1 last.of;
-  no_link = ap (λ (l : FileId). l.number) (each n last.of).link ∙ last.no_link;
-}
-  where
-    each : (m : ℕ) → IsHeaderOf t f m → StaysHeader t u m
-    each m of = elim (cases_eq m f) [
-      | inl same ↦ subst (StaysHeader t u) (sym same) stays
-      | inr other ↦
-          let live = live_of-header of in
-          let is = others.header m other live.in_use in
-          record {
-            good = record {
-              in_use = others.in_use m other ∙ live.in_use;
-              valid = subst (λ (b : List ℕ). IsHeader b m) (sym is) live.valid;
-              sequence = ap file_sequence is;
-              segment = ap segment_number is;
-            };
-            link = ap link_of is;
-          }
-    ]
+-- a file whose first header has the link that it had has the headers that it had
+module _ (t u : Table) (f : ℕ) (others : KeepsOtherSlots f t u) (stays : StaysHeader t u f) where
+  each-stays : (m : ℕ) → IsHeaderOf t f m → StaysHeader t u m
+  each-stays m of = elim (cases_eq m f) [
+    | inl same ↦ subst (StaysHeader t u) (sym same) stays
+    | inr other ↦
+        let live = live_of-header of in
+        let is = others.header m other live.in_use in
+        record {
+          good = record {
+            in_use = others.in_use m other ∙ live.in_use;
+            valid = subst (λ (b : List ℕ). IsHeader b m) (sym is) live.valid;
+            sequence = ap file_sequence is;
+            segment = ap segment_number is;
+          };
+          link = ap link_of is;
+        }
+  ]
+
+  headers-stay : IsWholeFile t f → (m : ℕ) → IsHeaderOf t f m → IsHeaderOf u f m
+  headers-stay whole m of = ((whole-stays t u f whole each-stays).1 m).1 of
+
+  last-stays : (n : ℕ) → IsLastOf t f n → IsLastOf u f n
+  last-stays n last = record {
+    of = headers-stay (last-whole t f n last) n last.of;
+    no_link = ap (λ (l : FileId). l.number) (each-stays n last.of).link ∙ last.no_link;
+  }
 
 -- the first header of the index file is written, or that of a file from 4 on
 changes-own : (image : Image) (home : HomeFields) (f : ℕ) (block : List ℕ) (change : File → File) → HasSoundVolume image home → (f ≡ 1) ⊎ (4 ≤ f) → IsFile (table_of image home) f
@@ -113,6 +122,8 @@ module _ (s : Structure) (f : FileId) (was : List ℕ) (old : Disk) (for : IsFor
       slots = λ honest. record { in_use = λ m other. refl; header = λ m other used. refl };
       last = λ honest n last. last;
       is_for = for;
+      gains = λ honest. gains-nothing f.number (volume_of old.image home);
+      zeros = λ honest. zero-same t;
       store = store-kept;
       went = went_within (Clearing s f old) (went_looked (Clearing s f old) (looked_none old)) (omega arith);
     }
@@ -187,6 +198,16 @@ module _ (s : Structure) (f : FileId) (was : List ℕ) (old : Disk) (for : IsFor
         link = ap link_of (header-now honest) ∙ link-same with_no_mark was block says ∙ ap link_of (header-was honest);
       }
 
+      -- the file has the blocks that it had
+      gains-now : IsTrue old.honest → GainsBlocks f.number 0 (volume_of old.image home) (volume_of new.image home)
+      gains-now honest =
+          let whole = ((image-files old.image home (for.sound honest)).each f.number (file-here honest)).whole in
+          let says_now = subst (λ (b : List ℕ). SaysBut with_no_mark b block) (header-was honest) says in
+          let headers = subst (λ (i : Image). (m : ℕ) → IsHeaderOf t f.number m → IsHeaderOf (table_of i home) f.number m) (image honest)
+          (headers-stay t (table_of new.image home) f.number (slots-stay honest) (first-stays honest) whole) in
+          subst (λ (i : Image). GainsBlocks f.number 0 (volume_of old.image home) (volume_of i home)) (sym (image honest))
+          (field-gains old.image home f.number block with_no_mark (for.sound honest) (file-here honest) says_now (changes honest).header headers)
+
       pub clears-mark : ClearsMark s f was block old new
       clears-mark = record {
         holds = record {
@@ -201,8 +222,12 @@ module _ (s : Structure) (f : FileId) (was : List ℕ) (old : Disk) (for : IsFor
         };
         link = link-same with_no_mark was block says;
         slots = slots-stay;
-        last = λ honest n last. last-stays t (table_of new.image home) f.number n (slots-stay honest) (first-stays honest) last;
+        last = λ honest n last. last-stays t (table_of new.image home) f.number (slots-stay honest) (first-stays honest) n last;
         is_for = for-new;
+        gains = gains-now;
+        zeros = λ honest.
+            subst (λ (i : Image). AddsZeroSlots t (table_of i home)) (sym (image honest))
+            (zero-header old.image next home f.number block (changes honest).header (file-here honest).live.in_use);
         store = λ honest. subst (HasStore home (with_change (store_on s old) f.number with_no_mark)) (sym (image honest)) (store-next honest);
         went = went;
       }

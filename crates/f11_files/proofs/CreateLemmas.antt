@@ -27,6 +27,8 @@ use Rattle.f11_store.proofs.Frees.{same_limits}
 use Rattle.f11_store.proofs.LagLaws.{taken_lags, created_lags}
 use Rattle.f11_vfy.specs.Sound.{HasSoundVolume}
 use Rattle.f11_vfy.specs.Space.{storage_bitmap}
+use Rattle.f11_vfy.specs.Volume.{volume_of}
+use Rattle.f11_files.specs.Allocation.{KeepsBlocks}
 use Rattle.f11_files.specs.Answers.{Meanwhile, IsUnderWay}
 use Rattle.f11_files.specs.Create.{Creates, FailsToCreate, new_work}
 use Rattle.f11_files.specs.NewFileLaws.{IsNewFirst, WritesNewFirst, EntersNewFile}
@@ -38,7 +40,7 @@ use Rattle.f11_files.specs.declared.structure.Structure.{Structure}
 use Rattle.f11_files.proofs.AlterLemmas.{free-slot, keeps-header}
 use Rattle.f11_files.proofs.AnswerLemmas.{right-fault, reads-looked}
 use Rattle.f11_files.proofs.FreeSlotLemmas.{IsReadAt, read-at}
-use Rattle.f11_files.proofs.NewFileLemmas.{free-stored, least-stored, writes-first, enters-file}
+use Rattle.f11_files.proofs.NewFileLemmas.{free-stored, least-stored, writes-first, enters-file, entered-keeps}
 use Rattle.f11_files.proofs.WriteLemmas.{failed-stays, sound-went, writes-behind, writes-within}
 
 -- a slot that was given its next sequence number
@@ -121,6 +123,15 @@ module _ (s : Structure) (owner : Uic) (protection : ℕ) (ident attr : List ℕ
         subst (λ (i : Image). EntersNewFile n after owner protection ident attr home old.image i (with_bitmap_block i after n)) (sym ((slot honest).written block))
         (enters-file id owner protection ident attr empty block new old.image home (for.sound honest) (slot honest).least.high (slot honest).least.unused after at-home (slot honest).least (slot honest).next)
 
+    -- and each header names what it named
+    kept : (after : Index) → IsTrue old.honest → SetsBit true n (index_in s) after
+        → KeepsBlocks (volume_of old.image home) (volume_of (with_bitmap_block first after n) home)
+    kept after honest bit =
+        let at-home : SetsBit true n (index_of old.image home) after = subst (λ (x : Index). SetsBit true n x after) (for.keeps honest).index_is bit in
+        subst (λ (i : Image). KeepsBlocks (volume_of old.image home) (volume_of (with_bitmap_block i after n) home)) (sym ((slot honest).written block))
+        (entered-keeps id owner protection ident attr empty block new old.image home (for.sound honest)
+        (slot honest).least.high (slot honest).least.unused after at-home)
+
     pub second-moment : (image : Image) → HasBitWritten true n (index_in s) first image → P image
     second-moment image has honest =
         let here = entered has.written honest has.bit in
@@ -170,6 +181,9 @@ module _ (s : Structure) (owner : Uic) (protection : ℕ) (ident attr : List ℕ
           does = record {
             no_cause = some-free;
             makes = λ honest. ap (λ (i : Image). store_of i home) (image-two after new wrote_bit) ∙ (entered after honest wrote_bit.bit).store;
+            allots = λ honest.
+                subst (λ (i : Image). KeepsBlocks (volume_of old.image home) (volume_of i home)) (sym (image-two after new wrote_bit))
+                (kept after honest wrote_bit.bit);
             writes = writes-behind (reads-looked (looked_read old mid counts)) (behind new 0 wrote_bit.went);
           };
           id = λ honest.

@@ -1,5 +1,5 @@
 -- A file that is cut: its last header that stays, and what is kept of the volume then.
-use Rattle.std.proofs.Common.{◌≡◌, ◌≢◌, ◌⊎◌, ◌+◌, ◌-◌, ◌*◌, ◌<◌, ◌≤◌, ◌==◌, ℕ, Bool, true, false, cond, IsTrue, List, [], ◌∷◌, ◌++◌, Option, Some, None, option_map, length, take, drop, refl, sym, ap, subst, ◌∙◌, arith}
+use Rattle.std.proofs.Common.{◌≡◌, ◌≢◌, ◌⊎◌, ◌+◌, ◌-◌, ◌*◌, ◌<◌, ◌≤◌, ◌==◌, ◌||◌, ℕ, Bool, true, false, cond, IsTrue, List, [], ◌∷◌, ◌++◌, Option, Some, None, option_map, length, take, drop, refl, sym, ap, subst, ◌∙◌, arith}
 use Rattle.std.proofs.Math.ListN.{set}
 use Rattle.std.proofs.Math.Seq.{drop-append_seam, take-append_seam}
 use Rattle.std.specs.List.{slice_get, sum_by}
@@ -19,10 +19,10 @@ use Rattle.f11_index.specs.Headers.{headers_from, headers_of}
 use Rattle.f11_index.specs.IndexFile.{Index, index_of, header_lbn}
 use Rattle.f11_index.specs.Table.{Table, table_of, IsLive, IsWholeFile, IsHeaderOf, first}
 use Rattle.f11_index.proofs.ChainLemmas.{file_of-header, live_of-header}
-use Rattle.f11_index.proofs.HeadersLemmas.{link_number, live-some, Comes, Comes-header, Comes-split}
+use Rattle.f11_index.proofs.HeadersLemmas.{last-whole, link_number, live-some, Comes, Comes-header, Comes-split}
 use Rattle.f11_index.proofs.SegmentLemmas.{table-bytes}
 use Rattle.f11_chain.specs.FileHeaders.{blocks_by, blocks_before, file_blocks}
-use Rattle.f11_store.specs.Changes.{with_change, with_cut_file, with_file, with_first_blocks, without_slots, Truncates}
+use Rattle.f11_store.specs.Changes.{is_in, with_change, with_cut_file, with_file, with_first_blocks, without_slots, Truncates}
 use Rattle.f11_store.specs.Cost.{cut_cost}
 use Rattle.f11_store.specs.File.{File, length_of}
 use Rattle.f11_store.specs.Lags.{AreLike, LagsBy, one_part, file_changes}
@@ -38,14 +38,17 @@ use Rattle.f11_vfy.specs.Sound.{HasSoundVolume}
 use Rattle.f11_vfy.specs.Volume.{Volume, volume_of, IsCell}
 use Rattle.f11_vfy.proofs.FileLemmas.{image-files, reached-are, file-headers-are, file-blocks-are}
 use Rattle.f11_writes.specs.Kept.{file_in, WritesHeader}
+use Rattle.f11_writes.specs.OtherSlots.{KeepsOtherSlots}
 use Rattle.f11_writes.specs.Volumes.{MayName, MayBecome, links_to_none}
 use Rattle.f11_writes.proofs.HeaderLemmas.{file-rewrite-keeps}
 use Rattle.f11_writes.proofs.NameLemmas.{own-names, fewer-names, lost-unnamed}
 use Rattle.f11_writes.proofs.OtherSlotLemmas.{turned, in-file-was, nowhere}
+use Rattle.f11_files.specs.Allocation.{FreesBlocks, LosesBlocks, LosesHeaders}
 use Rattle.f11_files.specs.Answers.{Writes, Meanwhile}
 use Rattle.f11_files.specs.Cuts.{FindsLastKept, CutsOff, Cuts, FailsToCut, cut_work}
 use Rattle.f11_files.specs.Drops.{FreesMore, Freeing, BreaksOff, AreAllSpare, GivesBlocks, DropsBehind, HangsBehind, headers_behind, tail_cost, with_more_free, without_headers}
 use Rattle.f11_files.specs.FileLaws.{SaysAlike, MayStand, EndsThere, with_first_headers, pointers_before, pointers_in, room_in}
+use Rattle.f11_files.specs.Growing.{SameFree}
 use Rattle.f11_files.specs.Operations.{length_causes}
 use Rattle.f11_files.specs.StoreOf.{store_of}
 use Rattle.f11_files.specs.Structure.{index_in, home_of, store_on, Lies, Keeps, IsFor}
@@ -53,9 +56,10 @@ use Rattle.f11_files.specs.declared.structure.Structure.{Structure}
 use Rattle.f11_files.proofs.AlterLemmas.{keeps-header}
 use Rattle.f11_files.proofs.FileLemmas.{as-header, file-ends, of-now}
 use Rattle.f11_files.proofs.FirstLemmas.{table-of}
-use Rattle.f11_files.proofs.FreeingLemmas.{frees-none, frees-blocks, freeing-more, writes-then, writes-within, breaks-then, breaks-within}
+use Rattle.f11_files.proofs.FreeingLemmas.{frees-none, frees-blocks, freeing-more, writes-then, writes-within, breaks-then, breaks-within, sound-freed}
 use Rattle.f11_files.proofs.GoneLemmas.{breaks-fails}
 use Rattle.f11_files.proofs.InstanceLemmas.{file-stored}
+use Rattle.f11_files.proofs.LossLemmas.{CutsThere, held-same, loses-blocks}
 use Rattle.f11_files.proofs.NamedLemmas.{file-stored as stored-file}
 use Rattle.f11_files.proofs.StoreLemmas.{file-at, seen-own}
 use Rattle.f11_files.proofs.TailLemmas.{hangs-from, hangs-are, hangs-blocks, hangs-pointers}
@@ -305,7 +309,7 @@ module _ (s : Structure) (f : FileId) (to n keep lbn : ℕ) (block cut : List �
         (breaks-within (λ honest. let few = cost honest in omega (arith, few)) (breaks-then frees-now first-writes breaks))
 
     -- its other blocks were marked free
-    module _ (c : Structure) (given : Disk) (gives : GivesBlocks h (length (drop keep (blocks_named block))) (pointers_in block) now given) (same : home_of c ≡ h) (is_image : IsImage given.image) where
+    module _ (c : Structure) (given : Disk) (gives : GivesBlocks h (drop keep (blocks_named block)) (pointers_in block) now given) (same : home_of c ≡ h) (is_image : IsImage given.image) where
       abbrev w : Table
       w = table_of given.image h
 
@@ -430,6 +434,44 @@ module _ (s : Structure) (f : FileId) (to n keep lbn : ℕ) (block cut : List �
             ∙ store-cut honest;
       }
 
+      of-given : IsTrue old.honest → IsHeaderOf w f.number n
+      of-given honest =
+          subst (λ (v : Table). IsHeaderOf v f.number n) (sym (tables honest)) (of-now old.image written h f.number n cut (as-header n cut h old.image written (one honest)) (stands honest))
+
+      link-given : IsTrue old.honest → link_number w n ≡ 0
+      link-given honest = ap (λ (v : Table). link_number v n) (tables honest) ∙ link-now honest
+
+      free-now : IsTrue old.honest → SameFree h old.image now.image
+      free-now honest = ap (λ (i : Image). (volume_of i h).free) image-now ∙ ap (λ (v : Volume). v.free) (one honest).slot.volume
+
+      cuts-there : IsTrue old.honest → CutsThere f.number n keep to (volume_of old.image h) (volume_of given.image h)
+      unfolding volume_of
+      cuts-there honest = record {
+        of = of honest;
+        whole = whole honest;
+        few = byte honest;
+        others = subst (KeepsOtherSlots n t) (sym (tables honest)) (one honest).slot.others;
+        live = live_of-header (of-given honest);
+        no_link = link-given honest;
+        blocks = ap (λ (v : Table). blocks_named (v.header n)) (tables honest) ∙ ap blocks_named (one honest).index_file.header ∙ (ends honest).blocks;
+        within = (ends honest).within;
+        to_is = finds.to_is honest;
+        needed = subst (λ (b : List ℕ). (segment_number b ≡ 0) ⊎ (0 < keep)) (header-is honest) finds.needed;
+        free =
+            subst (λ (b : List ℕ). FreesBlocks (drop keep (blocks_named b)) (volume_of old.image h) (volume_of given.image h)) (header-is honest) (λ k.
+            gives.frees (now-honest honest) k ∙ ap (λ (free : ℕ → Bool). free k || is_in (drop keep (blocks_named block)) k) (free-now honest));
+      }
+
+      -- the blocks of the file, once the headers behind it are gone
+      loses-so : (new : Disk) → HasSoundVolume new.image h → DropsBehind h block given new → IsTrue old.honest → LosesBlocks f.number to (volume_of old.image h) (volume_of new.image h)
+      unfolding volume_of
+      loses-so new sound_new behind honest =
+          let given_honest : IsTrue given.honest = gives.writes.went.honest ∙ now-honest honest in
+          let whole_given = last-whole w f.number n (record { of = of-given honest; no_link = link-given honest }) in
+          let kept = held-same given.image new.image h f.number whole_given sound_new (ap (λ (x : Store). x.file f.number) (behind.store given_honest)) in
+          loses-blocks f.number n keep to (volume_of old.image h) (volume_of given.image h) (volume_of new.image h) (cuts-there honest)
+          (subst (λ (ns : List ℕ). LosesHeaders ns (volume_of given.image h) (volume_of new.image h)) (behind-is honest) (behind.loses given_honest)) (blocks-behind honest) kept.0 kept.1
+
       pub cuts-file : (new : Disk) → DropsBehind (home_of c) block given new → Cuts h f to old new
       cuts-file new behind =
           let here : DropsBehind h block given new = subst (λ (k : HomeFields). DropsBehind k block given new) same behind in
@@ -437,5 +479,6 @@ module _ (s : Structure) (f : FileId) (to n keep lbn : ℕ) (block cut : List �
           record {
             no_cause = finds.no_cause;
             makes = cut-so new here;
+            allots = λ honest. loses-so new (sound-freed h base old new for.sound wrote_all (wrote_all.went.honest ∙ honest)) here honest;
             writes = record { transfers = wrote_all.transfers; went = went_weaker (Freeing h base old) (Meanwhile (cut_work f to) h old) cut-moment wrote_all.went; few = wrote_all.few };
           }

@@ -19,13 +19,14 @@ module _ (home at : HomeFields) (n : ℕ) (block : List ℕ) (old now new : Disk
   frees-now : IsTrue old.honest → FreesMore (with_file (store_of old.image home) n None) (store_of now.image home)
   frees-now honest = subst (FreesMore (with_file (store_of old.image home) n None)) (sym (buries.store honest)) (frees-slot (with_file (store_of old.image home) n None) n)
 
-  pub drops-header : GivesBlocks at (length (blocks_named block)) (pointers_in block) now new → DropsHeader home n block old new
+  pub drops-header : GivesBlocks at (blocks_named block) (pointers_in block) now new → DropsHeader home n block old new
   drops-header given =
-      let gives : GivesBlocks home (length (blocks_named block)) (pointers_in block) now new = subst (λ (h : HomeFields). GivesBlocks h (length (blocks_named block)) (pointers_in block) now new) same given in
+      let gives : GivesBlocks home (blocks_named block) (pointers_in block) now new = subst (λ (h : HomeFields). GivesBlocks h (blocks_named block) (pointers_in block) now new) same given in
       let now_honest : IsTrue old.honest → IsTrue now.honest = λ honest. buries.writes.went.honest ∙ honest in
       record {
         others = λ honest. subst (KeepsOtherSlots n (table_of old.image home)) (sym (gives.table (now_honest honest))) (buries.others honest);
         unused = λ honest. ap (λ (t : Table). t.in_use n) (gives.table (now_honest honest)) ∙ buries.unused honest;
+        frees = λ honest k. gives.frees (now_honest honest) k ∙ ap (λ (free : ℕ → Bool). free k || is_in (blocks_named block) k) (buries.free honest);
         store = λ honest. gives.store (now_honest honest) ∙ ap (λ (s : Store). with_more_free s (length (blocks_named block))) (buries.store honest);
         writes = writes-then (freeing-more home (with_file (store_of old.image home) n None) (store_of now.image home) old now buries.writes.went.honest frees-now) buries.writes gives.writes;
       }

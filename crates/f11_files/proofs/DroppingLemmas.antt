@@ -24,7 +24,9 @@ use Rattle.f11_store.specs.Store.{Store}
 use Rattle.f11_store.specs.declared.refusals.Refusal.{Refusal}
 use Rattle.f11_vfy.specs.Contents.{pointer_count}
 use Rattle.f11_vfy.specs.Sound.{HasSoundVolume}
+use Rattle.f11_vfy.specs.Volume.{Volume, volume_of}
 use Rattle.f11_writes.specs.OtherSlots.{KeepsOtherSlots}
+use Rattle.f11_files.specs.Allocation.{FreesBlocks}
 use Rattle.f11_files.specs.Answers.{Writes, refusal_for}
 use Rattle.f11_files.specs.Drops.{FreesMore, Freeing, BreaksOff, MayDrop, DropsHeader, DropsBehind, HangsBehind, headers_behind, without_header, without_headers, with_more_free, drop_cost, tail_cost}
 use Rattle.f11_files.specs.FileLaws.{pointers_in}
@@ -37,6 +39,7 @@ use Rattle.f11_files.proofs.DropLemmas.{drop-store}
 use Rattle.f11_files.proofs.FirstLemmas.{table-of}
 use Rattle.f11_files.proofs.FreeingLemmas.{frees-none, frees-then, frees-blocks, freeing-more, writes-then, writes-within, writes-none, breaks-then, breaks-within, stays-for}
 use Rattle.f11_files.proofs.InstanceLemmas.{with_file-same}
+use Rattle.f11_files.proofs.LossLemmas.{LosesAlike, loses-same, loses-then, loses-all, loses-first}
 use Rattle.f11_files.proofs.NamedLemmas.{file-stored}
 use Rattle.f11_files.proofs.OpenLemmas.{looked-for}
 use Rattle.f11_files.proofs.StoreLemmas.{file-at}
@@ -54,6 +57,10 @@ pub record Dropping (s c : Structure) (from block : List ℕ) (old now : Disk) :
       spent + tail_cost (table_of now.image (home_of s)) (headers_behind (table_of now.image (home_of s)) block)
       ≤ tail_cost (table_of old.image (home_of s)) (headers_behind (table_of old.image (home_of s)) from)
   pub frees : IsTrue old.honest → FreesMore (store_on s old) (store_of now.image (home_of s))
+  pub loses :
+      IsTrue old.honest →
+      LosesAlike (headers_behind (table_of old.image (home_of s)) from) (headers_behind (table_of now.image (home_of s)) block)
+      (volume_of old.image (home_of s)) (volume_of now.image (home_of s))
   pub store :
       IsTrue old.honest →
       without_headers (store_of now.image (home_of s)) (table_of now.image (home_of s)) (headers_behind (table_of now.image (home_of s)) block)
@@ -70,6 +77,7 @@ dropping-none s from old for holds hangs = record {
   writes = writes-none _ 0 old;
   few = λ _. omega arith;
   frees = λ _. frees-none (store_on s old);
+  loses = λ _. loses-same (headers_behind (table_of old.image (home_of s)) from) (volume_of old.image (home_of s));
   store = λ _. refl;
   hangs = hangs;
 }
@@ -110,6 +118,11 @@ module _ (s c : Structure) (from block : List ℕ) (old now : Disk) (d : Droppin
         let none : headers_behind u block ≡ [] = behind-none u block last.no_link in
         let sum : (store_of now.image h).free ≡ (store_of now.image h).free + 0 = omega arith in
         ap (λ (free : ℕ). record (store_of now.image h) { free = free }) sum ∙ ap (without_headers (store_of now.image h) u) (sym none) ∙ d.store honest;
+    loses = λ honest.
+        let hs : List ℕ = headers_behind (table_of old.image h) from in
+        let was : Volume = volume_of old.image h in
+        let is : Volume = volume_of now.image h in
+        loses-all hs was is (subst (λ (ns : List ℕ). LosesAlike hs ns was is) (behind-none u block last.no_link) (d.loses honest));
     writes = writes-within (λ honest. let few = d.few honest in omega (arith, few)) d.writes;
   })
 
@@ -201,13 +214,16 @@ module _ (s c : Structure) (from block : List ℕ) (old now : Disk) (d : Droppin
       read-honest : IsTrue old.honest → IsTrue read.honest
       read-honest honest = reads.looked.honest ∙ now-honest honest
 
+      unused : IsTrue old.honest → v.in_use n ≡ false
+      unused honest = ap (λ (k : HomeFields). (table_of new.image k).in_use n) (sym d.home) ∙ drops.unused (read-honest honest)
+
       others : IsTrue old.honest → KeepsOtherSlots n u v
       others honest =
           subst (λ (i : Image). KeepsOtherSlots n (table_of i h) v) reads.looked.image
           (subst (λ (k : HomeFields). KeepsOtherSlots n (table_of read.image k) (table_of new.image k)) d.home (drops.others (read-honest honest)))
 
       gone : IsTrue old.honest → ¬ IsLive v n
-      gone honest is = let used = sym (ap (λ (k : HomeFields). (table_of new.image k).in_use n) (sym d.home) ∙ drops.unused (read-honest honest)) ∙ is.in_use in cc
+      gone honest is = let used = sym (unused honest) ∙ is.in_use in cc
 
       later : IsTrue old.honest → (m : ℕ) → IsLive u m → segment_number (u.header n) < segment_number (u.header m) → m ≢ n
       later honest m is more same = let there = ap (λ (k : ℕ). segment_number (u.header k)) same in omega (arith, there, more)
@@ -225,18 +241,36 @@ module _ (s c : Structure) (from block : List ℕ) (old now : Disk) (d : Droppin
           subst (λ (k : HomeFields). store_of new.image k ≡ without_header (store_of read.image k) n (length (blocks_named following))) d.home (drops.store (read-honest honest))
           ∙ ap (λ (i : Image). without_header (store_of i h) n (length (blocks_named following))) reads.looked.image
 
+      blocks-stay : IsTrue old.honest → blocks_by v rest ≡ blocks_by u rest
+      blocks-stay honest = hangs-blocks u v n (segment_number (u.header n)) (others honest) (later honest) (u.header n) rest (omega arith) (all-hang honest).2
+
+      blocks-freed : IsTrue old.honest → FreesBlocks (blocks_named (u.header n)) (volume_of now.image h) (volume_of new.image h)
+      blocks-freed honest =
+          subst (λ (b : List ℕ). FreesBlocks (blocks_named b) (volume_of now.image h) (volume_of new.image h)) (header-is honest)
+          (subst (λ (i : Image). FreesBlocks (blocks_named following) (volume_of i h) (volume_of new.image h)) reads.looked.image
+          (subst (λ (k : HomeFields). FreesBlocks (blocks_named following) (volume_of read.image k) (volume_of new.image k)) d.home (drops.frees (read-honest honest))))
+
+      loses-one : IsTrue old.honest → LosesAlike (n ∷ rest) rest (volume_of now.image h) (volume_of new.image h)
+      unfolding volume_of
+      loses-one honest = loses-first n rest (volume_of now.image h) (volume_of new.image h) (others honest) (unused honest) (blocks-freed honest) (blocks-stay honest)
+
+      loses-now : IsTrue old.honest → LosesAlike (headers_behind (table_of old.image h) from) (headers_behind v following) (volume_of old.image h) (volume_of new.image h)
+      loses-now honest =
+          let hs : List ℕ = headers_behind (table_of old.image h) from in
+          loses-then hs (n ∷ rest) (headers_behind v following) (volume_of old.image h) (volume_of now.image h) (volume_of new.image h)
+          (subst (λ (ns : List ℕ). LosesAlike hs ns (volume_of old.image h) (volume_of now.image h)) (list honest) (d.loses honest))
+          (subst (λ (ns : List ℕ). LosesAlike (n ∷ rest) ns (volume_of now.image h) (volume_of new.image h)) (sym (rest-is honest)) (loses-one honest))
+
       store-now : IsTrue old.honest → without_headers (store_of new.image h) v (headers_behind v following) ≡ without_headers (store_of now.image h) u (headers_behind u block)
       store-now honest =
           let ns : List ℕ = rest in
           let s1 : Store = store_of now.image h in
           let named : ℕ = length (blocks_named following) in
           let more : ℕ = length (blocks_by u ns) in
-          let blocks : blocks_by v ns ≡ blocks_by u ns =
-          hangs-blocks u v n (segment_number (u.header n)) (others honest) (later honest) (u.header n) ns (omega arith) (all-hang honest).2 in
           let counted : named + more ≡ length (blocks_by u (n ∷ ns)) =
           ap (λ (b : List ℕ). length (blocks_named b) + more) (header-is honest) ∙ sym (length-append (blocks_named (u.header n)) (blocks_by u ns)) in
           ap (without_headers (store_of new.image h) v) (rest-is honest)
-          ∙ ap (λ (bs : List ℕ). with_more_free (without_slots (store_of new.image h) ns) (length bs)) blocks
+          ∙ ap (λ (bs : List ℕ). with_more_free (without_slots (store_of new.image h) ns) (length bs)) (blocks-stay honest)
           ∙ ap (λ (x : Store). with_more_free (without_slots x ns) more) (store-was honest)
           ∙ drop-store s1 n named more ns
           ∙ ap (λ (x : Store). with_more_free (without_slots x (n ∷ ns)) (named + more)) (no-file honest)
@@ -269,6 +303,7 @@ module _ (s c : Structure) (from block : List ℕ) (old now : Disk) (d : Droppin
             );
         few = cost-now;
         frees = frees-now;
+        loses = loses-now;
         store = λ honest. store-now honest ∙ d.store honest;
         hangs = λ honest. subst (HangsBehind v following) (sym (rest-is honest)) (hangs-now honest);
       }

@@ -49,6 +49,8 @@ use Rattle.f11_files.specs.Tail.{HoldsLast, MayBeGiven}
 use Rattle.f11_files.specs.Zeros.{HoldsZeros}
 use Rattle.f11_files.specs.declared.structure.Structure.{Structure}
 use Rattle.f11_files.specs.declared.tail.Tail.{Tail}
+use Rattle.f11_files.proofs.AllocationLemmas.{adds-loose}
+use Rattle.f11_files.proofs.ZeroSlotLemmas.{zero-entered}
 use Rattle.f11_files.proofs.AlterLemmas.{free-slot, keeps-header}
 use Rattle.f11_files.proofs.AnswerLemmas.{reads-looked}
 use Rattle.f11_files.proofs.CreateLemmas.{lies-bit}
@@ -330,6 +332,8 @@ module _ (s : Structure) (tail : Tail) (lbn count : ℕ) (old : Disk) (for : IsF
               zeros = λ honest. subst (λ (i : Image). HoldsZeros i lbn count) (sym image-two) (zeros-second (index_kept after) honest bit.bit);
               bitmap = refl;
               free = λ honest. ap (λ (v : Volume). v.free) (made honest).bit.slot.volume ∙ ap (λ (v : Volume). v.free) (made honest).header.slot.volume;
+              adds = λ honest. adds-loose tail.file.number tail.number n block (index_kept after) home old.image first done.image (last.is_last honest) (slot honest).unused (made honest);
+              slots = λ honest. zero-entered n block (index_kept after) home old.image first done.image (made honest);
               slot = λ honest. sym (least-stored old.image home n (slot honest).least);
               store = λ honest. ap (λ (i : Image). store_of i home) image-two ∙ store-second (index_kept after) honest bit.bit;
               writes = writes;

@@ -15,8 +15,10 @@ use Rattle.f11_store.specs.declared.callers.Uic.{Uic}
 use Rattle.f11_store.specs.declared.files.FileId.{FileId}
 use Rattle.f11_store.specs.declared.refusals.Refusal.{Refusal}
 use Rattle.f11_vfy.specs.Sound.{HasSoundVolume}
+use Rattle.f11_vfy.specs.Volume.{volume_of}
+use Rattle.f11_files.specs.Allocation.{GainsBlocks}
 use Rattle.f11_files.specs.Answers.{Meanwhile, Writes, Breaks}
-use Rattle.f11_files.specs.Extend.{AddsRun, ExtendingBy}
+use Rattle.f11_files.specs.Extend.{AddsRun, ExtendsBy}
 use Rattle.f11_files.specs.Growing.{GrowingBy, Grew, IsGrowing}
 use Rattle.f11_files.specs.Pieces.{file_numbered, MayExtend, TakesSome, ExtendsSome}
 use Rattle.f11_files.specs.StoreOf.{store_of}
@@ -25,6 +27,7 @@ use Rattle.f11_files.specs.Tail.{HoldsLast, whose}
 use Rattle.f11_files.specs.Take.{NoneBelow}
 use Rattle.f11_files.specs.declared.structure.Structure.{Structure}
 use Rattle.f11_files.specs.declared.tail.Tail.{Tail}
+use Rattle.f11_files.proofs.AllocationLemmas.{gains-nothing, gains-add}
 use Rattle.f11_files.proofs.FreeingLemmas.{breaks-behind, breaks-within, stays-then}
 use Rattle.f11_files.proofs.GrowingLemmas.{grew-within}
 use Rattle.f11_files.proofs.PieceLemmas.{none-extended, extensions-add, others-may}
@@ -44,6 +47,7 @@ pub record Extending (s t : Structure) (tail later : Tail) (n from left : ℕ) (
   pub bitmap : bitmap_in t ≡ bitmap_in s
   pub within : from ≤ (bitmap_in s).size
   pub none_below : IsTrue old.honest → NoneBelow now.image (bitmap_in s) from
+  pub gains : IsTrue old.honest → GainsBlocks tail.file.number done (volume_of old.image (home_of s)) (volume_of now.image (home_of s))
   pub grew : Grew (Meanwhile (tail_work s tail n old) (home_of s) old) (home_of s) (store_on s old) tail.file.number done (from / 4096 + 5 * done) old now
 
 module _ (s : Structure) (tail : Tail) (n : ℕ) (old : Disk) (for : IsFor s old) (last : HoldsLast s tail old) (may : IsTrue old.honest → MayExtend (store_on s old) tail.file.number n) where
@@ -69,6 +73,7 @@ module _ (s : Structure) (tail : Tail) (n : ℕ) (old : Disk) (for : IsFor s old
     bitmap = refl;
     within = omega arith;
     none_below = λ honest j low. absurd (omega (arith, low));
+    gains = λ honest. gains-nothing k (volume_of old.image home);
     grew = record {
       extends = λ honest. none-extended st k n (may honest);
       transfers = 0;
@@ -178,6 +183,10 @@ module _ (s : Structure) (tail : Tail) (n : ℕ) (old : Disk) (for : IsFor s old
         bitmap = adds.bitmap ∙ so_far.bitmap;
         within = let same = ap (λ (b : Bitmap). b.size) so_far.bitmap in let inside = adds.within in omega (arith, same, inside);
         none_below = λ honest. subst (λ (b : Bitmap). NoneBelow new.image b end) so_far.bitmap (adds.none_below (now-honest honest));
+        gains = λ honest.
+            gains-add k so_far.done count (volume_of old.image home) (volume_of now.image home) (volume_of new.image home) (so_far.gains honest)
+            (subst (λ (h : HomeFields). GainsBlocks k count (volume_of now.image h) (volume_of new.image h)) so_far.stays.home
+            (subst (λ (j : ℕ). GainsBlocks j count (volume_of now.image (home_of t)) (volume_of new.image (home_of t))) number (adds.gains (now-honest honest))));
         grew = record {
           extends = λ honest. (both honest).0;
           transfers = so_far.grew.transfers + adds.grew.transfers;
@@ -191,8 +200,12 @@ module _ (s : Structure) (tail : Tail) (n : ℕ) (old : Disk) (for : IsFor s old
         };
       }
 
-    pub extending-done : left ≤ 0 → ExtendingBy s k n old now
+    pub extending-done : left ≤ 0 → ExtendsBy s k n old now
     extending-done none =
         let all : so_far.done ≡ n = let sum = so_far.sum in omega (arith, sum, none) in
-        subst (λ (m : ℕ). Grew P home st k m ((bitmap_in s).size / 4096 + 5 * m) old now) all
-        (grew-within (λ _. let within = so_far.within in omega (arith, within)) so_far.grew)
+        record {
+          gains = λ honest. subst (λ (m : ℕ). GainsBlocks k m (volume_of old.image home) (volume_of now.image home)) all (so_far.gains honest);
+          grew =
+              subst (λ (m : ℕ). Grew P home st k m ((bitmap_in s).size / 4096 + 5 * m) old now) all
+              (grew-within (λ _. let within = so_far.within in omega (arith, within)) so_far.grew);
+        }

@@ -16,15 +16,18 @@ use Rattle.f11_store.specs.declared.files.FileId.{FileId}
 use Rattle.f11_store.specs.declared.refusals.Refusal.TheVariants.{NoSuchFile, DeviceFault}
 use Rattle.f11_store.specs.declared.refusals.Refusal.{Refusal}
 use Rattle.f11_store.proofs.LagLaws.{lags_itself}
+use Rattle.f11_vfy.specs.Volume.{volume_of}
+use Rattle.f11_files.specs.Allocation.{GainsBlocks}
 use Rattle.f11_files.specs.Answers.{Breaks, Meanwhile, Writes}
 use Rattle.f11_files.specs.Clear.{Clearing, ClearsMark}
-use Rattle.f11_files.specs.Extend.{ExtendingBy, ExtendsFile, FailsToExtend, IsLengthAfter}
+use Rattle.f11_files.specs.Extend.{ExtendsBy, ExtendsFile, FailsToExtend, IsLengthAfter}
 use Rattle.f11_files.specs.Operations.{extend_causes}
 use Rattle.f11_files.specs.Pieces.{MayExtend, file_numbered}
 use Rattle.f11_files.specs.Room.{FindsRoom}
 use Rattle.f11_files.specs.StoreOf.{store_of}
 use Rattle.f11_files.specs.Structure.{home_of, store_on, IsFor, StaysFor}
 use Rattle.f11_files.specs.declared.structure.Structure.{Structure}
+use Rattle.f11_files.proofs.AllocationLemmas.{gains-add}
 use Rattle.f11_files.proofs.AnswerLemmas.{right-fault}
 use Rattle.f11_files.proofs.ClearLemmas.{stored}
 use Rattle.f11_files.proofs.ClearedLemmas.{enough, fewer-needed, grave-right, covered, image-read, honest-read, reads-found, honest-cleared}
@@ -156,12 +159,17 @@ module _ (s : Structure) (f : FileId) (n : ℕ) (end : FileEnd) (was last : List
       unchanged = λ light. let no : true ≡ false = sym breaks.grave ∙ light in absurd cc;
     }
 
-    pub extends-file : (new : Disk) → ExtendingBy s k n cleared new → ExtendsFile home f n old new
-    extends-file new grew = record {
+    pub extends-file : (new : Disk) → ExtendsBy s k n cleared new → ExtendsFile home f n old new
+    extends-file new extends = let grew = extends.grew in record {
       no_cause = finds.no_cause;
       makes = λ honest.
           (cleared-extends st (store_of new.image home) k n (is-numbered honest)
           (subst (λ (x : Store). Extends x k n (store_of new.image home)) (store-cleared honest) (grew.extends (still-honest ∙ honest)))).0;
+      allots = λ honest.
+          let none : 0 + n ≡ n = omega arith in
+          let cleared_first = subst (λ (i : Image). GainsBlocks k 0 (volume_of i home) (volume_of cleared.image home)) (image-read s f n end was last old read for finds) (clears.gains (honest-then ∙ honest)) in
+          subst (λ (m : ℕ). GainsBlocks k m (volume_of old.image home) (volume_of new.image home)) none
+          (gains-add k 0 n (volume_of old.image home) (volume_of cleared.image home) (volume_of new.image home) cleared_first (extends.gains (still-honest ∙ honest)));
       writes = record {
         transfers = writes-cleared.transfers + grew.transfers;
         went = went_more (Meanwhile work home old) writes-cleared.went (went_weaker _ (Meanwhile work home old) grown-moment grew.went);

@@ -26,13 +26,15 @@ use Rattle.f11_store.specs.Lags.{with_no_mark}
 use Rattle.f11_store.specs.declared.files.Change.TheVariants as change
 use Rattle.f11_vfy.specs.Contents.{block_or_zeros, file_of, headers_reached, pointer_count, room_left}
 use Rattle.f11_vfy.specs.Sound.{HasSoundVolume}
-use Rattle.f11_vfy.specs.Volume.{volume_of}
+use Rattle.f11_vfy.specs.Volume.{Volume, volume_of}
 use Rattle.f11_vfy.proofs.FileLemmas.{image-files, reached-are, file-blocks-are}
 use Rattle.f11_writes.specs.Kept.{file_in, said_of, WritesHeader}
 use Rattle.f11_writes.specs.Volumes.{MayName, MayBecome, links_as_before}
 use Rattle.f11_writes.proofs.HeaderLemmas.{rewrite-keeps, file-rewrite-keeps}
 use Rattle.f11_writes.proofs.NameLemmas.{own-names}
+use Rattle.f11_files.specs.Allocation.{GainsBlocks, KeepsBlocks}
 use Rattle.f11_files.specs.FieldLaws.{said_by, SaysBut, WrittenSays, AttributesAreReplaced, IdentIsReplaced, ProtectionIsReplaced, DeleteMarkIsSet, ContiguousMarkIsCleared, ChangesFile}
+use Rattle.f11_files.proofs.AllocationLemmas.{gains-none, keeps-slot, named-live}
 use Rattle.f11_files.proofs.FileLemmas.{sum-same}
 use Rattle.f11_files.proofs.InstanceLemmas.{first-alone, seen-stored, file-stored}
 
@@ -107,6 +109,19 @@ module _ (image : Image) (home : HomeFields) (f : ℕ) (block : List ℕ) (chang
     same : (headers_of u f ≡ headers_of t f) × (file_blocks u f ≡ file_blocks t f)
     unfolding link_of blocks_named
     same = file-alike t u f (λ m in_list. ap (λ (a : List ℕ). (link a).number) (listed m in_list)) (λ m in_list. ap blocks_of (listed m in_list))
+
+    -- and names the blocks that it named
+    pub field-keeps : KeepsBlocks (volume_of image home) (volume_of new home)
+    unfolding volume_of
+    field-keeps = record {
+      names = keeps-slot f image new home wrote.slot
+          (named-live u f file-now.live ∙ ap blocks_named here ∙ blocks-same change (t.header f) block says ∙ sym (named-live t f file.live));
+      free = ap (λ (v : Volume). v.free) wrote.slot.volume;
+    }
+
+    pub field-gains : ((m : ℕ) → IsHeaderOf t f m → IsHeaderOf u f m) → GainsBlocks f 0 (volume_of image home) (volume_of new home)
+    unfolding volume_of
+    field-gains headers = gains-none f (volume_of image home) (volume_of new home) headers same.1 field-keeps (ap (λ (v : Volume). v.size) wrote.slot.volume)
 
     headers-were : headers_reached t f ≡ headers_of t f
     headers-were = reached-are 256 t f was-whole (first file)

@@ -195,7 +195,7 @@ module _ (old new : Image) (home : HomeFields) (f n : ℕ) (block : List ℕ) (m
   whole-now : IsWholeFile now f
   whole-now = last-whole now f n (record { of = of-now old new home f n block wrote may.stands; no_link = link-now })
 
-  longer : HasMore f (range_with_len lbn count) was now
+  pub longer : HasMore f (range_with_len lbn count) was now
   longer =
       has-more was now f n may.stands.of may.stands.few (stay-before was now f n wrote.slot.others) may.last (range_with_len lbn count)
       link-now (ap blocks_named wrote.header ∙ may.blocks)
@@ -275,7 +275,7 @@ module _ (old new : Image) (home : HomeFields) (f n m : ℕ) (block : List ℕ) 
   is-whole : IsWholeFile w f
   is-whole = last-whole w f m last-linked
 
-  linked : HasHeaderMore f m v w
+  pub linked : HasHeaderMore f m v w
   linked =
       has-header v w f n may.stands.of may.stands.few (stay-before v w f n wrote.slot.others) may.last m may.early (live-some m-live)
       (ap (λ (b : List ℕ). (link_of b).number) wrote.header ∙ may.number) (ap blocks_named wrote.header ∙ may.blocks) m-last

@@ -18,12 +18,14 @@ use Rattle.f11_vfy.specs.Sound.{HasSoundVolume}
 use Rattle.f11_vfy.specs.Space.{storage_bitmap}
 use Rattle.f11_vfy.specs.Volume.{Volume, volume_of}
 use Rattle.f11_writes.specs.NameLaws.{AreSpare}
+use Rattle.f11_files.specs.Allocation.{FreesBlocks}
 use Rattle.f11_files.specs.Answers.{Writes}
 use Rattle.f11_files.specs.Drops.{FreesMore, Freeing, BreaksOff, GivesRun, GivesBlocks, AreAllSpare, with_more_free}
 use Rattle.f11_files.specs.StoreOf.{store_of}
 use Rattle.f11_files.specs.Structure.{home_of, store_on, IsFor, StaysFor}
 use Rattle.f11_files.specs.declared.structure.Structure.{Structure}
 use Rattle.f11_files.proofs.FreeingLemmas.{frees-none, frees-then, frees-blocks, freeing-more, writes-then, writes-within, writes-none, breaks-then, breaks-within, stays-for, run-keeps, run-store}
+use Rattle.f11_files.proofs.LossLemmas.{FreeAlike, frees-run, frees-nothing, first-freed, all-freed}
 
 -- what is left of a header's blocks: those of this pointer, and those of the ones behind it
 pub left-split : (runs : List (ℕ × ℕ)) (i left kept : ℕ) (run : ℕ × ℕ) → slice_get runs i ≡ Some run → kept ≡ min left run.1
@@ -83,19 +85,21 @@ module _ (lbn count : ℕ) (rest : List ℕ) where
         apart = λ i j k one other. let same = spare.apart _ _ k (back-at i k one) (back-at j k other) in omega (arith, same);
       })
 
--- So many blocks more are free, and these are spare.
-record Gave (home : HomeFields) (count : ℕ) (rest : List ℕ) (old new : Image) : Type 0 where
+-- A run of blocks more is free, and these are spare.
+record Gave (home : HomeFields) (lbn count : ℕ) (rest : List ℕ) (old new : Image) : Type 0 where
   table : table_of new home ≡ table_of old home
   store : store_of new home ≡ with_more_free (store_of old home) count
+  frees : FreesBlocks (range_with_len lbn count) (volume_of old home) (volume_of new home)
   spare : AreAllSpare (volume_of new home) rest
 
 gave : (home : HomeFields) (lbn count : ℕ) (rest : List ℕ) (old new : Disk) → HasSoundVolume old.image home → AreAllSpare (volume_of old.image home) (range_with_len lbn count ++ rest)
-    → (0 < count) ⊎ (count ≤ 0) → IsTrue old.honest → GivesRun home lbn count old new → Gave home count rest old.image new.image
+    → (0 < count) ⊎ (count ≤ 0) → IsTrue old.honest → GivesRun home lbn count old new → Gave home lbn count rest old.image new.image
 gave home lbn count rest old new sound spare (inl some) honest gives =
     let one = front-spare lbn count rest (volume_of old.image home) spare some in
     record {
       table = (run-keeps old.image new.image home lbn count sound one (gives.marks honest)).index_file.table;
       store = run-store old.image new.image home lbn count sound one (gives.marks honest);
+      frees = frees-run old.image new.image home lbn count (run-keeps old.image new.image home lbn count sound one (gives.marks honest)) (gives.marks honest);
       spare = rest-spare lbn count rest old.image new.image home sound spare some (gives.marks honest);
     }
 gave home lbn count rest old new sound spare (inr none) honest gives =
@@ -103,9 +107,12 @@ gave home lbn count rest old new sound spare (inr none) honest gives =
     let here : List ℕ = range_with_len lbn count ++ rest in
     let same : here ≡ rest = ap (λ (n : ℕ). range_with_len lbn n ++ rest) zero_is in
     let sum : (store_of old.image home).free ≡ (store_of old.image home).free + count = omega (arith, zero_is) in
-    subst (λ (d : Disk). Gave home count rest old.image d.image) (sym (gives.none zero_is)) (record {
+    subst (λ (d : Disk). Gave home lbn count rest old.image d.image) (sym (gives.none zero_is)) (record {
       table = refl;
       store = ap (λ (free : ℕ). record (store_of old.image home) { free = free }) sum;
+      frees =
+          let v : Volume = volume_of old.image home in
+          subst (λ (n : ℕ). FreesBlocks (range_with_len lbn n) v v) (sym zero_is) (frees-nothing v);
       spare = subst (AreAllSpare (volume_of old.image home)) same spare;
     })
 
@@ -117,6 +124,7 @@ pub record Giving (s t : Structure) (all rest : List ℕ) (pointers : ℕ) (old 
   pub table : IsTrue old.honest → table_of now.image (home_of s) ≡ table_of old.image (home_of s)
   pub free : IsTrue old.honest → with_more_free (store_of now.image (home_of s)) (length rest) ≡ with_more_free (store_on s old) (length all)
   pub frees : IsTrue old.honest → FreesMore (store_on s old) (store_of now.image (home_of s))
+  pub bits : IsTrue old.honest → FreeAlike all rest (volume_of old.image (home_of s)) (volume_of now.image (home_of s))
   pub spare : IsTrue old.honest → AreAllSpare (volume_of now.image (home_of s)) rest
 
 pub giving-none : (s : Structure) (lbns : List ℕ) (old : Disk) → IsFor s old → (IsTrue old.honest → AreAllSpare (volume_of old.image (home_of s)) lbns) → Giving s s lbns lbns 0 old old
@@ -127,6 +135,7 @@ giving-none s lbns old for spare = record {
   table = λ _. refl;
   free = λ _. refl;
   frees = λ _. frees-none (store_on s old);
+  bits = λ _ k. refl;
   spare = spare;
 }
 
@@ -168,13 +177,15 @@ module _ (s t : Structure) (all : List ℕ) (lbn count : ℕ) (rest : List ℕ) 
           frees = λ honest.
               frees-then (store_on s old) (store_of now.image (home_of s)) (store_of new.image (home_of s)) (giving.frees honest)
               (subst (FreesMore (store_of now.image (home_of s))) (sym (done honest).store) (frees-blocks (store_of now.image (home_of s)) count));
+          bits = λ honest k.
+              first-freed (range_with_len lbn count) rest (volume_of now.image (home_of s)) (volume_of new.image (home_of s)) (done honest).frees k ∙ giving.bits honest k;
           spare = λ honest. (done honest).spare;
         }
       where
         counted : length (range_with_len lbn count ++ rest) ≡ count + length rest
         counted = length-append (range_with_len lbn count) rest ∙ ap (λ (n : ℕ). n + length rest) (length-range_with_len lbn count)
 
-        done : IsTrue old.honest → Gave (home_of s) count rest now.image new.image
+        done : IsTrue old.honest → Gave (home_of s) lbn count rest now.image new.image
         done honest =
             let now_honest : IsTrue now.honest = giving.writes.went.honest ∙ honest in
             gave (home_of s) lbn count rest now new (subst (HasSoundVolume now.image) giving.home (giving.is_for.sound now_honest)) (giving.spare honest) (cases_lt 0 count) now_honest
@@ -189,12 +200,13 @@ giving-breaks {now = now} {new = new} {r = r} giving most more breaks =
 
 -- all are
 module _ (s t : Structure) (all : List ℕ) (pointers : ℕ) (old now : Disk) (giving : Giving s t all [] pointers old now) where
-  pub giving-done : (most : ℕ) → pointers ≤ most → GivesBlocks (home_of s) (length all) most old now
+  pub giving-done : (most : ℕ) → pointers ≤ most → GivesBlocks (home_of s) all most old now
   giving-done most fewer = record {
     table = giving.table;
     store = λ honest.
         let none : (store_of now.image (home_of s)).free ≡ (store_of now.image (home_of s)).free + 0 = omega arith in
         ap (λ (free : ℕ). record (store_of now.image (home_of s)) { free = free }) none ∙ giving.free honest;
+    frees = λ honest. all-freed all (volume_of old.image (home_of s)) (volume_of now.image (home_of s)) (giving.bits honest);
     writes = writes-within (λ _. omega (arith, fewer)) giving.writes;
   }
 

@@ -1,5 +1,5 @@
 -- A file that is deleted.
-use Rattle.std.proofs.Common.{◌≡◌, ◌≢◌, ◌+◌, ◌-◌, ◌*◌, ◌<◌, ◌≤◌, ℕ, Bool, true, false, cond, IsTrue, List, ◌∷◌, Option, Some, None, unwrap_or, length, refl, sym, ap, subst, ◌∙◌, arith}
+use Rattle.std.proofs.Common.{◌≡◌, ◌≢◌, ◌+◌, ◌-◌, ◌*◌, ◌<◌, ◌≤◌, ℕ, Bool, true, false, cond, IsTrue, List, [], ◌∷◌, Option, Some, None, unwrap_or, length, refl, sym, ap, subst, ◌∙◌, arith}
 use Rattle.std.specs.List.{sum_by}
 use Rattle.std.proofs.lemmas.Bool.Decides.{nat_tests}
 use Rattle.std.proofs.lemmas.List.{length-append, length-map}
@@ -26,10 +26,12 @@ use Rattle.f11_store.specs.declared.refusals.Refusal.{Refusal}
 use Rattle.f11_store.proofs.Growth.{alike}
 use Rattle.f11_store.proofs.LagLaws.{frees_lags}
 use Rattle.f11_vfy.specs.Contents.{pointer_count, file_of}
+use Rattle.f11_vfy.specs.Volume.{Volume, volume_of}
 use Rattle.f11_vfy.proofs.FileLemmas.{image-files, reached-are, file-blocks-are}
 use Rattle.f11_writes.specs.Kept.{file_in}
 use Rattle.f11_writes.specs.OtherSlots.{KeepsOtherSlots}
 use Rattle.f11_writes.proofs.OtherSlotLemmas.{turned, header-was}
+use Rattle.f11_files.specs.Allocation.{FreesBlocks, LosesHeaders}
 use Rattle.f11_files.specs.Answers.{IsRight, Writes, FailsToWrite, Meanwhile, is_grave, is_cause}
 use Rattle.f11_files.specs.Deletes.{Deletes, FailsToDelete}
 use Rattle.f11_files.specs.Drops.{FreesMore, Freeing, BreaksOff, DropsHeader, DropsBehind, HangsBehind, headers_behind, drop_cost, tail_cost, with_more_free, without_header, without_headers}
@@ -44,6 +46,7 @@ use Rattle.f11_files.proofs.BuryLemmas.{frees-slot}
 use Rattle.f11_files.proofs.DropLemmas.{drop-store}
 use Rattle.f11_files.proofs.FreeingLemmas.{frees-none, frees-then, frees-blocks, freeing-more, writes-then, writes-within, breaks-then, breaks-within}
 use Rattle.f11_files.proofs.LocateLemmas.{whole, held-are}
+use Rattle.f11_files.proofs.LossLemmas.{LosesAlike, loses-then, loses-all, lost-all, loses-first}
 use Rattle.f11_files.proofs.NamedLemmas.{block-is, no-file-cause, held-named, seen-same, file-stored}
 use Rattle.f11_files.proofs.StoreLemmas.{file-at, seen-own}
 use Rattle.f11_files.proofs.TailLemmas.{hangs-from, hangs-are, hangs-blocks, hangs-pointers}
@@ -199,6 +202,25 @@ module _ (s : Structure) (f : FileId) (block : List ℕ) (old read : Disk) (for 
       pointers-behind : sum_by (pointer_count u) hs ≡ sum_by (pointer_count was) hs
       pointers-behind = sym (hangs-pointers u was n 0 (turned was u n others) away (was.header n) hs (omega arith) hangs)
 
+      -- the first header's own blocks are free
+      blocks-freed : FreesBlocks (blocks_named (was.header n)) (volume_of old.image h) (volume_of now.image h)
+      blocks-freed =
+          subst (λ (b : List ℕ). FreesBlocks (blocks_named b) (volume_of old.image h) (volume_of now.image h)) header-is
+          (subst (λ (i : Image). FreesBlocks (blocks_named block) (volume_of i h) (volume_of now.image h)) finds.looked.image (drops.frees read-honest))
+
+      loses-one : LosesAlike (n ∷ hs) hs (volume_of old.image h) (volume_of now.image h)
+      unfolding volume_of
+      loses-one = loses-first n hs (volume_of old.image h) (volume_of now.image h) others unused blocks-freed blocks-behind
+
+      -- and then so are those of the others
+      loses-file : (new : Image) → LosesHeaders (headers_behind u block) (volume_of now.image h) (volume_of new h) → LosesHeaders (headers_of was n) (volume_of old.image h) (volume_of new h)
+      loses-file new loses =
+          let v : Volume = volume_of old.image h in
+          let w : Volume = volume_of now.image h in
+          let x : Volume = volume_of new h in
+          subst (λ (ns : List ℕ). LosesHeaders ns v x) (sym (headers-are s f block old for finds.holds honest))
+          (loses-all (n ∷ hs) v x (loses-then (n ∷ hs) hs [] v w x loses-one (lost-all hs w x (subst (λ (ns : List ℕ). LosesHeaders ns w x) behind-is loses))))
+
       store-now : store_of now.image h ≡ without_header (store_on s old) n (length (blocks_named block))
       store-now = drops.store read-honest ∙ ap (λ (i : Image). without_header (store_of i h) n (length (blocks_named block))) finds.looked.image
 
@@ -262,6 +284,7 @@ module _ (s : Structure) (f : FileId) (block : List ℕ) (old read : Disk) (for 
               ∙ ap (λ (bs : List ℕ). with_more_free (without_slots (store_of now.image h) (hs honest)) (length bs)) (blocks-behind honest)
               ∙ ap (λ (x : Store). with_more_free (without_slots x (hs honest)) (length (blocks_by was (hs honest)))) (store-now honest)
               ∙ gone-store honest;
+          allots = λ honest. loses-file honest new.image (here.loses (drops.writes.went.honest ∙ finds.looked.honest ∙ honest));
           writes = record {
             transfers = wrote.transfers;
             went = went_weaker (Freeing h (with_file (store_on s old) n None) old) (Meanwhile (go_work n) h old) (gone-moment h n old) wrote.went;

@@ -16,8 +16,10 @@ use Rattle.f11_store.specs.declared.callers.Uic.{Uic}
 use Rattle.f11_store.specs.declared.files.FileId.{FileId}
 use Rattle.f11_store.specs.declared.refusals.Refusal.{Refusal}
 use Rattle.f11_vfy.specs.Sound.{HasSoundVolume}
+use Rattle.f11_vfy.specs.Volume.{volume_of}
+use Rattle.f11_files.specs.Allocation.{GainsSlots}
 use Rattle.f11_files.specs.Answers.{Meanwhile, Writes, Breaks}
-use Rattle.f11_files.specs.GrowIndex.{AddsSlots, GrewIndex, GrowingIndex, GrowingIndexBy, GrowsSome}
+use Rattle.f11_files.specs.GrowIndex.{AddsSlots, GrewIndex, GrowingIndexBy, GrowsIndexBy, GrowsSome}
 use Rattle.f11_files.specs.Growing.{IsGrowing}
 use Rattle.f11_files.specs.IndexPieces.{MayGrowIndex}
 use Rattle.f11_files.specs.Pieces.{TakesSome}
@@ -27,6 +29,7 @@ use Rattle.f11_files.specs.Tail.{HoldsLast, whose}
 use Rattle.f11_files.specs.Take.{NoneBelow}
 use Rattle.f11_files.specs.declared.structure.Structure.{Structure}
 use Rattle.f11_files.specs.declared.tail.Tail.{Tail}
+use Rattle.f11_files.proofs.ZeroSlotLemmas.{slots-add, slots-nothing}
 use Rattle.f11_files.proofs.FreeingLemmas.{breaks-behind, breaks-within, stays-then}
 use Rattle.f11_files.proofs.GrowingIndexLemmas.{index-within}
 use Rattle.f11_files.proofs.IndexPieceLemmas.{none-grown, growths-add, others-grow}
@@ -47,6 +50,7 @@ pub record GrowingOn (s t : Structure) (tail later : Tail) (n from left : ℕ) (
   pub reserved : left ≤ room t.index
   pub within : from ≤ (bitmap_in s).size
   pub none_below : IsTrue old.honest → NoneBelow now.image (bitmap_in s) from
+  pub gains : IsTrue old.honest → GainsSlots done (volume_of old.image (home_of s)) (volume_of now.image (home_of s))
   pub grew : GrewIndex (Meanwhile (index_work s n old) (home_of s) old) (home_of s) (store_on s old) done (from / 4096 + 5 * done) old now
 
 module _ (s : Structure) (tail : Tail) (n : ℕ) (old : Disk) (for : IsFor s old) (last : HoldsLast s tail old) (index : tail.file.number ≡ 1) (reserved : n ≤ room s.index)
@@ -71,6 +75,7 @@ module _ (s : Structure) (tail : Tail) (n : ℕ) (old : Disk) (for : IsFor s old
     reserved = reserved;
     within = omega arith;
     none_below = λ honest j low. absurd (omega (arith, low));
+    gains = λ honest. slots-nothing (volume_of old.image home);
     grew = record {
       grows = λ honest. none-grown st n (may honest);
       transfers = 0;
@@ -177,6 +182,9 @@ module _ (s : Structure) (tail : Tail) (n : ℕ) (old : Disk) (for : IsFor s old
         reserved = let room = so_far.reserved in let used = adds.left in omega (arith, room, used);
         within = let same = ap (λ (b : Bitmap). b.size) so_far.bitmap in let inside = adds.within in omega (arith, same, inside);
         none_below = λ honest. subst (λ (b : Bitmap). NoneBelow new.image b end) so_far.bitmap (adds.none_below (now-honest honest));
+        gains = λ honest.
+            slots-add so_far.done count (volume_of old.image home) (volume_of now.image home) (volume_of new.image home) (so_far.gains honest)
+            (subst (λ (h : HomeFields). GainsSlots count (volume_of now.image h) (volume_of new.image h)) so_far.stays.home (adds.gains (now-honest honest)));
         grew = record {
           grows = λ honest. (both honest).0;
           transfers = so_far.grew.transfers + adds.grew.transfers;
@@ -190,8 +198,12 @@ module _ (s : Structure) (tail : Tail) (n : ℕ) (old : Disk) (for : IsFor s old
         };
       }
 
-    pub growing-done : left ≤ 0 → GrowingIndex s n old now
+    pub growing-done : left ≤ 0 → GrowsIndexBy s n old now
     growing-done none =
         let all : so_far.done ≡ n = let sum = so_far.sum in omega (arith, sum, none) in
-        subst (λ (m : ℕ). GrewIndex P home st m ((bitmap_in s).size / 4096 + 5 * m) old now) all
-        (index-within (λ _. let within = so_far.within in omega (arith, within)) so_far.grew)
+        record {
+          gains = λ honest. subst (λ (m : ℕ). GainsSlots m (volume_of old.image home) (volume_of now.image home)) all (so_far.gains honest);
+          grew =
+              subst (λ (m : ℕ). GrewIndex P home st m ((bitmap_in s).size / 4096 + 5 * m) old now) all
+              (index-within (λ _. let within = so_far.within in omega (arith, within)) so_far.grew);
+        }

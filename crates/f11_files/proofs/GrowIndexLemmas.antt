@@ -21,15 +21,18 @@ use Rattle.f11_store.specs.declared.refusals.Refusal.TheVariants.{NoSuchFile, In
 use Rattle.f11_store.specs.Refusal.{refusal_number}
 use Rattle.f11_store.specs.declared.refusals.Refusal.{Refusal}
 use Rattle.f11_store.proofs.LagLaws.{lags_itself}
+use Rattle.f11_vfy.specs.Volume.{volume_of}
+use Rattle.f11_files.specs.Allocation.{GainsSlots}
 use Rattle.f11_files.specs.Answers.{Breaks, FailsToWrite, IsRight, Meanwhile, Reads, Writes, is_among}
 use Rattle.f11_files.specs.Clear.{Clearing, ClearsMark}
-use Rattle.f11_files.specs.GrowIndex.{FailsToGrow, FindsIndexRoom, GrowingIndex, GrowsIndexFile, IsSlotsAfter, index_id}
+use Rattle.f11_files.specs.GrowIndex.{FailsToGrow, FindsIndexRoom, GrowsIndexBy, GrowsIndexFile, IsSlotsAfter, index_id}
 use Rattle.f11_files.specs.First.{HoldsFile}
 use Rattle.f11_files.specs.IndexPieces.{MayGrowIndex}
 use Rattle.f11_files.specs.Operations.{grow_causes}
 use Rattle.f11_files.specs.StoreOf.{store_of}
 use Rattle.f11_files.specs.Structure.{index_in, home_of, store_on, IsFor, StaysFor}
 use Rattle.f11_files.specs.declared.structure.Structure.{Structure}
+use Rattle.f11_files.proofs.ZeroSlotLemmas.{slots-add}
 use Rattle.f11_files.proofs.AnswerLemmas.{right-fault, reads-within}
 use Rattle.f11_files.proofs.ClearedLemmas.{enough, fewer-needed, grave-right, covered, image-read, honest-read, reads-found, honest-cleared}
 use Rattle.f11_files.proofs.IndexFileLemmas.{index-is}
@@ -205,15 +208,30 @@ module _ (s : Structure) (n : ℕ) (end : FileEnd) (was last : List ℕ) (old re
       unchanged = λ light. let no : true ≡ false = sym breaks.grave ∙ light in absurd cc;
     })
 
-    grown : (new : Disk) → GrowingIndex s n cleared new → IsTrue old.honest → GrowsIndex st n (store_of new.image home)
-    grown new grew honest =
+    grown : (new : Disk) → GrowsIndexBy s n cleared new → IsTrue old.honest → GrowsIndex st n (store_of new.image home)
+    grown new grows honest =
         (cleared-grows st (store_of new.image home) n (is-numbered honest)
-        (subst (λ (x : Store). GrowsIndex x n (store_of new.image home)) (store-cleared honest) (grew.grows (still-honest ∙ honest)))).0
+        (subst (λ (x : Store). GrowsIndex x n (store_of new.image home)) (store-cleared honest) (grows.grew.grows (still-honest ∙ honest)))).0
 
-    pub grows-file : (new : Disk) → GrowingIndex s n cleared new → GrowsIndexFile home n old new
-    grows-file new grew = record {
+    -- clearing the mark leaves the blocks
+    mark-gains : IsTrue read.honest → GainsSlots 0 (volume_of read.image home) (volume_of cleared.image home)
+    unfolding volume_of
+    mark-gains honest = record { blocks = clears.gains honest; slots = clears.zeros honest }
+
+    -- and it has the lowest free blocks more
+    gains-all : (new : Disk) → GrowsIndexBy s n cleared new → IsTrue old.honest → GainsSlots n (volume_of old.image home) (volume_of new.image home)
+    gains-all new grows honest =
+        let none : 0 + n ≡ n = omega arith in
+        let first : GainsSlots 0 (volume_of old.image home) (volume_of cleared.image home) =
+        subst (λ (i : Image). GainsSlots 0 (volume_of i home) (volume_of cleared.image home)) image-then (mark-gains (honest-then ∙ honest)) in
+        subst (λ (m : ℕ). GainsSlots m (volume_of old.image home) (volume_of new.image home)) none
+        (slots-add 0 n (volume_of old.image home) (volume_of cleared.image home) (volume_of new.image home) first (grows.gains (still-honest ∙ honest)))
+
+    pub grows-file : (new : Disk) → GrowsIndexBy s n cleared new → GrowsIndexFile home n old new
+    grows-file new grows = let grew = grows.grew in record {
       no_cause = no-cause;
-      makes = grown new grew;
+      makes = grown new grows;
+      allots = gains-all new grows;
       writes = record {
         transfers = writes-cleared.transfers + grew.transfers;
         went = went_more (Meanwhile work home old) writes-cleared.went (went_weaker _ (Meanwhile work home old) grown-moment grew.went);
@@ -228,8 +246,8 @@ module _ (s : Structure) (n : ℕ) (end : FileEnd) (was last : List ℕ) (old re
       };
     }
 
-    pub slots-after : (t : Structure) (new : Disk) (count : ℕ) → GrowingIndex s n cleared new → StaysFor false s t new → count ≡ slots (index_in t) → IsSlotsAfter home n old count
-    slots-after t new count grew stays is honest =
-        let end = grew.went.honest ∙ still-honest ∙ honest in
+    pub slots-after : (t : Structure) (new : Disk) (count : ℕ) → GrowsIndexBy s n cleared new → StaysFor false s t new → count ≡ slots (index_in t) → IsSlotsAfter home n old count
+    slots-after t new count grows stays is honest =
+        let end = grows.grew.went.honest ∙ still-honest ∙ honest in
         is ∙ ap slots (stays.keeps refl end).index_is ∙ sym (slots-of new.image (home_of t)) ∙ ap (λ (h : HomeFields). (store_of new.image h).slots) stays.home
-        ∙ (let made = grown new grew honest in ap (λ (x : Store). x.slots) (made.store_is ∙ ap (λ (x : Store). with_more_slots x n) made.grows.store_is))
+        ∙ (let made = grown new grows honest in ap (λ (x : Store). x.slots) (made.store_is ∙ ap (λ (x : Store). with_more_slots x n) made.grows.store_is))

@@ -1,5 +1,5 @@
 -- The header that names the last block of a file that stays, found and cut off.
-use Rattle.std.proofs.Common.{◌≡◌, ◌+◌, ◌-◌, ◌<◌, ◌≤◌, ℕ, suc, Bool, true, false, cond, min, IsTrue, List, [], ◌∷◌, length, take, Some, None, option_map, eqb, leb, ap, subst, ◌∙◌, arith}
+use Rattle.std.proofs.Common.{◌≡◌, ◌+◌, ◌-◌, ◌<◌, ◌≤◌, ℕ, suc, Bool, true, false, cond, min, IsTrue, List, [], ◌∷◌, length, take, Some, None, option_map, inl, inr, eqb, leb, ap, subst, ◌∙◌, arith}
 use Rattle.std.specs.List.{slice_get}
 use Rattle.std.proofs.lemmas.Bool.{le-ltb}
 use Rattle.std.proofs.lemmas.Option.{slice_get_within, slice_get-get_or}
@@ -91,6 +91,7 @@ module _ (s : Structure) (f : FileId) (block : List ℕ) (old now : Disk) (for :
         let before : blocks_before t f.number f.number ≡ 0 = ap (λ (k : ℕ). length (blocks_by t (take k (headers_of t f.number)))) first_one in
         omega (arith, none, before);
     within = omega arith;
+    needed = inl finds.holds.is_first.first;
     looked = looked_within finds.looked (omega arith);
   }
 
@@ -110,6 +111,7 @@ module _ (s : Structure) (f : FileId) (block : List ℕ) (old now : Disk) (for :
         let at = subst (λ (u : Table). to - 1 ≡ blocks_before u f.number place.number + place.left) (tables ∙ same honest) (goes.at_is (now-honest honest)) in
         omega (arith, at, is, some);
     within = let left = goes.left_within in omega (arith, is, left);
+    needed = inr (omega (arith, is));
     looked = looked_within (looked_more finds.looked goes.looked.looked) (let few = goes.no_further in let segment = goes.segment in omega (arith, few, segment));
   }
     where

@@ -9,6 +9,8 @@ pub mod LocateLemmas
 pub mod WriteLemmas
 pub mod BlockLemmas
 pub mod AlterLemmas
+pub mod AllocationLemmas
+pub mod AllocationLawLemmas
 pub mod FreeSlotLemmas
 pub mod CreateLemmas
 pub mod SpaceLemmas
@@ -20,6 +22,7 @@ pub mod FileLemmas
 pub mod GrowthLemmas
 pub mod NewFileLemmas
 pub mod FreshStoreLemmas
+pub mod LossLemmas
 pub mod FreeingLemmas
 pub mod GivingLemmas
 pub mod BuryLemmas
@@ -34,6 +37,7 @@ pub mod KeptLemmas
 pub mod CutLemmas
 pub mod RoomLemmas
 pub mod ZeroLemmas
+pub mod ZeroSlotLemmas
 pub mod NameRunLemmas
 pub mod ClearLemmas
 pub mod LinkTailLemmas

@@ -21,6 +21,7 @@ use Rattle.f11_store.specs.declared.files.FileId.{FileId}
 use Rattle.f11_vfy.specs.Volume.{Volume}
 use Rattle.f11_writes.specs.Kept.{WritesGrowth}
 use Rattle.f11_writes.proofs.GrowLemmas.{links-keep}
+use Rattle.f11_files.specs.Allocation.{AddsZeroSlots, LinksLoose}
 use Rattle.f11_files.specs.FileLaws.{HasSlotsMore, LinksOnTo}
 use Rattle.f11_files.specs.Growing.{SameFree}
 use Rattle.f11_files.specs.IndexGrowth.{MayBecomeSlots, LinkingSlots, LinksSlots, NamesThese, with_slots_linked}
@@ -30,10 +31,12 @@ use Rattle.f11_files.specs.Tail.{HoldsLast, HasStore}
 use Rattle.f11_files.specs.Zeros.{HoldsZeros}
 use Rattle.f11_files.specs.declared.structure.Structure.{Structure}
 use Rattle.f11_files.specs.declared.tail.Tail.{Tail}
+use Rattle.f11_files.proofs.AllocationLemmas.{links-loose}
 use Rattle.f11_files.proofs.FileLemmas.{HasWritten, as-growth, last-linked, m-stays}
 use Rattle.f11_files.proofs.GrowthLemmas.{index-linked}
 use Rattle.f11_files.proofs.LinkTailLemmas.{becomes, links}
-use Rattle.f11_files.proofs.SlotGrowthLemmas.{in_use-kept, slots-more, grown-image, grown-stays}
+use Rattle.f11_files.proofs.ZeroSlotLemmas.{zero-grown}
+use Rattle.f11_files.proofs.SlotGrowthLemmas.{in_use-kept, slots-more, slots-zero, grown-image, grown-stays}
 
 module _ (s : Structure) (tail : Tail) (block : List ℕ) (id : FileId) (lbn count : ℕ) (old : Disk) (for : IsFor s old) (last : HoldsLast s tail old) (early : segment_number tail.block < 255)
     (follows : IsTrue old.honest → MayFollow (table_of old.image (home_of s)) tail id) (sets : SetsLink tail.block block id)
@@ -87,6 +90,10 @@ module _ (s : Structure) (tail : Tail) (block : List ℕ) (id : FileId) (lbn cou
     has-slots : HasSlotsMore count t (table_of next home)
     has-slots = slots-more old.image home n block lbn count (for.sound honest) last-one.of wrote-slots on-device (zeros honest) (slots.limit honest)
 
+    zero-slots : AddsZeroSlots t (table_of next home)
+    zero-slots = zero-grown old.image next home n block lbn count wrote-slots (live_of-header last-one.of).in_use has-slots.slots
+        (slots-zero old.image home n block lbn count (for.sound honest) last-one.of wrote-slots on-device (zeros honest) (slots.limit honest))
+
     store-slots : HasStore home then next
     store-slots = record {
       sound = wrote-slots.slot.sound;
@@ -123,6 +130,10 @@ module _ (s : Structure) (tail : Tail) (block : List ℕ) (id : FileId) (lbn cou
         in_use = λ m used. subst (λ (x : Index). is_in_use x m ≡ true) (sym grown) (in_use-kept (index_in s) lbn count m s.index.valid used);
         bitmap = refl;
         left = left;
+        links = λ honest.
+            subst (λ (i : Image). LinksLoose 1 id.number t (table_of i home)) (sym (image honest))
+            (links-loose old.image next home 1 n id.number block (written honest) (links-one honest));
+        slots = λ honest. subst (λ (i : Image). AddsZeroSlots t (table_of i home)) (sym (image honest)) (zero-slots honest);
         store = λ honest. subst (HasStore home then) (sym (image honest)) (store-slots honest);
         free = λ honest. subst (SameFree home old.image) (sym (image honest)) (ap (λ (v : Volume). v.free) (wrote-slots honest).slot.volume);
         went = went_write (LinkingSlots s id count old) old new place block is moment;

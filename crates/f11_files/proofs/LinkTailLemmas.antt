@@ -26,6 +26,7 @@ use Rattle.f11_writes.specs.Kept.{WritesHeader}
 use Rattle.f11_writes.specs.Volumes.{MayName, MayBecome, links_anew}
 use Rattle.f11_writes.proofs.HeaderLemmas.{file-rewrite-keeps}
 use Rattle.f11_writes.proofs.NameLemmas.{own-names}
+use Rattle.f11_files.specs.Allocation.{LinksLoose}
 use Rattle.f11_files.specs.FileLaws.{SaysAlike, HasPointersMore, LinksOnTo, with_header_more}
 use Rattle.f11_files.specs.Growing.{SameFree}
 use Rattle.f11_files.specs.Link.{MayFollow, Linking, LinksTail}
@@ -33,6 +34,7 @@ use Rattle.f11_files.specs.Structure.{index_in, home_of, store_on, Lies, Keeps, 
 use Rattle.f11_files.specs.Tail.{HoldsLast, HasStore}
 use Rattle.f11_files.specs.declared.structure.Structure.{Structure}
 use Rattle.f11_files.specs.declared.tail.Tail.{Tail}
+use Rattle.f11_files.proofs.AllocationLemmas.{links-loose}
 use Rattle.f11_files.proofs.AlterLemmas.{keeps-header}
 use Rattle.f11_files.proofs.FileLemmas.{as-header, file-linked, last-linked, m-stays, of-now}
 use Rattle.f11_files.proofs.FirstLemmas.{table-of}
@@ -198,6 +200,9 @@ module _ (s : Structure) (tail : Tail) (block : List ℕ) (id : FileId) (old : D
           is_last = λ honest. subst (λ (i : Image). IsLastOf (table_of i home) f id.number) (sym (image honest)) (last-now honest);
           header_stays = λ honest. ap (λ (i : Image). (table_of i home).header id.number) (image honest) ∙ header-stays honest;
           store = λ honest. subst (HasStore home (with_change (store_on s old) f (with_header_more old.image t id.number))) (sym (image honest)) (store-linked honest);
+          links = λ honest.
+              subst (λ (i : Image). LinksLoose f id.number t (table_of i home)) (sym (image honest))
+              (links-loose old.image next home f n id.number block (as-header n block home old.image next (wrote-link honest)) (links honest));
           free = λ honest. subst (SameFree home old.image) (sym (image honest)) (ap (λ (v : Volume). v.free) (wrote-link honest).slot.volume);
           went = went;
         }

@@ -1,5 +1,6 @@
 -- Blocks of zeros that the index file's last header names: they are slots then.
 use Rattle.std.proofs.Common.{◌≡◌, ◌⊎◌, ◌+◌, ◌≤◌, ℕ, true, false, IsTrue, List, length, refl, sym, ap, subst, ◌∙◌, arith}
+use Rattle.std.specs.List.{range_with_len}
 use Rattle.std.proofs.Math.ListN.{set}
 use Rattle.f11_dev.specs.Disk.{Disk, with_transfer, with_block_at}
 use Rattle.f11_dev.specs.Image.{Image}
@@ -20,6 +21,7 @@ use Rattle.f11_store.specs.Store.{Store}
 use Rattle.f11_vfy.specs.Volume.{Volume}
 use Rattle.f11_writes.specs.Kept.{WritesGrowth}
 use Rattle.f11_writes.proofs.GrowLemmas.{names-keep}
+use Rattle.f11_files.specs.Allocation.{AddsZeroSlots, NamesMore}
 use Rattle.f11_files.specs.FileLaws.{HasSlotsMore, NamesMoreOf}
 use Rattle.f11_files.specs.Growing.{SameFree}
 use Rattle.f11_files.specs.IndexGrowth.{MayBecomeSlots, NamingSlots, NamesSlots, FailsToNameSlots, with_slots_named}
@@ -27,11 +29,13 @@ use Rattle.f11_files.specs.Structure.{index_in, bitmap_in, home_of, store_on, Is
 use Rattle.f11_files.specs.Tail.{HoldsLast, MayBeGiven, HasStore, pointers_more}
 use Rattle.f11_files.specs.declared.structure.Structure.{Structure}
 use Rattle.f11_files.specs.declared.tail.Tail.{Tail}
-use Rattle.f11_files.proofs.FileLemmas.{as-growth, of-now}
+use Rattle.f11_files.proofs.AllocationLemmas.{names-more}
+use Rattle.f11_files.proofs.FileLemmas.{HasWritten, as-growth, of-now}
 use Rattle.f11_files.proofs.FirstLemmas.{table-of}
 use Rattle.f11_files.proofs.GrowthLemmas.{index-more}
 use Rattle.f11_files.proofs.NameRunLemmas.{valid-again, segment-more, link-more, pointers-fit, becomes, names}
-use Rattle.f11_files.proofs.SlotGrowthLemmas.{in_use-kept, slots-more, grown-image, grown-for, grown-stays}
+use Rattle.f11_files.proofs.ZeroSlotLemmas.{zero-grown}
+use Rattle.f11_files.proofs.SlotGrowthLemmas.{in_use-kept, slots-more, slots-zero, grown-image, grown-for, grown-stays}
 
 module _ (s : Structure) (tail : Tail) (block : List ℕ) (lbn count : ℕ) (old : Disk) (for : IsFor s old) (last : HoldsLast s tail old)
     (given : MayBeGiven (home_of s) lbn count old) (appends : AppendsBlocks tail.block block lbn count)
@@ -76,8 +80,15 @@ module _ (s : Structure) (tail : Tail) (block : List ℕ) (lbn count : ℕ) (old
     wrote-slots : WritesGrowth n block lbn count home old.image next
     wrote-slots = names-keep old.image home n block lbn count (for.sound honest) may on-device (becomes s tail block lbn count old for last given appends honest)
 
+    written : HasWritten n block home old.image next
+    written = as-growth n block lbn count home old.image next (live_of-header last-one.of) wrote-slots
+
     has-slots : HasSlotsMore count t (table_of next home)
     has-slots = slots-more old.image home n block lbn count (for.sound honest) last-one.of wrote-slots on-device (given.zeros honest) (slots.limit honest)
+
+    zero-slots : AddsZeroSlots t (table_of next home)
+    zero-slots = zero-grown old.image next home n block lbn count wrote-slots (live_of-header last-one.of).in_use has-slots.slots
+        (slots-zero old.image home n block lbn count (for.sound honest) last-one.of wrote-slots on-device (given.zeros honest) (slots.limit honest))
 
     store-slots : HasStore home then next
     store-slots = record {
@@ -87,7 +98,7 @@ module _ (s : Structure) (tail : Tail) (block : List ℕ) (lbn count : ℕ) (old
 
     last-slots : IsLastOf (table_of next home) 1 n
     last-slots = record {
-      of = of-now old.image next home 1 n block (as-growth n block lbn count home old.image next (live_of-header last-one.of) wrote-slots) names-one.stands;
+      of = of-now old.image next home 1 n block written names-one.stands;
       no_link = ap (λ (b : List ℕ). (link_of b).number) wrote-slots.index_file.header ∙ may.no_link;
     }
 
@@ -145,6 +156,10 @@ module _ (s : Structure) (tail : Tail) (block : List ℕ) (lbn count : ℕ) (old
         };
         bitmap = refl;
         left = left;
+        names = λ honest.
+            subst (λ (i : Image). NamesMore 1 (range_with_len lbn count) t (table_of i home)) (sym (image honest))
+            (names-more old.image next home 1 n block more lbn count (written honest) (names-one honest));
+        slots = λ honest. subst (λ (i : Image). AddsZeroSlots t (table_of i home)) (sym (image honest)) (zero-slots honest);
         store = λ honest. subst (HasStore home then) (sym (image honest)) (store-slots honest);
         free = λ honest. subst (SameFree home old.image) (sym (image honest)) (ap (λ (v : Volume). v.free) (wrote-slots honest).slot.volume);
         went = went;

@@ -1,5 +1,5 @@
 -- A new file is written and entered, and the store has it.
-use Rattle.std.proofs.Common.{◌≡◌, ◌≢◌, ◌⊎◌, ◌≤◌, ◌<◌, ◌-◌, ◌||◌, inl, inr, ℕ, Bool, true, false, cond, List, [], ◌∷◌, Some, refl, ap, sym, ◌∙◌, map, length, slice_index, ◌/◌, eqb, arith}
+use Rattle.std.proofs.Common.{◌≡◌, ◌≢◌, ◌⊎◌, ◌≤◌, ◌<◌, ◌-◌, ◌||◌, inl, inr, ℕ, Bool, true, false, cond, List, [], ◌∷◌, Some, refl, ap, sym, subst, ◌∙◌, map, length, slice_index, ◌/◌, eqb, arith}
 use Rattle.std.specs.List.{sum_by, range_with_len}
 use Rattle.std.proofs.lemmas.List.Sums.{sum_by-cons}
 use Rattle.std.proofs.lemmas.Option.{get_or_from_slice_get}
@@ -24,16 +24,19 @@ use Rattle.f11_store.specs.declared.callers.Uic.{Uic}
 use Rattle.f11_store.specs.declared.files.FileId.{FileId}
 use Rattle.f11_vfy.specs.Contents.{file_of, headers_reached, pointer_count, room_left}
 use Rattle.f11_vfy.specs.Sound.{HasSoundVolume}
+use Rattle.f11_vfy.specs.Volume.{Volume, volume_of}
 use Rattle.f11_vfy.proofs.FileLemmas.{image-files, reached-are}
 use Rattle.f11_writes.specs.Kept.{file_in}
 use Rattle.f11_writes.specs.Worked.{IsNewHeader, with_new_header}
 use Rattle.f11_writes.proofs.HeaderLemmas.{unused-keeps}
 use Rattle.f11_writes.proofs.MadeLemmas.{two, here-now, is-file, one-header, makes-file}
+use Rattle.f11_files.specs.Allocation.{named_by, KeepsBlocks}
 use Rattle.f11_files.specs.ExtensionLaws.{SlotIsTaken}
 use Rattle.f11_files.specs.FieldLaws.{SaysBut}
 use Rattle.f11_files.specs.NewFileLaws.{FreeSlotsAreStored, IsNewFirst, WritesNewFirst, EntersNewFile}
 use Rattle.f11_files.specs.SlotLaws.{with_last, with_use}
 use Rattle.f11_files.specs.StoreOf.{as_seen, store_of}
+use Rattle.f11_files.proofs.AllocationLemmas.{named-live, named-others, named-unused}
 use Rattle.f11_files.proofs.FieldLemmas.{says-written}
 use Rattle.f11_files.proofs.InstanceLemmas.{unused-given, file-entered, last-at}
 use Rattle.f11_files.proofs.StoreLemmas.{same-store, seen-own}
@@ -133,6 +136,24 @@ module _ (id : FileId) (owned : Uic) (protects : ℕ) (ident attr empty block : 
 
       whole : IsWholeFile u id.number
       whole = ((image-files second home (two image home id.number block after is is-new bit).slot.sound).each id.number file).whole
+
+      -- each header names what it named, and the new one nothing
+      pub entered-keeps : KeepsBlocks (volume_of image home) (volume_of second home)
+      unfolding volume_of table_in
+      entered-keeps =
+          let one : Image = with_header image home id.number block in
+          let wrote = two image home id.number block after is is-new bit in
+          let first_slot = writes-first.header.slot in
+          record {
+            names = λ m. elim (cases_eq m id.number) [
+              | inl same ↦ subst (λ (k : ℕ). named_by u k ≡ named_by (table_of image home) k) (sym same)
+                  (named-live u id.number file.live ∙ ap blocks_named here ∙ names-none ∙ sym (named-unused (table_of image home) id.number none))
+              | inr away ↦
+                  named-others (table_of one home) u id.number m wrote.slot.others away
+                  ∙ named-others (table_of image home) (table_of one home) id.number m first_slot.others away
+            ];
+            free = ap (λ (v : Volume). v.free) wrote.slot.volume ∙ ap (λ (v : Volume). v.free) first_slot.volume;
+          }
 
       reached : headers_reached u id.number ≡ id.number ∷ []
       reached = reached-are 256 u id.number whole (first file) ∙ one-header image home id.number block after is is-new bit first-segment

@@ -115,12 +115,16 @@ module _ (image : Image) (home : HomeFields) (n : ℕ) (block : List ℕ) (lbn c
       ∙ image_block-read image (lbn + i) zero_block
       (slice_get-get_or image (lbn + i) zero_block (omega (arith, below, within)) ∙ ap Some (zeros.each (lbn + i) (omega arith) (omega (arith, below))))
 
+  pub slots-zero : (m : ℕ) → (table_of image home).slots < m → m ≤ (table_of image home).slots + count → (table_of next home).header m ≡ zero_block
+  unfolding table_in
+  slots-zero m past few = ap (image_block next) (lbn-is m past few) ∙ zeros-there (m - 1 - slots was) (omega (arith, past, few))
+
   pub slots-more : HasSlotsMore count (table_of image home) (table_of next home)
   unfolding table_in
   slots-more = record {
     slots = slots-are;
     unnumbered = λ m past few.
-        ap (λ (k : ℕ). file_sequence (image_block next k)) (lbn-is m past few) ∙ ap file_sequence (zeros-there (m - 1 - slots was) (omega (arith, past, few))) ∙ zero-sequence;
+        ap file_sequence (slots-zero m past few) ∙ zero-sequence;
   }
 
 -- what is kept has grown with the image's index file

@@ -1,5 +1,6 @@
 -- A run of free blocks that is marked used, for a file that is to have it.
-use Rattle.std.proofs.Common.{◌≡◌, ◌+◌, ◌-◌, ◌<◌, ◌≤◌, ℕ, zero, suc, Bool, true, false, IsTrue, refl, sym, ap, subst, ◌∙◌, inl, inr, arith}
+use Rattle.std.proofs.Common.{◌≡◌, ◌+◌, ◌-◌, ◌<◌, ◌≤◌, ℕ, zero, suc, Bool, true, false, IsTrue, refl, sym, ap, subst, ◌∙◌, ◌++◌, inl, inr, arith}
+use Rattle.std.specs.List.{filter, range_with_len}
 use Rattle.std.proofs.lemmas.Bool.{cases_lt}
 use Rattle.f11_bits.specs.Bitmap.{Bitmap, count_below, free_blocks, is_free, Marks}
 use Rattle.f11_bits.specs.Calls.{Takes, FindsNone, FailsToTake}
@@ -24,6 +25,7 @@ use Rattle.f11_writes.specs.Kept.{KeepsButFree}
 use Rattle.f11_writes.specs.NameLaws.{AreSpare}
 use Rattle.f11_writes.proofs.BitmapLemmas.{used-keeps}
 use Rattle.f11_writes.proofs.NameLemmas.{taken-spare}
+use Rattle.f11_files.specs.Allocation.{free_list}
 use Rattle.f11_files.specs.Answers.{Breaks}
 use Rattle.f11_files.specs.Growing.{IsTaking, Taking}
 use Rattle.f11_files.specs.Pieces.{TakesSome}
@@ -31,6 +33,7 @@ use Rattle.f11_files.specs.StoreOf.{store_of}
 use Rattle.f11_files.specs.Structure.{index_in, bitmap_in, home_of, store_on, IsFor, StaysFor}
 use Rattle.f11_files.specs.Take.{NoneBelow, TakesRun, with_fewer_free}
 use Rattle.f11_files.specs.declared.structure.Structure.{Structure}
+use Rattle.f11_files.proofs.AllocationLemmas.{lowest-taken}
 use Rattle.f11_files.proofs.FreeingLemmas.{writes-within}
 use Rattle.f11_files.proofs.GrowingLemmas.{breaks-fault, sound-growing, taking-sound, went-writes}
 use Rattle.f11_files.proofs.StoreLemmas.{fewer-free}
@@ -135,9 +138,12 @@ module _ (s : Structure) (from most : ℕ) (old : Disk) (for : IsFor s old) wher
     went : Went (Taking home most 0 st old) old new (blocks_to (bitmap_in s) from (lbn + count) + blocks_touched lbn count) 0
     went = went_weaker (Changing old.honest false (bitmap_in s) lbn count old.image) (Taking home most 0 st old) (run-moment lbn count takes.within.asked (λ sure. (takes.first sure).each)) takes.marked.went
 
+    none-before : IsTrue old.honest → NoneBelow old.image (bitmap_in s) lbn
+    none-before honest k before = elim (cases_lt k from) [ inl early ↦ below honest k early | inr late ↦ (takes.first honest).first k late before ]
+
     none-left : IsTrue old.honest → NoneBelow new.image (bitmap_in s) (lbn + count)
     none-left honest k low = elim (cases_lt k lbn) [
-      | inl before ↦ (takes.marked.marks honest).before k before ∙ elim (cases_lt k from) [ inl early ↦ below honest k early | inr late ↦ (takes.first honest).first k late before ]
+      | inl before ↦ (takes.marked.marks honest).before k before ∙ none-before honest k before
       | inr inside ↦ (takes.marked.marks honest).inside k inside low
     ]
 
@@ -151,6 +157,14 @@ module _ (s : Structure) (from most : ℕ) (old : Disk) (for : IsFor s old) wher
       spare-now : AreSpare (volume_of new.image home) lbn count
       spare-now = front-spare lbn count count new.image takes.within.some (omega arith) takes.within.asked honest (takes.first honest).each (takes.marked.marks honest)
 
+      lowest-now : free_list (volume_of old.image home) ≡ range_with_len lbn count ++ free_list (volume_of new.image home)
+      unfolding free_list volume_of
+      lowest-now =
+          ap (λ (b : Bitmap). filter (is_free old.image b) (range_with_len 0 b.size)) (sym (bitmap honest))
+          ∙ lowest-taken (is_free old.image (bitmap_in s)) (is_free new.image (bitmap_in s)) (bitmap_in s).size lbn count takes.within.within (none-before honest) (takes.first honest).each (none-left honest)
+          (takes.marked.marks honest).after
+          ∙ ap (λ (b : Bitmap). range_with_len lbn count ++ filter (is_free new.image b) (range_with_len 0 b.size)) (bitmap honest ∙ sym kept.bitmap)
+
     pub takes-run : (t : Structure) → index_in t ≡ index_in s → bitmap_in t ≡ bitmap_in s → room t.index ≡ room s.index → TakesRun s t from most lbn count old new
     takes-run t index bitmaps left = record {
       index = index;
@@ -160,6 +174,7 @@ module _ (s : Structure) (from most : ℕ) (old : Disk) (for : IsFor s old) wher
       keeps = kept;
       spare = spare-now;
       none_below = none-left;
+      lowest = lowest-now;
       store = store-now;
       writes = went-writes went;
     }

@@ -1,5 +1,6 @@
 -- A run of blocks that was marked used, for a file or for the index file: what is so before it is named.
 use Rattle.std.proofs.Common.{◌≡◌, ◌+◌, ◌-◌, ◌*◌, ◌/◌, ◌<◌, ◌≤◌, ℕ, false, IsTrue, refl, sym, ap, subst, ◌∙◌, arith}
+use Rattle.std.specs.List.{range_with_len}
 use Rattle.f11_bits.specs.Bitmap.{Bitmap, is_free}
 use Rattle.f11_bits.specs.Transfers.{blocks_from, blocks_to, blocks_touched}
 use Rattle.f11_dev.specs.Disk.{Disk}
@@ -10,6 +11,7 @@ use Rattle.f11_index.specs.Table.{Table, table_of}
 use Rattle.f11_store.specs.Store.{Store}
 use Rattle.f11_vfy.specs.Space.{storage_bitmap}
 use Rattle.f11_vfy.specs.Volume.{volume_of}
+use Rattle.f11_files.specs.Allocation.{AddsZeroSlots, GainsBlocks, NamesMore}
 use Rattle.f11_files.specs.Drops.{with_more_free}
 use Rattle.f11_files.specs.Growing.{SameFree}
 use Rattle.f11_files.specs.StoreOf.{store_of}
@@ -18,6 +20,7 @@ use Rattle.f11_files.specs.Tail.{HoldsLast}
 use Rattle.f11_files.specs.Take.{NoneBelow, TakesRun, with_fewer_free}
 use Rattle.f11_files.specs.declared.structure.Structure.{Structure}
 use Rattle.f11_files.specs.declared.tail.Tail.{Tail}
+use Rattle.f11_files.proofs.AllocationLemmas.{gains-run}
 use Rattle.f11_files.proofs.FirstLemmas.{table-of}
 use Rattle.f11_files.proofs.FreeingLemmas.{stays-for}
 
@@ -82,13 +85,39 @@ module _ (s t : Structure) (tail : Tail) (from most lbn count : ℕ) (old mid : 
         (subst (λ (x : Table). IsLastOf x tail.file.number tail.number) (sym (tables before)) (last.is_last before));
   }
 
+  -- the storage bitmap is where it was
+  bitmap-mid : IsTrue mid.honest → storage_bitmap mid.image home ≡ bitmap_in s
+  bitmap-mid there = ap (storage_bitmap mid.image) (sym stays.home) ∙ sym (stays.keeps refl there).bitmap_is ∙ takes.bitmap
+
+  bitmap-then : (u : Structure) (new : Disk) → bitmap_in u ≡ bitmap_in t → StaysFor false t u new → IsTrue new.honest → storage_bitmap new.image home ≡ bitmap_in s
+  bitmap-then u new bitmap kept honest = ap (storage_bitmap new.image) (sym stays.home ∙ sym kept.home) ∙ sym (kept.keeps refl honest).bitmap_is ∙ bitmap ∙ takes.bitmap
+
   -- once it is named, and the free blocks are as they were
   pub none-left : (u : Structure) (new : Disk) → bitmap_in u ≡ bitmap_in t → new.honest ≡ mid.honest → (IsTrue mid.honest → SameFree (home_of t) mid.image new.image) → StaysFor false t u new
       → IsTrue old.honest → NoneBelow new.image (bitmap_in s) (lbn + count)
   unfolding volume_of
   none-left u new bitmap still free kept honest j low =
       let there = takes.writes.went.honest ∙ honest in
-      let here : storage_bitmap new.image home ≡ bitmap_in s = ap (storage_bitmap new.image) (sym stays.home ∙ sym kept.home) ∙ sym (kept.keeps refl (still ∙ there)).bitmap_is ∙ bitmap ∙ takes.bitmap in
-      let before : storage_bitmap mid.image home ≡ bitmap_in s = ap (storage_bitmap mid.image) (sym stays.home) ∙ sym (stays.keeps refl there).bitmap_is ∙ takes.bitmap in
       let same : SameFree home mid.image new.image = subst (λ (h : HomeFields). SameFree h mid.image new.image) stays.home (free there) in
-      ap (λ (b : Bitmap). is_free new.image b j) (sym here) ∙ (λ i. same i j) ∙ ap (λ (b : Bitmap). is_free mid.image b j) before ∙ takes.none_below honest j low
+      ap (λ (b : Bitmap). is_free new.image b j) (sym (bitmap-then u new bitmap kept (still ∙ there))) ∙ (λ i. same i j) ∙ ap (λ (b : Bitmap). is_free mid.image b j) (bitmap-mid there)
+      ∙ takes.none_below honest j low
+
+  -- the file has the run then
+  pub run-gained : (u : Structure) (new : Disk) (f : ℕ) → bitmap_in u ≡ bitmap_in t → new.honest ≡ mid.honest → (IsTrue mid.honest → SameFree (home_of t) mid.image new.image)
+      → (IsTrue mid.honest → NamesMore f (range_with_len lbn count) (table_of mid.image (home_of t)) (table_of new.image (home_of t))) → StaysFor false t u new
+      → IsTrue old.honest → GainsBlocks f count (volume_of old.image home) (volume_of new.image home)
+  unfolding volume_of
+  run-gained u new f bitmap still free names kept honest =
+      let there = takes.writes.went.honest ∙ honest in
+      gains-run f lbn count (volume_of old.image home) (volume_of mid.image home) (volume_of new.image home) (tables honest) (takes.lowest honest)
+      (subst (λ (h : HomeFields). NamesMore f (range_with_len lbn count) (table_of mid.image h) (table_of new.image h)) stays.home (names there))
+      (ap (λ (b : Bitmap). b.size) (bitmap-then u new bitmap kept (still ∙ there) ∙ sym (bitmap-mid there)))
+      (subst (λ (h : HomeFields). SameFree h mid.image new.image) stays.home (free there))
+
+  -- and the slots that came are those since it was taken
+  pub slots-gained : (new : Disk) → (IsTrue mid.honest → AddsZeroSlots (table_of mid.image (home_of t)) (table_of new.image (home_of t)))
+      → IsTrue old.honest → AddsZeroSlots (volume_of old.image home).table (volume_of new.image home).table
+  unfolding volume_of
+  slots-gained new slots honest =
+      subst (λ (x : Table). AddsZeroSlots x (table_of new.image home)) (tables honest)
+      (subst (λ (h : HomeFields). AddsZeroSlots (table_of mid.image h) (table_of new.image h)) stays.home (slots (takes.writes.went.honest ∙ honest)))

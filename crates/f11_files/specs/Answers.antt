@@ -15,6 +15,7 @@ use Rattle.f11_store.specs.Store.{Store}
 use Rattle.f11_store.specs.declared.refusals.Refusal.{Refusal}
 use Rattle.f11_store.specs.declared.refusals.Refusal.TheVariants.{VolumeFailed, EndOfFile, DeviceFault, Damaged}
 use Rattle.f11_vfy.specs.Sound.{HasSoundVolume}
+use Rattle.f11_vfy.specs.Volume.{Volume, volume_of}
 use Rattle.f11_files.specs.StoreOf.{store_of}
 
 -- DeviceFault and Damaged fail the volume
@@ -83,11 +84,14 @@ pub record IsUnderWay (work : Work) (home : HomeFields) (old image : Image) : Ty
 abbrev pub Meanwhile : Work → HomeFields → Disk → Image → Type 0
 Meanwhile work home old image = IsTrue old.honest → IsUnderWay work home old.image image
 
--- A call that writes was served: there was no cause against it, and of the store before it makes this.
-pub record Does (causes : List Cause) (work : Work) (most : ℕ) (Makes : Store → Type 0) (home : HomeFields) (old new : Disk) : Type 0 where
-  pub no_cause : IsTrue old.honest → first_of causes ≡ None
-  pub makes : IsTrue old.honest → Makes (store_of new.image home)
-  pub writes : Writes (Meanwhile work home old) most old new 0
+-- A call that writes was served: there was no cause against it, of the store before it makes this, and blocks are named and free so.
+pub record Does
+    (causes : List Cause) (work : Work) (most : ℕ) (Makes : Store → Type 0) (Allots : Volume → Volume → Type 0) (home : HomeFields) (old new : Disk) : Type 0
+  where
+    pub no_cause : IsTrue old.honest → first_of causes ≡ None
+    pub makes : IsTrue old.honest → Makes (store_of new.image home)
+    pub allots : IsTrue old.honest → Allots (volume_of old.image home) (volume_of new.image home)
+    pub writes : Writes (Meanwhile work home old) most old new 0
 
 -- A call that writes was refused: unless it failed the volume, no block was written.
 pub record FailsToWrite (failed : Bool) (causes : List Cause) (most : ℕ) (work : Work) (home : HomeFields) (refusal : Refusal) (old new : Disk) : Type 0 where

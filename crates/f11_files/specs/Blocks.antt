@@ -13,6 +13,7 @@ use Rattle.f11_store.specs.Store.{file_named}
 use Rattle.f11_store.specs.declared.files.FileId.{FileId}
 use Rattle.f11_store.specs.declared.refusals.Refusal.{Refusal}
 use Rattle.f11_writes.specs.Kept.{file_in}
+use Rattle.f11_files.specs.Allocation.{KeepsBlocks}
 use Rattle.f11_files.specs.Answers.{Reads, Does, FailsToWrite}
 use Rattle.f11_files.specs.Operations.{length_causes}
 use Rattle.f11_files.specs.StoreOf.{store_of}
@@ -40,7 +41,7 @@ block_work f vbn block = one_part f.number (file_changes f.number (with_block vb
 abbrev pub StoresBlock : HomeFields → FileId → ℕ → List ℕ → Disk → Disk → Type 0
 StoresBlock home f vbn block old new =
     let s = store_of old.image home in
-    Does (length_causes s f vbn) (block_work f vbn block) (header_count (file_named s f) + 1) (λ t. t ≡ with_change s f.number (with_block vbn block)) home old new
+    Does (length_causes s f vbn) (block_work f vbn block) (header_count (file_named s f) + 1) (λ t. t ≡ with_change s f.number (with_block vbn block)) KeepsBlocks home old new
 
 -- It was not.
 abbrev pub FailsToStore : Bool → HomeFields → FileId → ℕ → List ℕ → Refusal → Disk → Disk → Type 0

@@ -10,6 +10,8 @@ use Rattle.f11_store.specs.Changes.{with_change}
 use Rattle.f11_store.specs.Lags.{with_no_mark}
 use Rattle.f11_store.specs.declared.files.FileId.{FileId}
 use Rattle.f11_writes.specs.OtherSlots.{KeepsOtherSlots}
+use Rattle.f11_vfy.specs.Volume.{volume_of}
+use Rattle.f11_files.specs.Allocation.{AddsZeroSlots, GainsBlocks}
 use Rattle.f11_files.specs.First.{HoldsFile}
 use Rattle.f11_files.specs.Structure.{index_in, home_of, store_on, IsFor}
 use Rattle.f11_files.specs.Tail.{HasStore}
@@ -26,5 +28,7 @@ pub record ClearsMark (s : Structure) (f : FileId) (was block : List ℕ) (old n
   pub slots : IsTrue old.honest → KeepsOtherSlots f.number (table_of old.image (home_of s)) (table_of new.image (home_of s))
   pub last : IsTrue old.honest → (n : ℕ) → IsLastOf (table_of old.image (home_of s)) f.number n → IsLastOf (table_of new.image (home_of s)) f.number n
   pub is_for : IsFor s new
+  pub gains : IsTrue old.honest → GainsBlocks f.number 0 (volume_of old.image (home_of s)) (volume_of new.image (home_of s))
+  pub zeros : IsTrue old.honest → AddsZeroSlots (table_of old.image (home_of s)) (table_of new.image (home_of s))
   pub store : Clearing s f old new.image
   pub went : Went (Clearing s f old) old new 1 0

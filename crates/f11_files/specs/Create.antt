@@ -8,6 +8,7 @@ use Rattle.f11_store.specs.Store.{Store, least_free}
 use Rattle.f11_store.specs.declared.callers.Uic.{Uic}
 use Rattle.f11_store.specs.declared.files.FileId.{FileId}
 use Rattle.f11_store.specs.declared.refusals.Refusal.{Refusal}
+use Rattle.f11_files.specs.Allocation.{KeepsBlocks}
 use Rattle.f11_files.specs.Answers.{Does, FailsToWrite}
 use Rattle.f11_files.specs.Operations.{create_causes}
 use Rattle.f11_files.specs.StoreOf.{store_of}
@@ -19,7 +20,7 @@ new_work s owner protection ident attr = create_work (least_free s) (file_create
 -- It was made, and this is its identification. Its slot's block was read, its header was written, and then its bit.
 pub record Creates (home : HomeFields) (owner : Uic) (protection : ℕ) (ident attr : List ℕ) (f : FileId) (old new : Disk) : Type 0 where
   pub does : Does (create_causes (store_of old.image home)) (new_work (store_of old.image home) owner protection ident attr) 3
-      (λ t. t ≡ after_create (store_of old.image home) owner protection ident attr) home old new
+      (λ t. t ≡ after_create (store_of old.image home) owner protection ident attr) KeepsBlocks home old new
   pub id : IsTrue old.honest → f ≡ record {
     number = least_free (store_of old.image home);
     sequence = next_sequence ((store_of old.image home).last (least_free (store_of old.image home)));

@@ -1,5 +1,5 @@
 -- What truncating a file does.
-use Rattle.std.specs.Prelude.{◌≡◌, ℕ, ◌+◌, ◌-◌, ◌≤◌, Bool, IsTrue, List, length, take, None}
+use Rattle.std.specs.Prelude.{◌≡◌, ◌⊎◌, ℕ, ◌+◌, ◌-◌, ◌<◌, ◌≤◌, Bool, IsTrue, List, length, take, None}
 use Rattle.f11_bytes.specs.Words.{word_sum}
 use Rattle.f11_dev.specs.Disk.{Disk}
 use Rattle.f11_dev.specs.Looked.{Looked}
@@ -19,6 +19,7 @@ use Rattle.f11_store.specs.Store.{file_named}
 use Rattle.f11_store.specs.declared.files.FileId.{FileId}
 use Rattle.f11_store.specs.declared.refusals.Refusal.{Refusal}
 use Rattle.f11_writes.specs.Kept.{file_in}
+use Rattle.f11_files.specs.Allocation.{LosesBlocks}
 use Rattle.f11_files.specs.Answers.{Does, FailsToWrite}
 use Rattle.f11_files.specs.FileLaws.{SaysAlike, pointers_in}
 use Rattle.f11_files.specs.Operations.{length_causes}
@@ -33,6 +34,7 @@ pub record FindsLastKept (home : HomeFields) (index : Index) (f : FileId) (to n 
   pub of_file : IsTrue old.honest → IsHeaderOf (table_of old.image home) f.number n
   pub to_is : IsTrue old.honest → to ≡ blocks_before (table_of old.image home) f.number n + keep
   pub within : keep ≤ length (blocks_named block)
+  pub needed : (segment_number block ≡ 0) ⊎ (0 < keep)
   pub looked : Looked old new (segment_number block + 1) 0
 
 -- A header was written with the first of its blocks, so many, and no link: sealed, and all else that it says is as it was.
@@ -55,7 +57,7 @@ cut_work f to = one_part f.number (file_changes f.number (with_first_blocks to))
 abbrev pub Cuts : HomeFields → FileId → ℕ → Disk → Disk → Type 0
 Cuts home f to old new =
     let s = store_of old.image home in
-    Does (length_causes s f to) (cut_work f to) (cut_cost (file_named s f) - 1) (Truncates s f.number to) home old new
+    Does (length_causes s f to) (cut_work f to) (cut_cost (file_named s f) - 1) (Truncates s f.number to) (LosesBlocks f.number to) home old new
 
 -- It was not, or not all of it.
 abbrev pub FailsToCut : Bool → HomeFields → FileId → ℕ → Refusal → Disk → Disk → Type 0

@@ -20,8 +20,10 @@ use Rattle.f11_vfy.specs.Sound.{HasSoundVolume}
 use Rattle.f11_vfy.specs.Space.{storage_bitmap}
 use Rattle.f11_vfy.specs.Volume.{Volume, volume_of, IsNamed}
 use Rattle.f11_writes.specs.OtherSlots.{KeepsOtherSlots}
+use Rattle.f11_files.specs.Allocation.{FreesBlocks, LosesHeaders}
 use Rattle.f11_files.specs.Answers.{Writes, Breaks}
 use Rattle.f11_files.specs.FileLaws.{pointers_in}
+use Rattle.f11_files.specs.Growing.{SameFree}
 use Rattle.f11_files.specs.SlotLaws.{with_use}
 use Rattle.f11_files.specs.StoreOf.{store_of}
 
@@ -64,10 +66,11 @@ pub record AreAllSpare (v : Volume) (lbns : List ℕ) : Type 0 where
 abbrev pub with_more_free : Store → ℕ → Store
 with_more_free s count = record s { free = s.free + count }
 
--- Blocks were marked free, those of so many pointers at most.
-pub record GivesBlocks (home : HomeFields) (blocks pointers : ℕ) (old new : Disk) : Type 0 where
+-- These blocks were marked free, those of so many pointers at most.
+pub record GivesBlocks (home : HomeFields) (lbns : List ℕ) (pointers : ℕ) (old new : Disk) : Type 0 where
   pub table : IsTrue old.honest → table_of new.image home ≡ table_of old.image home
-  pub store : IsTrue old.honest → store_of new.image home ≡ with_more_free (store_of old.image home) blocks
+  pub store : IsTrue old.honest → store_of new.image home ≡ with_more_free (store_of old.image home) (length lbns)
+  pub frees : IsTrue old.honest → FreesBlocks lbns (volume_of old.image home) (volume_of new.image home)
   pub writes : Writes (Freeing home (store_of old.image home) old) (4 * pointers) old new 0
 
 -- Header n may go: it is none of the volume's own, and no header of a file links to it.
@@ -79,6 +82,7 @@ pub record MayDrop (t : Table) (n : ℕ) : Type 0 where
 pub record Buries (home : HomeFields) (n : ℕ) (block : List ℕ) (old new : Disk) : Type 0 where
   pub others : IsTrue old.honest → KeepsOtherSlots n (table_of old.image home) (table_of new.image home)
   pub unused : IsTrue old.honest → (table_of new.image home).in_use n ≡ false
+  pub free : IsTrue old.honest → SameFree home old.image new.image
   pub spare : IsTrue old.honest → AreAllSpare (volume_of new.image home) (blocks_named block)
   pub store : IsTrue old.honest → store_of new.image home ≡ with_use (with_file (store_of old.image home) n None) n false
   pub writes : Writes (Freeing home (with_file (store_of old.image home) n None) old) 2 old new 0
@@ -95,6 +99,7 @@ drop_cost block = 2 + 4 * pointers_in block
 pub record DropsHeader (home : HomeFields) (n : ℕ) (block : List ℕ) (old new : Disk) : Type 0 where
   pub others : IsTrue old.honest → KeepsOtherSlots n (table_of old.image home) (table_of new.image home)
   pub unused : IsTrue old.honest → (table_of new.image home).in_use n ≡ false
+  pub frees : IsTrue old.honest → FreesBlocks (blocks_named block) (volume_of old.image home) (volume_of new.image home)
   pub store : IsTrue old.honest → store_of new.image home ≡ without_header (store_of old.image home) n (length (blocks_named block))
   pub writes : Writes (Freeing home (with_file (store_of old.image home) n None) old) (drop_cost block) old new 0
 
@@ -120,5 +125,6 @@ pub record DropsBehind (home : HomeFields) (block : List ℕ) (old new : Disk) :
   pub store :
       IsTrue old.honest →
       store_of new.image home ≡ without_headers (store_of old.image home) (table_of old.image home) (headers_behind (table_of old.image home) block)
+  pub loses : IsTrue old.honest → LosesHeaders (headers_behind (table_of old.image home) block) (volume_of old.image home) (volume_of new.image home)
   pub writes :
       Writes (Freeing home (store_of old.image home) old) (tail_cost (table_of old.image home) (headers_behind (table_of old.image home) block)) old new 0

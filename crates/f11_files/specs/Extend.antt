@@ -1,20 +1,23 @@
 -- What extending a file does (profile: blocks of zeros, the lowest free ones, a run of 256 at most after another).
 use Rattle.std.specs.Prelude.{◌≡◌, ◌≢◌, ℕ, ◌+◌, ◌-◌, ◌*◌, ◌/◌, ◌<◌, ◌≤◌, Bool, IsTrue, List}
 use Rattle.f11_dev.specs.Disk.{Disk}
+use Rattle.f11_dev.specs.Image.{Image}
 use Rattle.f11_header.specs.Fields.{owner, protection}
 use Rattle.f11_home.specs.Home.{HomeFields}
 use Rattle.f11_index.specs.HeaderBlock.{link_of}
 use Rattle.f11_store.specs.Changes.{Extends}
 use Rattle.f11_store.specs.Cost.{growth_cost}
 use Rattle.f11_store.specs.File.{length_of}
-use Rattle.f11_files.specs.Pieces.{file_numbered}
 use Rattle.f11_store.specs.Lags.{extend_work}
 use Rattle.f11_store.specs.Store.{file_named}
 use Rattle.f11_store.specs.declared.files.FileId.{FileId}
 use Rattle.f11_store.specs.declared.refusals.Refusal.{Refusal}
+use Rattle.f11_vfy.specs.Volume.{volume_of}
+use Rattle.f11_files.specs.Allocation.{GainsBlocks}
 use Rattle.f11_files.specs.Answers.{Meanwhile, Does, FailsToWrite}
 use Rattle.f11_files.specs.Growing.{Grew, GrowingBy}
 use Rattle.f11_files.specs.Operations.{extend_causes}
+use Rattle.f11_files.specs.Pieces.{file_numbered}
 use Rattle.f11_files.specs.StoreOf.{store_of}
 use Rattle.f11_files.specs.Structure.{bitmap_in, home_of, store_on}
 use Rattle.f11_files.specs.Tail.{HoldsLast, whose}
@@ -40,21 +43,26 @@ pub record AddsRun (s after : Structure) (tail later : Tail) (from most end coun
   pub above : from + count ≤ end
   pub within : end ≤ (bitmap_in s).size
   pub none_below : IsTrue old.honest → NoneBelow new.image (bitmap_in s) end
+  pub gains : IsTrue old.honest → GainsBlocks tail.file.number count (volume_of old.image (home_of s)) (volume_of new.image (home_of s))
   pub grew :
       Grew (GrowingBy (home_of s) (store_on s old) tail.file.number most old) (home_of s) (store_on s old) tail.file.number count
       (end / 4096 - from / 4096 + 5 * count) old new
 
 -- what stands while file k is extended by n blocks
-abbrev pub ExtendingBy : Structure → ℕ → ℕ → Disk → Disk → Type 0
-ExtendingBy s k n old new =
-    let st = store_on s old in
-    Grew (Meanwhile (extend_work k (file_numbered st k).room n) (home_of s) old) (home_of s) st k n ((bitmap_in s).size / 4096 + 5 * n) old new
+abbrev pub ExtendingBy : Structure → ℕ → ℕ → Disk → Image → Type 0
+ExtendingBy s k n old = Meanwhile (extend_work k (file_numbered (store_on s old) k).room n) (home_of s) old
 
--- A file was extended by n blocks of zeros: one transfer less than the cost, which counts a look at its right.
+-- It was extended by them.
+pub record ExtendsBy (s : Structure) (k n : ℕ) (old new : Disk) : Type 0 where
+  pub gains : IsTrue old.honest → GainsBlocks k n (volume_of old.image (home_of s)) (volume_of new.image (home_of s))
+  pub grew : Grew (ExtendingBy s k n old) (home_of s) (store_on s old) k n ((bitmap_in s).size / 4096 + 5 * n) old new
+
+-- A file was extended by n blocks of zeros, the lowest free ones: one transfer less than the cost, which counts a look at its right.
 abbrev pub ExtendsFile : HomeFields → FileId → ℕ → Disk → Disk → Type 0
 ExtendsFile home f n old new =
     let s = store_of old.image home in
-    Does (extend_causes s f n) (extend_work f.number (file_named s f).room n) (growth_cost s (file_named s f) n - 1) (Extends s f.number n) home old new
+    Does (extend_causes s f n) (extend_work f.number (file_named s f).room n) (growth_cost s (file_named s f) n - 1) (Extends s f.number n)
+    (GainsBlocks f.number n) home old new
 
 -- and this is its length then
 abbrev pub IsLengthAfter : HomeFields → FileId → ℕ → Disk → ℕ → Type 0

@@ -13,6 +13,7 @@ use Rattle.f11_index.specs.Table.{table_of}
 use Rattle.f11_store.specs.Changes.{with_slots}
 use Rattle.f11_store.specs.Store.{least_free}
 use Rattle.f11_store.specs.declared.files.FileId.{FileId}
+use Rattle.f11_files.specs.Allocation.{AddsLoose, AddsZeroSlots, NamesMore}
 use Rattle.f11_files.specs.Answers.{Writes}
 use Rattle.f11_files.specs.Drops.{with_more_free}
 use Rattle.f11_files.specs.FileLaws.{pointers_in, room_in}
@@ -25,8 +26,8 @@ use Rattle.f11_files.specs.Zeros.{HoldsZeros}
 use Rattle.f11_files.specs.declared.structure.Structure.{Structure}
 use Rattle.f11_files.specs.declared.tail.Tail.{Tail}
 
--- A block is a valid header for the run, in a file behind its last one: it has the owner and the
--- protection of the file, no characteristics, attributes of zeros, one pointer in 102 places, and no link.
+-- A block is a valid header for the run, in a file behind its last one: it has the owner and the protection of the file, no characteristics,
+-- attributes of zeros, one pointer in 102 places, and no link.
 pub record IsExtension (tail : Tail) (id : FileId) (lbn count : ℕ) (block : List ℕ) : Type 0 where
   pub valid : IsHeader block id.number
   pub sequence : file_sequence block ≡ id.sequence
@@ -50,6 +51,8 @@ pub record EntersHeader (s after : Structure) (tail : Tail) (lbn count : ℕ) (i
   pub bitmap : bitmap_in after ≡ bitmap_in s
   pub left : room after.index ≡ room s.index
   pub free : IsTrue old.honest → SameFree (home_of s) old.image new.image
+  pub adds : IsTrue old.honest → AddsLoose tail.file.number id.number (table_of old.image (home_of s)) (table_of new.image (home_of s))
+  pub slots : IsTrue old.honest → AddsZeroSlots (table_of old.image (home_of s)) (table_of new.image (home_of s))
   pub slot : IsTrue old.honest → id.number ≡ least_free (store_on s old)
   pub store : IsTrue old.honest → store_of new.image (home_of s) ≡ with_slots (store_on s old) (id.number ∷ [])
   pub writes : Writes (Taking (home_of s) 0 1 (store_on s old) old) 3 old new 0
@@ -58,10 +61,11 @@ pub record EntersHeader (s after : Structure) (tail : Tail) (lbn count : ℕ) (i
 abbrev pub AppendingRun : Structure → Tail → ℕ → Disk → Image → Type 0
 AppendingRun s tail count old = GrowingInto (home_of s) (store_on s old) (with_more_free (store_on s old) count) tail.file.number count old
 
--- It has them: its last header is in hand.
-pub record AppendsRun (s after : Structure) (tail later : Tail) (count most : ℕ) (old new : Disk) : Type 0 where
+-- It has them, from `lbn` on: its last header is in hand.
+pub record AppendsRun (s after : Structure) (tail later : Tail) (lbn count most : ℕ) (old new : Disk) : Type 0 where
   pub file : whose later ≡ whose tail
   pub last : HoldsLast after later new
   pub bitmap : bitmap_in after ≡ bitmap_in s
   pub free : IsTrue old.honest → SameFree (home_of s) old.image new.image
+  pub names : IsTrue old.honest → NamesMore tail.file.number (range_with_len lbn count) (table_of old.image (home_of s)) (table_of new.image (home_of s))
   pub grew : Grew (AppendingRun s tail count old) (home_of s) (with_more_free (store_on s old) count) tail.file.number count most old new

@@ -7,6 +7,7 @@ use Rattle.f11_store.specs.File.{File}
 use Rattle.f11_store.specs.Lags.{one_part, file_changes}
 use Rattle.f11_store.specs.declared.files.FileId.{FileId}
 use Rattle.f11_store.specs.declared.refusals.Refusal.{Refusal}
+use Rattle.f11_files.specs.Allocation.{KeepsBlocks}
 use Rattle.f11_files.specs.Answers.{Does, FailsToWrite}
 use Rattle.f11_files.specs.Operations.{file_causes}
 use Rattle.f11_files.specs.StoreOf.{store_of}
@@ -15,7 +16,7 @@ use Rattle.f11_files.specs.StoreOf.{store_of}
 abbrev pub Alters : (File → File) → HomeFields → FileId → Disk → Disk → Type 0
 Alters change home f old new =
     let s = store_of old.image home in
-    Does (file_causes s f) (one_part f.number (file_changes f.number change)) 2 (λ t. t ≡ with_change s f.number change) home old new
+    Does (file_causes s f) (one_part f.number (file_changes f.number change)) 2 (λ t. t ≡ with_change s f.number change) KeepsBlocks home old new
 
 -- It was not.
 abbrev pub FailsToAlter : Bool → (File → File) → HomeFields → FileId → Refusal → Disk → Disk → Type 0

@@ -1,10 +1,12 @@
 -- What growing the index file does (profile: blocks of zeros, the lowest free ones, a run of 256 at most after another).
 use Rattle.std.specs.Prelude.{◌≡◌, ◌≢◌, ℕ, ◌+◌, ◌-◌, ◌*◌, ◌/◌, ◌<◌, ◌≤◌, Bool, false, IsTrue, List, None}
+use Rattle.std.specs.List.{range_with_len}
 use Rattle.f11_dev.specs.Disk.{Disk}
 use Rattle.f11_dev.specs.Image.{Image}
 use Rattle.f11_dev.specs.Went.{Went}
 use Rattle.f11_home.specs.Home.{HomeFields}
 use Rattle.f11_index.specs.Kept.{room}
+use Rattle.f11_index.specs.Table.{table_of}
 use Rattle.f11_chain.specs.declared.blocks.FileEnd.{FileEnd}
 use Rattle.f11_store.specs.Causes.{first_of}
 use Rattle.f11_store.specs.Changes.{GrowsIndex}
@@ -15,6 +17,8 @@ use Rattle.f11_store.specs.Store.{Store, index_file}
 use Rattle.f11_store.specs.declared.files.FileId.{FileId}
 use Rattle.f11_store.specs.declared.refusals.Refusal.{Refusal}
 use Rattle.f11_store.specs.declared.refusals.Refusal.TheVariants.{NoMemory}
+use Rattle.f11_vfy.specs.Volume.{volume_of}
+use Rattle.f11_files.specs.Allocation.{AddsZeroSlots, GainsSlots, NamesMore}
 use Rattle.f11_files.specs.Answers.{is_grave, faults_of, Does, IsRight, Meanwhile, Reads, Writes}
 use Rattle.f11_files.specs.Drops.{with_more_free}
 use Rattle.f11_files.specs.Growing.{Growing, SameFree}
@@ -47,13 +51,15 @@ abbrev pub AppendingSlots : Structure → ℕ → Disk → Image → Type 0
 AppendingSlots s count old =
     Growing (home_of s) 0 (need (index_file (store_on s old)).room count) (GrowsIndex (with_more_free (store_on s old) count) count) (store_on s old) old
 
--- The index file has them: its last header is in hand.
-pub record AppendsSlots (s after : Structure) (tail later : Tail) (count most : ℕ) (old new : Disk) : Type 0 where
+-- The index file has them, from `lbn` on: its last header is in hand.
+pub record AppendsSlots (s after : Structure) (tail later : Tail) (lbn count most : ℕ) (old new : Disk) : Type 0 where
   pub file : whose later ≡ whose tail
   pub last : HoldsLast after later new
   pub bitmap : bitmap_in after ≡ bitmap_in s
   pub left : room s.index ≤ room after.index + count
   pub free : IsTrue old.honest → SameFree (home_of s) old.image new.image
+  pub names : IsTrue old.honest → NamesMore 1 (range_with_len lbn count) (table_of old.image (home_of s)) (table_of new.image (home_of s))
+  pub slots : IsTrue old.honest → AddsZeroSlots (table_of old.image (home_of s)) (table_of new.image (home_of s))
   pub grew : GrewIndex (AppendingSlots s count old) (home_of s) (with_more_free (store_on s old) count) count most old new
 
 -- The index file has a run of slots more: no block below `end` is free then, and its last header is in hand.
@@ -67,15 +73,19 @@ pub record AddsSlots (s after : Structure) (tail later : Tail) (from most end co
   pub above : from + count ≤ end
   pub within : end ≤ (bitmap_in s).size
   pub none_below : IsTrue old.honest → NoneBelow new.image (bitmap_in s) end
+  pub gains : IsTrue old.honest → GainsSlots count (volume_of old.image (home_of s)) (volume_of new.image (home_of s))
   pub grew :
       GrewIndex (GrowingIndexBy (home_of s) (store_on s old) most old) (home_of s) (store_on s old) count
       (end / 4096 - from / 4096 + 5 * count) old new
 
 -- what stands while the index file grows by n slots
-abbrev pub GrowingIndex : Structure → ℕ → Disk → Disk → Type 0
-GrowingIndex s n old new =
-    let st = store_on s old in
-    GrewIndex (Meanwhile (grow_work (index_file st).room n) (home_of s) old) (home_of s) st n ((bitmap_in s).size / 4096 + 5 * n) old new
+abbrev pub GrowingIndex : Structure → ℕ → Disk → Image → Type 0
+GrowingIndex s n old = Meanwhile (grow_work (index_file (store_on s old)).room n) (home_of s) old
+
+-- It has grown by them.
+pub record GrowsIndexBy (s : Structure) (n : ℕ) (old new : Disk) : Type 0 where
+  pub gains : IsTrue old.honest → GainsSlots n (volume_of old.image (home_of s)) (volume_of new.image (home_of s))
+  pub grew : GrewIndex (GrowingIndex s n old) (home_of s) (store_on s old) n ((bitmap_in s).size / 4096 + 5 * n) old new
 
 -- the identification of the index file
 abbrev pub index_id : FileId
@@ -86,11 +96,12 @@ pub record FindsIndexRoom (s : Structure) (n : ℕ) (end : FileEnd) (first last 
   pub within : IsTrue old.honest → (store_on s old).slots + n ≤ (store_on s old).limit
   pub room : FindsRoom s index_id n end first last old new
 
--- The index file has n slots more, none of which was given a sequence number.
+-- The index file has n slots more, none of which was given a sequence number: they are the lowest free blocks, and hold zeros.
 abbrev pub GrowsIndexFile : HomeFields → ℕ → Disk → Disk → Type 0
 GrowsIndexFile home n old new =
     let s = store_of old.image home in
-    Does (grow_causes s n) (grow_work (index_file s).room n) (growth_cost s (index_file s) n) (GrowsIndex s n) home old new
+    Does (grow_causes s n) (grow_work (index_file s).room n) (growth_cost s (index_file s) n) (GrowsIndex s n)
+    (GainsSlots n) home old new
 
 -- and so many there are then
 abbrev pub IsSlotsAfter : HomeFields → ℕ → Disk → ℕ → Type 0

@@ -13,6 +13,7 @@ use Rattle.f11_index.specs.Table.{table_of}
 use Rattle.f11_store.specs.Changes.{with_change, with_more_slots}
 use Rattle.f11_store.specs.Store.{Store}
 use Rattle.f11_store.specs.declared.files.FileId.{FileId}
+use Rattle.f11_files.specs.Allocation.{AddsZeroSlots, LinksLoose, NamesMore}
 use Rattle.f11_files.specs.FileLaws.{room_in, with_more_blocks, with_header_linked}
 use Rattle.f11_files.specs.Growing.{SameFree}
 use Rattle.f11_files.specs.Structure.{index_in, bitmap_in, home_of, store_on}
@@ -41,6 +42,8 @@ pub record NamesSlots (s after : Structure) (tail later : Tail) (lbn count : ℕ
   pub holds : HoldsLast after later new
   pub bitmap : bitmap_in after ≡ bitmap_in s
   pub left : room s.index ≤ room after.index + count
+  pub names : IsTrue old.honest → NamesMore 1 (range_with_len lbn count) (table_of old.image (home_of s)) (table_of new.image (home_of s))
+  pub slots : IsTrue old.honest → AddsZeroSlots (table_of old.image (home_of s)) (table_of new.image (home_of s))
   pub store : NamingSlots s tail lbn count old new.image
   pub free : IsTrue old.honest → SameFree (home_of s) old.image new.image
   pub went : Went (NamingSlots s tail lbn count old) old new 1 0
@@ -65,6 +68,8 @@ pub record LinksSlots (s after : Structure) (id : FileId) (count : ℕ) (old new
   pub in_use : (m : ℕ) → is_in_use (index_in s) m ≡ true → is_in_use (index_in after) m ≡ true
   pub bitmap : bitmap_in after ≡ bitmap_in s
   pub left : room s.index ≤ room after.index + count
+  pub links : IsTrue old.honest → LinksLoose 1 id.number (table_of old.image (home_of s)) (table_of new.image (home_of s))
+  pub slots : IsTrue old.honest → AddsZeroSlots (table_of old.image (home_of s)) (table_of new.image (home_of s))
   pub store : LinkingSlots s id count old new.image
   pub free : IsTrue old.honest → SameFree (home_of s) old.image new.image
   pub went : Went (LinkingSlots s id count old) old new 1 0

@@ -4,6 +4,8 @@ pub mod SlotLaws
 pub mod FileLaws
 pub mod Structure
 pub mod Open
+pub mod Allocation
+pub mod AllocationLaws
 pub mod Answers
 pub mod First
 pub mod Operations

@@ -1,5 +1,6 @@
 -- A file's last header in hand, and the blocks that it is to name (Files-11 On-Disk Structure Level 1, "File Header" and "Map Area").
 use Rattle.std.specs.Prelude.{◌≡◌, ℕ, ◌^◌, ◌<◌, ◌≤◌, false, IsTrue, List, if◌then◌else◌}
+use Rattle.std.specs.List.{range_with_len}
 use Rattle.f11_dev.specs.Disk.{Disk}
 use Rattle.f11_dev.specs.Image.{Image}
 use Rattle.f11_dev.specs.Went.{Went}
@@ -19,6 +20,7 @@ use Rattle.f11_store.specs.declared.files.FileId.{FileId}
 use Rattle.f11_vfy.specs.Sound.{HasSoundVolume}
 use Rattle.f11_vfy.specs.Volume.{volume_of}
 use Rattle.f11_writes.specs.NameLaws.{AreSpare}
+use Rattle.f11_files.specs.Allocation.{NamesMore}
 use Rattle.f11_files.specs.FileLaws.{HasPointersMore, room_in, with_more_blocks}
 use Rattle.f11_files.specs.Growing.{SameFree}
 use Rattle.f11_files.specs.StoreOf.{store_of}
@@ -72,6 +74,7 @@ pub record NamesRun (s : Structure) (tail after : Tail) (lbn count : ℕ) (old n
   pub fits : pointers_more tail.block lbn count ≤ room_in tail.block
   pub holds : HoldsLast s after new
   pub is_for : IsFor s new
+  pub names : IsTrue old.honest → NamesMore tail.file.number (range_with_len lbn count) (table_of old.image (home_of s)) (table_of new.image (home_of s))
   pub store : Naming s tail lbn count old new.image
   pub free : IsTrue old.honest → SameFree (home_of s) old.image new.image
   pub went : Went (Naming s tail lbn count old) old new 1 0

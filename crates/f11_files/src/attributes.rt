@@ -70,7 +70,8 @@ impl Structure {
             (D.disk device.old) (D.disk device.new)) }
         ensures refused { IfErr result (λ refusal. FailsToAlter false (with_replacement change.now)
             (home_of self.now) f refusal (D.disk device.old) (D.disk device.new)) }
-        ensures stays { StaysFor (is_refused is_grave result) self.now self.now (D.disk device.new) }
+        ensures stays { StaysFor (is_refused is_grave result) self.now self.now
+            (D.disk device.new) }
     {
         let mut block = [0; BLOCK_SIZE];
         self.read_first(device, f, &mut block)?;
@@ -93,7 +94,8 @@ impl Structure {
             (D.disk device.old) (D.disk device.new)) }
         ensures refused { IfErr result (λ refusal. FailsToAlter false with_delete_mark
             (home_of self.now) f refusal (D.disk device.old) (D.disk device.new)) }
-        ensures stays { StaysFor (is_refused is_grave result) self.now self.now (D.disk device.new) }
+        ensures stays { StaysFor (is_refused is_grave result) self.now self.now
+            (D.disk device.new) }
     {
         let mut block = [0; BLOCK_SIZE];
         self.read_first(device, f, &mut block)?;

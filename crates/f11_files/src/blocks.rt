@@ -62,9 +62,10 @@ impl Structure {
         requires some { 0 < vbn }
         ensures stored { OnOk result (StoresBlock (home_of self.now) f vbn block.now
             (D.disk device.old) (D.disk device.new)) }
-        ensures refused { IfErr result (λ refusal. FailsToStore false (home_of self.now) f vbn block.now
-            refusal (D.disk device.old) (D.disk device.new)) }
-        ensures stays { StaysFor (is_refused is_grave result) self.now self.now (D.disk device.new) }
+        ensures refused { IfErr result (λ refusal. FailsToStore false (home_of self.now) f vbn
+            block.now refusal (D.disk device.old) (D.disk device.new)) }
+        ensures stays { StaysFor (is_refused is_grave result) self.now self.now
+            (D.disk device.new) }
     {
         let lbn = self.locate(device, f, vbn)?;
         match device.write(lbn, block) {

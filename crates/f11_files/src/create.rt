@@ -61,11 +61,12 @@ impl Structure {
         attr: &[u8; 32],
     ) -> Result<FileId, Refusal>
         requires is_for { IsFor self.old (D.disk device.old) }
-        ensures created { IfOk result (λ f. Creates (home_of self.old) owner protection ident.now attr.now
-            f (D.disk device.old) (D.disk device.new)) }
-        ensures refused { IfErr result (λ refusal. FailsToCreate false (home_of self.old) owner protection
-            ident.now attr.now refusal (D.disk device.old) (D.disk device.new)) }
-        ensures stays { StaysFor (is_refused is_grave result) self.old self.new (D.disk device.new) }
+        ensures created { IfOk result (λ f. Creates (home_of self.old) owner protection ident.now
+            attr.now f (D.disk device.old) (D.disk device.new)) }
+        ensures refused { IfErr result (λ refusal. FailsToCreate false (home_of self.old) owner
+            protection ident.now attr.now refusal (D.disk device.old) (D.disk device.new)) }
+        ensures stays { StaysFor (is_refused is_grave result) self.old self.new
+            (D.disk device.new) }
     {
         let Some(number) = self.index.least_free() else {
             return Err(Refusal::NoHeader);
@@ -112,8 +113,8 @@ impl<D: Device> Files<D> {
         attr: &[u8; 32],
     ) -> Result<FileId, Refusal>
         ensures answers { Answers result self.old self.new }
-        ensures created { IfOk result (λ f. Creates (home_in self.old) owner protection ident.now attr.now
-            f (disk_in self.old) (disk_in self.new)) }
+        ensures created { IfOk result (λ f. Creates (home_in self.old) owner protection ident.now
+            attr.now f (disk_in self.old) (disk_in self.new)) }
         ensures refused { IfErr result (λ refusal. FailsToCreate (has_failed self.old)
             (home_in self.old) owner protection ident.now attr.now refusal
             (disk_in self.old) (disk_in self.new)) }

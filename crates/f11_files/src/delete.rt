@@ -24,7 +24,8 @@ impl Structure {
             (Deletes (home_of self.old) f (D.disk device.old) (D.disk device.new)) }
         ensures refused { IfErr result (λ refusal. FailsToDelete false (home_of self.old) f refusal
             (D.disk device.old) (D.disk device.new)) }
-        ensures stays { StaysFor (is_refused is_grave result) self.old self.new (D.disk device.new) }
+        ensures stays { StaysFor (is_refused is_grave result) self.old self.new
+            (D.disk device.new) }
     {
         let mut block = [0; BLOCK_SIZE];
         self.read_first(device, f, &mut block)?;

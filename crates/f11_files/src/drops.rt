@@ -39,8 +39,10 @@ impl Structure {
         ensures given { OnOk result
             (GivesRun (home_of self.old) lbn count (D.disk device.old) (D.disk device.new)) }
         ensures refused { IfErr result (λ refusal. BreaksOff (home_of self.old)
-            (store_on self.old (D.disk device.old)) 4 refusal (D.disk device.old) (D.disk device.new)) }
-        ensures stays { StaysFor (is_refused is_grave result) self.old self.new (D.disk device.new) }
+            (store_on self.old (D.disk device.old)) 4 refusal (D.disk device.old)
+            (D.disk device.new)) }
+        ensures stays { StaysFor (is_refused is_grave result) self.old self.new
+            (D.disk device.new) }
     {
         if count == 0 {
             return Ok(());
@@ -71,12 +73,13 @@ impl Structure {
             → AreAllSpare (volume_of (D.disk device.old).image (home_of self.old))
             (drop keep (blocks_named block.now)) }
         ensures given { OnOk result (GivesBlocks (home_of self.old)
-            (length (drop keep (blocks_named block.now))) (pointers_in block.now)
+            (drop keep (blocks_named block.now)) (pointers_in block.now)
             (D.disk device.old) (D.disk device.new)) }
         ensures refused { IfErr result (λ refusal. BreaksOff (home_of self.old)
             (store_on self.old (D.disk device.old)) (4 * pointers_in block.now) refusal
             (D.disk device.old) (D.disk device.new)) }
-        ensures stays { StaysFor (is_refused is_grave result) self.old self.new (D.disk device.new) }
+        ensures stays { StaysFor (is_refused is_grave result) self.old self.new
+            (D.disk device.new) }
     {
         let map = in_hand::map(block);
         let mut left = keep;
@@ -104,7 +107,8 @@ impl Structure {
         ensures refused { IfErr result (λ refusal. BreaksOff (home_of self.old)
             (with_file (store_on self.old (D.disk device.old)) n None) 2 refusal
             (D.disk device.old) (D.disk device.new)) }
-        ensures stays { StaysFor (is_refused is_grave result) self.old self.new (D.disk device.new) }
+        ensures stays { StaysFor (is_refused is_grave result) self.old self.new
+            (D.disk device.new) }
     {
         let mut dead = *block;
         kill(&mut dead);
@@ -138,7 +142,8 @@ impl Structure {
         ensures refused { IfErr result (λ refusal. BreaksOff (home_of self.old)
             (with_file (store_on self.old (D.disk device.old)) n None) (drop_cost block.now) refusal
             (D.disk device.old) (D.disk device.new)) }
-        ensures stays { StaysFor (is_refused is_grave result) self.old self.new (D.disk device.new) }
+        ensures stays { StaysFor (is_refused is_grave result) self.old self.new
+            (D.disk device.new) }
     {
         self.bury(device, n, block)?;
         self.give_from(device, block, 0)
@@ -166,7 +171,8 @@ impl Structure {
             (tail_cost (table_of (D.disk device.old).image (home_of self.old))
             (headers_behind (table_of (D.disk device.old).image (home_of self.old)) block.old))
             refusal (D.disk device.old) (D.disk device.new)) }
-        ensures stays { StaysFor (is_refused is_grave result) self.old self.new (D.disk device.new) }
+        ensures stays { StaysFor (is_refused is_grave result) self.old self.new
+            (D.disk device.new) }
     {
         for _ in 0..MOST_HEADERS {
             let n = match next(device, &self.index, block) {

@@ -1,9 +1,9 @@
 //! A file that is extended: it gets more blocks, run by run, which are zeros.
 ghost use Rattle.std.specs.Prelude.{◌≡◌, ◌+◌, ◌-◌, ◌*◌, ◌/◌, ◌<◌, ◌≤◌, false, IfErr, IfOk, IsTrue, OnOk};
 ghost use Rattle.f11_bits.specs.Transfers.{blocks_from};
-ghost use Rattle.f11_files.specs.Answers.{is_grave, is_refused, Breaks, Meanwhile};
+ghost use Rattle.f11_files.specs.Answers.{is_grave, is_refused, Breaks};
 ghost use Rattle.f11_files.specs.Drops.{with_more_free};
-ghost use Rattle.f11_files.specs.Extend.{AddsRun, ExtendingBy, ExtendsFile, FailsToExtend, IsLengthAfter, IsTailOf};
+ghost use Rattle.f11_files.specs.Extend.{AddsRun, ExtendingBy, ExtendsBy, ExtendsFile, FailsToExtend, IsLengthAfter, IsTailOf};
 ghost use Rattle.f11_files.specs.Extension.{AppendingRun, AppendsRun};
 ghost use Rattle.f11_files.specs.Growing.{GrowingBy};
 ghost use Rattle.f11_files.specs.Structure.{bitmap_in, home_of, store_on, IsFor, StaysFor};
@@ -12,7 +12,6 @@ ghost use Rattle.f11_files.specs.Take.{NoneBelow};
 ghost use Rattle.f11_header.specs.Header.{holds_header};
 ghost use Rattle.f11_store.specs.File.{need};
 ghost use Rattle.f11_files.specs.Pieces.{file_numbered, MayExtend};
-ghost use Rattle.f11_store.specs.Lags.{extend_work};
 ghost use Rattle.f11_vfy.specs.Volume.{volume_of};
 ghost use Rattle.f11_writes.specs.NameLaws.{AreSpare};
 
@@ -66,12 +65,13 @@ impl Structure {
             → AreSpare (volume_of (D.disk device.old).image (home_of self.old)) lbn count }
         requires may { let free = with_more_free (store_on self.old (D.disk device.old)) count in
             IsTrue (D.disk device.old).honest → MayExtend free tail.old.file.number count }
-        ensures appended { OnOk result (AppendsRun self.old self.new tail.old tail.new count (count + 1)
-            (D.disk device.old) (D.disk device.new)) }
+        ensures appended { OnOk result (AppendsRun self.old self.new tail.old tail.new lbn count
+            (count + 1) (D.disk device.old) (D.disk device.new)) }
         ensures refused { IfErr result (λ refusal. Breaks
             (AppendingRun self.old tail.old count (D.disk device.old)) (count + 4) refusal
             (D.disk device.old) (D.disk device.new)) }
-        ensures stays { StaysFor (is_refused is_grave result) self.old self.new (D.disk device.new) }
+        ensures stays { StaysFor (is_refused is_grave result) self.old self.new
+            (D.disk device.new) }
     {
         match self.zero_run(device, lbn, count) {
             Ok(()) => {}
@@ -108,14 +108,15 @@ impl Structure {
             → MayExtend (store_on self.old (D.disk device.old)) tail.old.file.number most }
         requires none_below { IsTrue (D.disk device.old).honest
             → NoneBelow (D.disk device.old).image (bitmap_in self.old) from }
-        ensures added { IfOk result (λ run. AddsRun self.old self.new tail.old tail.new from most run.0 run.1
-            (D.disk device.old) (D.disk device.new)) }
+        ensures added { IfOk result (λ run. AddsRun self.old self.new tail.old tail.new from most
+            run.0 run.1 (D.disk device.old) (D.disk device.new)) }
         ensures refused { let s = store_on self.old (D.disk device.old) in
             IfErr result (λ refusal. Breaks
             (GrowingBy (home_of self.old) s tail.old.file.number most (D.disk device.old))
             (blocks_from (bitmap_in self.old) from + 5 * most + 3) refusal
             (D.disk device.old) (D.disk device.new)) }
-        ensures stays { StaysFor (is_refused is_grave result) self.old self.new (D.disk device.new) }
+        ensures stays { StaysFor (is_refused is_grave result) self.old self.new
+            (D.disk device.new) }
     {
         let (lbn, count) = self.take_run(device, from, most)?;
         self.append_run(device, tail, lbn, count)?;
@@ -139,14 +140,15 @@ impl Structure {
         requires may { IsTrue (D.disk device.old).honest
             → MayExtend (store_on self.old (D.disk device.old)) tail.old.file.number n }
         ensures extended { OnOk result
-            (ExtendingBy self.old tail.old.file.number n (D.disk device.old) (D.disk device.new)) }
+            (ExtendsBy self.old tail.old.file.number n (D.disk device.old) (D.disk device.new)) }
         ensures refused { let s = store_on self.old (D.disk device.old) in
             let k = tail.old.file.number in
             IfErr result (λ refusal. Breaks
-            (Meanwhile (extend_work k (file_numbered s k).room n) (home_of self.old) (D.disk device.old))
+            (ExtendingBy self.old k n (D.disk device.old))
             (s.bitmap_blocks + 5 * n + 3 * need (file_numbered s k).room n + 3) refusal
             (D.disk device.old) (D.disk device.new)) }
-        ensures stays { StaysFor (is_refused is_grave result) self.old self.new (D.disk device.new) }
+        ensures stays { StaysFor (is_refused is_grave result) self.old self.new
+            (D.disk device.new) }
     {
         let mut from = 0;
         let mut left = n;
@@ -171,11 +173,13 @@ impl Structure {
     ) -> Result<u32, Refusal>
         requires is_for { IsFor self.old (D.disk device.old) }
         requires own { 4 ≤ f.number }
-        ensures extended { IfOk result (λ blocks. IsLengthAfter (home_of self.old) f n (D.disk device.old) blocks
+        ensures extended { IfOk result (λ blocks. IsLengthAfter (home_of self.old) f n
+            (D.disk device.old) blocks
             × ExtendsFile (home_of self.old) f n (D.disk device.old) (D.disk device.new)) }
-        ensures refused { IfErr result (λ refusal. FailsToExtend false (home_of self.old) f n refusal
-            (D.disk device.old) (D.disk device.new)) }
-        ensures stays { StaysFor (is_refused is_grave result) self.old self.new (D.disk device.new) }
+        ensures refused { IfErr result (λ refusal. FailsToExtend false (home_of self.old) f n
+            refusal (D.disk device.old) (D.disk device.new)) }
+        ensures stays { StaysFor (is_refused is_grave result) self.old self.new
+            (D.disk device.new) }
     {
         let mut first = [0; BLOCK_SIZE];
         let mut last = [0; BLOCK_SIZE];
@@ -207,7 +211,8 @@ impl<D: Device> Files<D> {
         requires id { IsIdFrom 4 f }
         requires some { 0 < n }
         ensures answers { Answers result self.old self.new }
-        ensures extended { IfOk result (λ blocks. IsLengthAfter (home_in self.old) f n (disk_in self.old) blocks
+        ensures extended { IfOk result (λ blocks. IsLengthAfter (home_in self.old) f n
+            (disk_in self.old) blocks
             × ExtendsFile (home_in self.old) f n (disk_in self.old) (disk_in self.new)) }
         ensures refused { IfErr result (λ refusal. FailsToExtend (has_failed self.old)
             (home_in self.old) f n refusal (disk_in self.old) (disk_in self.new)) }

@@ -62,12 +62,14 @@ impl Structure {
         requires given { MayBeGiven (home_of self.old) lbn count (D.disk device.old) }
         requires free { IsTrue (D.disk device.old).honest
             → 0 < free_headers (store_on self.old (D.disk device.old)) }
-        ensures entered { IfOk result (λ id. EntersHeader self.old self.new tail.now lbn count id block.new
-            (D.disk device.old) (D.disk device.new)) }
+        ensures entered { IfOk result (λ id. EntersHeader self.old self.new tail.now lbn count id
+            block.new (D.disk device.old) (D.disk device.new)) }
         ensures refused { IfErr result (λ refusal. Breaks
-            (Taking (home_of self.old) 0 1 (store_on self.old (D.disk device.old)) (D.disk device.old))
+            (Taking (home_of self.old) 0 1 (store_on self.old (D.disk device.old))
+            (D.disk device.old))
             3 refusal (D.disk device.old) (D.disk device.new)) }
-        ensures stays { StaysFor (is_refused is_grave result) self.old self.new (D.disk device.new) }
+        ensures stays { StaysFor (is_refused is_grave result) self.old self.new
+            (D.disk device.new) }
     {
         let Some(number) = self.index.least_free() else {
             return Err(Refusal::Damaged);
@@ -114,12 +116,13 @@ impl Structure {
         requires full { room_in tail.old.block ≡ 0 }
         requires may { let free = with_more_free (store_on self.old (D.disk device.old)) count in
             IsTrue (D.disk device.old).honest → MayExtend free tail.old.file.number count }
-        ensures appended { OnOk result (AppendsRun self.old self.new tail.old tail.new count 1
+        ensures appended { OnOk result (AppendsRun self.old self.new tail.old tail.new lbn count 1
             (D.disk device.old) (D.disk device.new)) }
         ensures refused { IfErr result (λ refusal. Breaks
             (AppendingRun self.old tail.old count (D.disk device.old)) 4 refusal
             (D.disk device.old) (D.disk device.new)) }
-        ensures stays { StaysFor (is_refused is_grave result) self.old self.new (D.disk device.new) }
+        ensures stays { StaysFor (is_refused is_grave result) self.old self.new
+            (D.disk device.new) }
     {
         if in_hand::map(&tail.block).segment() == LAST_SEGMENT {
             return Err(Refusal::Damaged);

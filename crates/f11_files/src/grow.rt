@@ -1,17 +1,16 @@
 //! The index file, which grows: it gets more slots, run by run, whose blocks are zeros.
 ghost use Rattle.std.specs.Prelude.{◌≡◌, ◌+◌, ◌-◌, ◌*◌, ◌/◌, ◌<◌, ◌≤◌, IfErr, IfOk, IsTrue, OnOk};
 ghost use Rattle.f11_bits.specs.Transfers.{blocks_from};
-ghost use Rattle.f11_files.specs.Answers.{is_grave, is_refused, Breaks, Meanwhile};
+ghost use Rattle.f11_files.specs.Answers.{is_grave, is_refused, Breaks};
 ghost use Rattle.f11_files.specs.Drops.{with_more_free};
 ghost use Rattle.f11_files.specs.FileLaws.{room_in};
-ghost use Rattle.f11_files.specs.GrowIndex.{AddsSlots, AppendingSlots, AppendsSlots, GrowingIndex, GrowingIndexBy};
+ghost use Rattle.f11_files.specs.GrowIndex.{AddsSlots, AppendingSlots, AppendsSlots, GrowingIndex, GrowingIndexBy, GrowsIndexBy};
 ghost use Rattle.f11_files.specs.IndexPieces.{MayGrowIndex};
 ghost use Rattle.f11_files.specs.Structure.{bitmap_in, home_of, store_on, IsFor, StaysFor};
 ghost use Rattle.f11_files.specs.Tail.{HoldsLast, MayBeGiven};
 ghost use Rattle.f11_files.specs.Take.{NoneBelow};
 ghost use Rattle.f11_index.specs.Kept.{room};
 ghost use Rattle.f11_store.specs.File.{need};
-ghost use Rattle.f11_store.specs.Lags.{grow_work};
 ghost use Rattle.f11_store.specs.Store.{index_file};
 ghost use Rattle.f11_vfy.specs.Volume.{volume_of};
 ghost use Rattle.f11_writes.specs.NameLaws.{AreSpare};
@@ -47,12 +46,13 @@ impl Structure {
         requires reserved { count ≤ room self.old.index }
         requires may { let free = with_more_free (store_on self.old (D.disk device.old)) count in
             IsTrue (D.disk device.old).honest → MayGrowIndex free count }
-        ensures appended { OnOk result (AppendsSlots self.old self.new tail.old tail.new count 1
+        ensures appended { OnOk result (AppendsSlots self.old self.new tail.old tail.new lbn count 1
             (D.disk device.old) (D.disk device.new)) }
         ensures refused { IfErr result (λ refusal. Breaks
             (AppendingSlots self.old count (D.disk device.old)) 4 refusal
             (D.disk device.old) (D.disk device.new)) }
-        ensures stays { StaysFor (is_refused is_grave result) self.old self.new (D.disk device.new) }
+        ensures stays { StaysFor (is_refused is_grave result) self.old self.new
+            (D.disk device.new) }
     {
         if in_hand::map(&tail.block).segment() == LAST_SEGMENT {
             return Err(Refusal::Damaged);
@@ -91,12 +91,13 @@ impl Structure {
         requires reserved { count ≤ room self.old.index }
         requires may { let free = with_more_free (store_on self.old (D.disk device.old)) count in
             IsTrue (D.disk device.old).honest → MayGrowIndex free count }
-        ensures appended { OnOk result (AppendsSlots self.old self.new tail.old tail.new count (count + 1)
-            (D.disk device.old) (D.disk device.new)) }
+        ensures appended { OnOk result (AppendsSlots self.old self.new tail.old tail.new lbn count
+            (count + 1) (D.disk device.old) (D.disk device.new)) }
         ensures refused { IfErr result (λ refusal. Breaks
             (AppendingSlots self.old count (D.disk device.old)) (count + 4) refusal
             (D.disk device.old) (D.disk device.new)) }
-        ensures stays { StaysFor (is_refused is_grave result) self.old self.new (D.disk device.new) }
+        ensures stays { StaysFor (is_refused is_grave result) self.old self.new
+            (D.disk device.new) }
     {
         match self.zero_run(device, lbn, count) {
             Ok(()) => {}
@@ -134,14 +135,15 @@ impl Structure {
             → MayGrowIndex (store_on self.old (D.disk device.old)) most }
         requires none_below { IsTrue (D.disk device.old).honest
             → NoneBelow (D.disk device.old).image (bitmap_in self.old) from }
-        ensures added { IfOk result (λ run. AddsSlots self.old self.new tail.old tail.new from most run.0 run.1
-            (D.disk device.old) (D.disk device.new)) }
+        ensures added { IfOk result (λ run. AddsSlots self.old self.new tail.old tail.new from most
+            run.0 run.1 (D.disk device.old) (D.disk device.new)) }
         ensures refused { let s = store_on self.old (D.disk device.old) in
             IfErr result (λ refusal. Breaks
             (GrowingIndexBy (home_of self.old) s most (D.disk device.old))
             (blocks_from (bitmap_in self.old) from + 5 * most + 3) refusal
             (D.disk device.old) (D.disk device.new)) }
-        ensures stays { StaysFor (is_refused is_grave result) self.old self.new (D.disk device.new) }
+        ensures stays { StaysFor (is_refused is_grave result) self.old self.new
+            (D.disk device.new) }
     {
         let (lbn, count) = self.take_run(device, from, most)?;
         self.append_slots(device, tail, lbn, count)?;
@@ -165,13 +167,15 @@ impl Structure {
         requires reserved { n ≤ room self.old.index }
         requires may { IsTrue (D.disk device.old).honest
             → MayGrowIndex (store_on self.old (D.disk device.old)) n }
-        ensures grown { OnOk result (GrowingIndex self.old n (D.disk device.old) (D.disk device.new)) }
+        ensures grown { OnOk result (GrowsIndexBy self.old n (D.disk device.old)
+            (D.disk device.new)) }
         ensures refused { let s = store_on self.old (D.disk device.old) in
             IfErr result (λ refusal. Breaks
-            (Meanwhile (grow_work (index_file s).room n) (home_of self.old) (D.disk device.old))
+            (GrowingIndex self.old n (D.disk device.old))
             (s.bitmap_blocks + 5 * n + 3 * need (index_file s).room n + 3) refusal
             (D.disk device.old) (D.disk device.new)) }
-        ensures stays { StaysFor (is_refused is_grave result) self.old self.new (D.disk device.new) }
+        ensures stays { StaysFor (is_refused is_grave result) self.old self.new
+            (D.disk device.new) }
     {
         let mut from = 0;
         let mut left = n;

@@ -88,11 +88,13 @@ impl Structure {
     pub(crate) fn grow_index<D: Device>(&mut self, device: &mut D, n: u32) -> Result<u32, Refusal>
         requires is_for { IsFor self.old (D.disk device.old) }
         requires some { 0 < n }
-        ensures grown { IfOk result (λ slots. IsSlotsAfter (home_of self.old) n (D.disk device.old) slots
+        ensures grown { IfOk result (λ slots. IsSlotsAfter (home_of self.old) n (D.disk device.old)
+            slots
             × GrowsIndexFile (home_of self.old) n (D.disk device.old) (D.disk device.new)) }
         ensures refused { IfErr result (λ refusal. FailsToGrow false (home_of self.old) n refusal
             (D.disk device.old) (D.disk device.new)) }
-        ensures stays { StaysFor (is_refused is_grave result) self.old self.new (D.disk device.new) }
+        ensures stays { StaysFor (is_refused is_grave result) self.old self.new
+            (D.disk device.new) }
     {
         let mut first = [0; BLOCK_SIZE];
         let mut last = [0; BLOCK_SIZE];
@@ -127,7 +129,8 @@ impl<D: Device> Files<D> {
     pub fn grow_index(&mut self, n: u32) -> Result<u32, Refusal>
         requires some { 0 < n }
         ensures answers { Answers result self.old self.new }
-        ensures grown { IfOk result (λ slots. IsSlotsAfter (home_in self.old) n (disk_in self.old) slots
+        ensures grown { IfOk result (λ slots. IsSlotsAfter (home_in self.old) n (disk_in self.old)
+            slots
             × GrowsIndexFile (home_in self.old) n (disk_in self.old) (disk_in self.new)) }
         ensures refused { IfErr result (λ refusal. FailsToGrow (has_failed self.old)
             (home_in self.old) n refusal (disk_in self.old) (disk_in self.new)) }

@@ -1,4 +1,5 @@
 //! Laws of the store of an image, each the contract of a function that does nothing.
+ghost use Rattle.f11_files.specs.AllocationLaws as allocation;
 ghost use Rattle.f11_files.specs.ExtensionLaws as extensions;
 ghost use Rattle.f11_files.specs.FieldLaws as fields;
 ghost use Rattle.f11_files.specs.FileLaws as files;
@@ -150,4 +151,10 @@ pub fn cleared_index_marks()
 /// The store of a fresh volume.
 pub fn fresh_volumes()
     ensures { fresh.FreshIsStored }
+{}
+
+/// Which blocks headers name, and which are free.
+pub fn allocation()
+    ensures cells { allocation.CellsAreNamed }
+    ensures free { allocation.FreeBlocksAreStored }
 {}

@@ -27,7 +27,8 @@ impl Structure {
         requires own { 4 ≤ tail.old.file.number }
         requires given { MayBeGiven (home_of self.now) lbn count (D.disk device.old) }
         ensures names { IfOk result (λ named. IsTrue named
-            → NamesRun self.now tail.old tail.new lbn count (D.disk device.old) (D.disk device.new)) }
+            → NamesRun self.now tail.old tail.new lbn count (D.disk device.old)
+            (D.disk device.new)) }
         ensures full { IfOk result (λ named. named ≡ false
             → HasNoPlace tail.old tail.new lbn count (D.disk device.old) (D.disk device.new)) }
         ensures failed { OnErr result

@@ -68,7 +68,8 @@ impl Structure {
         device: &mut D,
     ) -> Result<Structure, StructureFault>
         requires { IsTrue (D.disk device.old).honest → IsAccepted (D.disk device.old).image }
-        ensures reads { IfOk result (λ s. OpensStructure s (D.disk device.old) (D.disk device.new)) }
+        ensures reads { IfOk result (λ s. OpensStructure s (D.disk device.old)
+            (D.disk device.new)) }
         ensures refused { IfErr result (λ fault.
             HasNoStructure fault (D.disk device.old) (D.disk device.new)) }
     {

@@ -35,7 +35,8 @@ impl Structure {
         requires given { MayBeGiven (home_of self.old) lbn count (D.disk device.old) }
         requires within { lbn + count ≤ (bitmap_in self.old).size }
         requires slots { MayBecomeSlots self.old count (D.disk device.old) }
-        ensures names { IfOk result (λ named. IsTrue named → NamesSlots self.old self.new tail.old tail.new
+        ensures names { IfOk result (λ named. IsTrue named → NamesSlots self.old self.new tail.old
+            tail.new
             lbn count (D.disk device.old) (D.disk device.new)) }
         ensures full { IfOk result (λ named. named ≡ false → (self.new ≡ self.old)
             × HasNoPlace tail.old tail.new lbn count (D.disk device.old) (D.disk device.new)) }

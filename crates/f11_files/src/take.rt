@@ -33,9 +33,12 @@ impl Structure {
         ensures taken { IfOk result (λ run. TakesRun self.old self.new from most run.0 run.1
             (D.disk device.old) (D.disk device.new)) }
         ensures refused { IfErr result (λ refusal. Breaks
-            (Taking (home_of self.old) most 0 (store_on self.old (D.disk device.old)) (D.disk device.old))
-            (blocks_from (bitmap_in self.old) from + 2) refusal (D.disk device.old) (D.disk device.new)) }
-        ensures stays { StaysFor (is_refused is_grave result) self.old self.new (D.disk device.new) }
+            (Taking (home_of self.old) most 0 (store_on self.old (D.disk device.old))
+            (D.disk device.old))
+            (blocks_from (bitmap_in self.old) from + 2) refusal (D.disk device.old)
+            (D.disk device.new)) }
+        ensures stays { StaysFor (is_refused is_grave result) self.old self.new
+            (D.disk device.new) }
     {
         match self.storage.take(device, from, most) {
             Ok(Some(run)) => Ok(run),

@@ -50,7 +50,8 @@ impl Structure {
     ) -> Result<(u16, u32), Refusal>
         requires is_for { IsFor self.now (D.disk device.old) }
         requires own { 4 ≤ f.number }
-        ensures found { IfOk result (λ found. FindsLastKept (home_of self.now) (index_in self.now) f to
+        ensures found { IfOk result (λ found. FindsLastKept (home_of self.now)
+            (index_in self.now) f to
             found.0 found.1 block.new (D.disk device.old) (D.disk device.new)) }
         ensures refused { IfErr result (λ refusal. FailsToRead false
             (length_causes (store_on self.now (D.disk device.old)) f to)
@@ -85,7 +86,8 @@ impl Structure {
             × Cuts (home_of self.old) f to (D.disk device.old) (D.disk device.new)) }
         ensures refused { IfErr result (λ refusal. FailsToCut false (home_of self.old) f to refusal
             (D.disk device.old) (D.disk device.new)) }
-        ensures stays { StaysFor (is_refused is_grave result) self.old self.new (D.disk device.new) }
+        ensures stays { StaysFor (is_refused is_grave result) self.old self.new
+            (D.disk device.new) }
     {
         let mut block = [0; BLOCK_SIZE];
         let (n, keep) = self.last_kept(device, f, to, &mut block)?;
