@@ -1,10 +1,7 @@
 -- A header that is killed, and whose slot leaves use.
 use Rattle.std.proofs.Common.{◌≡◌, ◌⊎◌, ◌<◌, ◌≤◌, ℕ, Bool, true, false, cond, IsTrue, List, None, eqb, length, inl, inr, refl, sym, ap, subst, ◌∙◌, arith}
 use Rattle.std.proofs.Math.ListN.{set}
-use Rattle.std.specs.List.{All}
-use Rattle.std.proofs.lemmas.List.{length-set}
 use Rattle.f11_bytes.specs.Words.{with_word}
-use Rattle.f11_bits.specs.Bitmap.{Bitmap, LiesWithin as BitmapLiesWithin}
 use Rattle.f11_dev.specs.Disk.{Disk, with_transfer, with_block_at}
 use Rattle.f11_dev.specs.Image.{Image}
 use Rattle.f11_dev.specs.Went.{Went}
@@ -14,7 +11,7 @@ use Rattle.f11_header.specs.Header.{IsDead}
 use Rattle.f11_header.specs.Writing.{dead_header}
 use Rattle.f11_header.proofs.AreaLemmas.{changes-with_word, word-kept}
 use Rattle.f11_home.specs.Home.{HomeFields}
-use Rattle.f11_index.specs.Calls.{bitmap_place, bitmap_block, SetsBit, HasBitWritten, WritesBit, FailsToWriteBit, with_bitmap_block}
+use Rattle.f11_index.specs.Calls.{SetsBit, HasBitWritten, WritesBit, FailsToWriteBit, with_bitmap_block}
 use Rattle.f11_index.specs.Growth.{with_header}
 use Rattle.f11_index.specs.HeaderBlock.{blocks_named}
 use Rattle.f11_index.specs.IndexFile.{Index, index_of, slots, header_lbn}
@@ -39,8 +36,9 @@ use Rattle.f11_files.specs.Drops.{FreesMore, IsFreeing, Freeing, BreaksOff, AreA
 use Rattle.f11_files.specs.Growing.{SameFree}
 use Rattle.f11_files.specs.SlotLaws.{with_use, IsLoose}
 use Rattle.f11_files.specs.StoreOf.{is_first, store_of}
-use Rattle.f11_files.specs.Structure.{index_in, bitmap_in, home_of, store_on, Lies, Keeps, IsFor, StaysFor}
+use Rattle.f11_files.specs.Structure.{index_in, home_of, store_on, Lies, Keeps, IsFor, StaysFor}
 use Rattle.f11_files.specs.declared.structure.Structure.{Structure}
+use Rattle.f11_files.proofs.CreateLemmas.{lies-bit}
 use Rattle.f11_files.proofs.AlterLemmas.{free-slot, keeps-header}
 use Rattle.f11_files.proofs.FirstLemmas.{table-of}
 use Rattle.f11_files.proofs.FreeingLemmas.{frees-none, sound-freed}
@@ -71,20 +69,6 @@ frees-slot s n = record {
     go : (b used : Bool) → used ≡ false → cond b false used ≡ false
     go true used is = refl
     go false used is = is
-
--- what is kept lies on the device still where a bit was cleared
-lies-cleared : (s t : Structure) (n blocks : ℕ) → bitmap_in t ≡ bitmap_in s → SetsBit false n (index_in s) (index_in t) → Lies s blocks → Lies t blocks
-lies-cleared s t n blocks bitmap bit lies =
-    let same = bit.one_block in
-    let count = ap (λ (x : Index). length x.bitmap) same ∙ length-set (index_in s).bitmap (bitmap_place n) (bitmap_block (index_in t) n) in
-    record {
-      index = record {
-        bitmap = let here = lies.index.bitmap in let at = ap (λ (x : Index). x.bitmap_lbn) same in omega (arith, here, at, count);
-        headers = subst (All (λ lbn. lbn < blocks)) (sym (ap (λ (x : Index). x.headers) same)) lies.index.headers;
-      };
-      bitmap = subst (λ (b : Bitmap). BitmapLiesWithin b blocks) (sym bitmap) lies.bitmap;
-      volume = let here = lies.volume in let at = ap (λ (b : Bitmap). b.size) bitmap in omega (arith, here, at);
-    }
 
 module _ (s : Structure) (n lbn : ℕ) (block dead : List ℕ) (old : Disk) (for : IsFor s old) (holds : HoldsHeader (index_in s) n block old)
     (may : IsTrue old.honest → MayDrop (table_of old.image (home_of s)) n) (is_dead : dead ≡ dead_header block) (killed_is : IsDead dead) (at : lbn ≡ header_lbn (index_in s) n) where
@@ -266,7 +250,7 @@ module _ (s : Structure) (n lbn : ℕ) (block dead : List ℕ) (old : Disk) (for
       pub buried-stays : StaysFor false s (record s { index = after }) new
       buried-stays = record {
         home = refl;
-        lies = λ _. subst (Lies (record s { index = after })) (sym buries.writes.went.size) (lies-cleared s (record s { index = after }) n (length old.image) refl cleared_is.bit for.lies);
+        lies = λ _. subst (Lies (record s { index = after })) (sym buries.writes.went.size) (lies-bit s (record s { index = after }) false n (length old.image) refl cleared_is.bit for.lies);
         sound = sound-freed home gone old new for.sound buries.writes;
         keeps = λ _ honest. subst (Keeps (record s { index = after })) (sym image-new) (kept-now (sym buries.writes.went.honest ∙ honest));
       }

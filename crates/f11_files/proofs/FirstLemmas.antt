@@ -1,8 +1,9 @@
 -- A file's first header, read or not.
-use Rattle.std.proofs.Common.{◌≡◌, ◌⊎◌, ℕ, true, false, IsTrue, List, Some, inl, inr, sym, ap, subst, ◌∙◌}
+use Rattle.std.proofs.Common.{◌≡◌, ◌⊎◌, ◌<◌, ℕ, true, false, IsTrue, List, length, Some, inl, inr, sym, ap, subst, ◌∙◌, arith}
 use Rattle.std.specs.List.{slice_get}
 use Rattle.std.proofs.lemmas.Bool.{both_ways}
 use Rattle.f11_dev.specs.Disk.{Disk, with_transfer}
+use Rattle.f11_dev.specs.Image.{Image}
 use Rattle.f11_dev.proofs.LookedLemmas.{looked_read}
 use Rattle.f11_header.specs.Fields.{map_area}
 use Rattle.f11_header.specs.MapFields.{segment}
@@ -10,6 +11,7 @@ use Rattle.f11_header.specs.Header.{IsHeader, IsDead}
 use Rattle.f11_index.specs.HeaderBlock.{segment_number}
 use Rattle.f11_index.specs.IndexFile.{Index, is_in_use, header_lbn}
 use Rattle.f11_index.specs.Table.{Table, table_in, table_of}
+use Rattle.f11_index.proofs.InUseLemmas.{header-within, in_use-some, in_use-slot}
 use Rattle.f11_chain.specs.Calls.{table}
 use Rattle.f11_chain.proofs.StepLemmas.{table-in_use, table-header}
 use Rattle.f11_store.specs.declared.files.FileId.{FileId}
@@ -21,6 +23,13 @@ use Rattle.f11_files.specs.declared.structure.Structure.{Structure}
 -- the headers of the disk are those of its volume
 pub table-of : (s : Structure) (disk : Disk) → IsFor s disk → IsTrue disk.honest → table (index_in s) disk ≡ table_of disk.image (home_of s)
 table-of s disk for honest = ap (table_in disk.image) (for.keeps honest).index_is
+
+-- the place of a header in use is on the device, and on one that is as large
+pub place-within : (s : Structure) (n place : ℕ) (old : Disk) (now : Image) → IsFor s old → is_in_use (index_in s) n ≡ true → length now ≡ length old.image → place ≡ header_lbn (index_in s) n
+    → place < length now
+place-within s n place old now for used size at =
+    let within = header-within (index_in s) n (length old.image) for.lies.index (in_use-some (index_in s) n used) (in_use-slot (index_in s) n used) in
+    omega (arith, within, size, at)
 
 -- each header in use is dead or valid
 pub dead-or-valid : (s : Structure) (disk : Disk) (n : ℕ) → IsFor s disk → IsTrue disk.honest → is_in_use (index_in s) n ≡ true

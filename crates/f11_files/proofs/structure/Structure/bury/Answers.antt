@@ -1,8 +1,9 @@
 use Rattle.std.proofs.Common.{refl}
-use Rattle.f11_index.proofs.InUseLemmas.{in_use-some, in_use-slot, header-within}
+use Rattle.f11_index.proofs.InUseLemmas.{in_use-some, in_use-slot}
 use Rattle.f11_files.specs.Structure.{index_in}
 use Rattle.f11_files.proofs.BuryLemmas.{fails-killed, fails-bit, buries, buried-stays}
 use Rattle.f11_files.proofs.FreeingLemmas.{broken-stays}
+use Rattle.f11_files.proofs.FirstLemmas.{place-within}
 use Rattle.f11_files.proofs.structure.Structure.bury.Goals as goal
 
 pub lbn_of_header-requires-clause-some : goal.lbn_of_header-requires-clause-some
@@ -12,10 +13,7 @@ pub lbn_of_header-requires-clause-slot : goal.lbn_of_header-requires-clause-slot
 lbn_of_header-requires-clause-slot g c = in_use-slot (index_in c.args.self.now) c.args.n c.requires.holds.in_use
 
 pub write-requires : goal.write-requires
-write-requires g c =
-    let index = index_in c.args.self.now in
-    let in_use = c.requires.holds.in_use in
-    rw c.lbn_of_header.ensures (header-within index c.args.n _ c.requires.is_for.lies.index (in_use-some index c.args.n in_use) (in_use-slot index c.args.n in_use))
+write-requires g c = place-within c.args.self.now c.args.n _ _ _ c.requires.is_for c.requires.holds.in_use refl c.lbn_of_header.ensures
 
 pub returns-in-Err-clause-refused : goal.returns-in-Err-clause-refused
 returns-in-Err-clause-refused g c =

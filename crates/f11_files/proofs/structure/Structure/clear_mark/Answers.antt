@@ -1,8 +1,9 @@
-use Rattle.std.proofs.Common.{sym, subst, List, ℕ}
-use Rattle.f11_index.proofs.InUseLemmas.{in_use-some, in_use-slot, header-within}
+use Rattle.std.proofs.Common.{refl, sym, subst, List, ℕ}
+use Rattle.f11_index.proofs.InUseLemmas.{in_use-slot}
 use Rattle.f11_files.specs.Clear.{ClearsMark}
 use Rattle.f11_files.specs.Structure.{index_in}
 use Rattle.f11_files.proofs.ClearLemmas.{clears-none, clears-mark, fails-clear}
+use Rattle.f11_files.proofs.FirstLemmas.{place-within}
 use Rattle.f11_files.proofs.structure.Structure.clear_mark.Goals as goal
 
 pub returns-then-not-clear_contiguous-clause-clears : goal.returns-then-not-clear_contiguous-clause-clears
@@ -17,11 +18,7 @@ pub lbn_of_header-requires-clause-slot : goal.lbn_of_header-requires-clause-slot
 lbn_of_header-requires-clause-slot g c = in_use-slot (index_in c.args.self.now) c.args.f.number c.requires.holds.header.in_use
 
 pub write-requires : goal.write-requires
-write-requires g c =
-    let index = index_in c.args.self.now in
-    let n = c.args.f.number in
-    let in_use = c.requires.holds.header.in_use in
-    rw c.lbn_of_header.ensures (header-within index n _ c.requires.is_for.lies.index (in_use-some index n in_use) (in_use-slot index n in_use))
+write-requires g c = place-within c.args.self.now c.args.f.number _ _ _ c.requires.is_for c.requires.holds.header.in_use refl c.lbn_of_header.ensures
 
 pub returns-in-Ok-clause-clears : goal.returns-in-Ok-clause-clears
 returns-in-Ok-clause-clears g c =

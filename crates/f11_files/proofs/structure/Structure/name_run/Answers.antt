@@ -1,6 +1,8 @@
-use Rattle.f11_index.proofs.InUseLemmas.{in_use-some, in_use-slot, header-within}
+use Rattle.std.proofs.Common.{refl}
+use Rattle.f11_index.proofs.InUseLemmas.{in_use-some, in_use-slot}
 use Rattle.f11_files.specs.Structure.{index_in}
 use Rattle.f11_files.proofs.NameRunLemmas.{names-run, fails-name}
+use Rattle.f11_files.proofs.FirstLemmas.{place-within}
 use Rattle.f11_files.proofs.structure.Structure.name_run.Goals as goal
 
 pub lbn_of_header-requires-clause-some : goal.lbn_of_header-requires-clause-some
@@ -10,11 +12,7 @@ pub lbn_of_header-requires-clause-slot : goal.lbn_of_header-requires-clause-slot
 lbn_of_header-requires-clause-slot g c = in_use-slot (index_in c.args.self.now) c.args.tail.now.number c.requires.last.header.in_use
 
 pub write-requires : goal.write-requires
-write-requires g c =
-    let index = index_in c.args.self.now in
-    let n = c.args.tail.now.number in
-    let in_use = c.requires.last.header.in_use in
-    rw c.lbn_of_header.ensures (header-within index n _ c.requires.is_for.lies.index (in_use-some index n in_use) (in_use-slot index n in_use))
+write-requires g c = place-within c.args.self.now c.args.tail.now.number _ _ _ c.requires.is_for c.requires.last.header.in_use refl c.lbn_of_header.ensures
 
 pub returns-in-Ok-write-clause-names : goal.returns-in-Ok-write-clause-names
 returns-in-Ok-write-clause-names g c = λ _.

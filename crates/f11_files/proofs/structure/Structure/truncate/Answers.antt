@@ -1,11 +1,12 @@
 use Rattle.std.proofs.Common.{length, refl, ap}
 use Rattle.f11_dev.specs.Image.{Image}
-use Rattle.f11_index.proofs.InUseLemmas.{in_use-some, in_use-slot, header-within}
+use Rattle.f11_index.proofs.InUseLemmas.{in_use-some, in_use-slot}
 use Rattle.f11_files.specs.Structure.{index_in}
 use Rattle.f11_files.proofs.AnswerLemmas.{handed}
 use Rattle.f11_files.proofs.CutLemmas.{fails-written, written-for, spare-now, fails-giving, behind-hangs, fails-behind, cuts-file}
 use Rattle.f11_files.proofs.FreeingLemmas.{stays-for, stays-then}
 use Rattle.f11_files.proofs.WriteLemmas.{failed-stays}
+use Rattle.f11_files.proofs.FirstLemmas.{place-within}
 use Rattle.f11_files.proofs.structure.Structure.truncate.Goals as goal
 
 pub lbn_of_header-requires-clause-some : goal.lbn_of_header-requires-clause-some
@@ -17,10 +18,7 @@ lbn_of_header-requires-clause-slot g c = in_use-slot (index_in c.args.self.now) 
 pub write-requires : goal.write-requires
 write-requires g c =
     let found = c.in_ok-n.ensures.found in
-    let index = index_in c.args.self.now in
-    let in_use = found.header.in_use in
-    rw (c.lbn_of_header.ensures, ap (λ (i : Image). length i) found.looked.image)
-    (header-within index c.in_ok-n.n _ c.requires.is_for.lies.index (in_use-some index c.in_ok-n.n in_use) (in_use-slot index c.in_ok-n.n in_use))
+    place-within c.args.self.now c.in_ok-n.n _ _ _ c.requires.is_for found.header.in_use (ap (λ (i : Image). length i) found.looked.image) c.lbn_of_header.ensures
 
 pub returns-in-Err-clause-refused : goal.returns-in-Err-clause-refused
 returns-in-Err-clause-refused g c =

@@ -1,9 +1,10 @@
 use Rattle.std.proofs.Common.{length, ap}
 use Rattle.f11_dev.specs.Image.{Image}
-use Rattle.f11_index.proofs.InUseLemmas.{in_use-some, in_use-slot, header-within}
+use Rattle.f11_index.proofs.InUseLemmas.{in_use-slot}
 use Rattle.f11_store.specs.Changes.{with_replacement}
 use Rattle.f11_files.specs.Structure.{index_in}
 use Rattle.f11_files.proofs.AlterLemmas.{alters, altered-stays, fails-alter, fails-altered}
+use Rattle.f11_files.proofs.FirstLemmas.{place-within}
 use Rattle.f11_files.proofs.structure.Structure.write_attr.Goals as goal
 
 pub lbn_of_header-requires-clause-slot : goal.lbn_of_header-requires-clause-slot
@@ -12,10 +13,7 @@ lbn_of_header-requires-clause-slot g c = in_use-slot (index_in c.args.self.now) 
 pub write-requires : goal.write-requires
 write-requires g c =
     let found = c.in_ok-read_first.ensures.found in
-    let index = index_in c.args.self.now in
-    let in_use = found.holds.header.in_use in
-    rw (c.lbn_of_header.ensures, ap (λ (i : Image). length i) found.looked.image)
-    (header-within index c.args.f.number _ c.requires.is_for.lies.index (in_use-some index c.args.f.number in_use) (in_use-slot index c.args.f.number in_use))
+    place-within c.args.self.now c.args.f.number _ _ _ c.requires.is_for found.holds.header.in_use (ap (λ (i : Image). length i) found.looked.image) c.lbn_of_header.ensures
 
 pub returns-in-Ok-clause-altered : goal.returns-in-Ok-clause-altered
 returns-in-Ok-clause-altered g c =
