@@ -1,12 +1,10 @@
 //! The files of an open Files-11 volume.
-ghost use Rattle.std.specs.Prelude.{◌≡◌};
-
-use crate::fixtures::{SEVENS, SYSTEM, ZEROS, get, keep, linked, memory, put_words};
+use crate::fixtures::{SEVENS, SYSTEM, ZEROS, file, get, keep, linked, memory, put_words};
 use crate::volumes;
 use f11_bytes::Block;
 use f11_dev::{Device, DeviceFault, FailOnce, Liar, Memory};
 use f11_files::{Files, OpenFault};
-use f11_store::{Attr, Change, FileId, Refusal, Uic};
+use f11_store::{Attr, Change, Refusal, Uic};
 use f11_vfy::{Accepted, Report, verify};
 use std::alloc::Global;
 use std::test::Fail;
@@ -16,18 +14,6 @@ const USER: Uic = Uic {
     group: 0o200,
     member: 1,
 };
-
-/// The identification of a file.
-pub fn id(number: u16, sequence: u16) -> FileId
-    ensures number { result.number ≡ number }
-    ensures volume { result.volume ≡ 0 }
-{
-    FileId {
-        number,
-        sequence,
-        volume: 0,
-    }
-}
 
 /// Opens the volume of a device.
 pub fn opened<D: Device + Drop>(alloc: Global, device: D) -> Result<Files<D>, Fail> {
@@ -74,7 +60,7 @@ fn slots_are_given_in_order(rt: HostRuntime) -> Result<(), Fail> {
     assert_eq!(rt; files.space(), (2, 11, 16));
     for (number, sequence) in [(6, 1), (7, 6), (8, 65535), (9, 1), (10, 1)] {
         let made = files.create(USER, 0o160000, &[7; 46], &[9; 32]);
-        assert_eq!(rt; made, Ok(id(number, sequence)));
+        assert_eq!(rt; made, Ok(file(number, sequence)));
     }
     for _ in 0..6 {
         assert!(rt; files.create(USER, 0, &[0; 46], &[0; 32]).is_ok());
@@ -90,8 +76,11 @@ fn slots_are_given_in_order(rt: HostRuntime) -> Result<(), Fail> {
 #[test]
 fn attributes_are_written(rt: HostRuntime) -> Result<(), Fail> {
     let mut files = opened(rt.alloc(), small(rt.alloc(), &[])?)?;
-    assert_eq!(rt; files.create(USER, 0o360, &[1; 46], &[2; 32]), Ok(id(6, 1)));
-    let f = id(6, 1);
+    assert_eq!(rt;
+        files.create(USER, 0o360, &[1; 46], &[2; 32]),
+        Ok(file(6, 1))
+    );
+    let f = file(6, 1);
     let mut wanted = Attr {
         owner: USER,
         protection: 0o360,
@@ -109,9 +98,9 @@ fn attributes_are_written(rt: HostRuntime) -> Result<(), Fail> {
     wanted.protection = 0o17;
     wanted.characteristics = 0o100000;
     assert_eq!(rt; files.read_attr(f), Ok(wanted));
-    assert_eq!(rt; files.mark(id(6, 2)), Err(Refusal::NoSuchFile));
-    assert_eq!(rt; files.read_attr(id(17, 1)), Err(Refusal::NoSuchFile));
-    assert_eq!(rt; files.read_attr(id(7, 0)), Err(Refusal::NoSuchFile));
+    assert_eq!(rt; files.mark(file(6, 2)), Err(Refusal::NoSuchFile));
+    assert_eq!(rt; files.read_attr(file(17, 1)), Err(Refusal::NoSuchFile));
+    assert_eq!(rt; files.read_attr(file(7, 0)), Err(Refusal::NoSuchFile));
     assert!(rt; is_accepted(rt.alloc(), files.abandon()));
     Ok(())
 }
@@ -120,9 +109,9 @@ fn attributes_are_written(rt: HostRuntime) -> Result<(), Fail> {
 fn in_two_headers(alloc: Global, first: u16, sequence: u16) -> Result<Memory, Fail> {
     let mut device = small(alloc, &[])?;
     let next = first.saturating_add(1);
-    let header = linked(id(first, sequence), 0, id(next, 1), &[(22, 0)]);
+    let header = linked(file(first, sequence), 0, file(next, 1), &[(22, 0)]);
     keep(&mut device, u32::from(first) + 2, &header)?;
-    let header = linked(id(next, 1), 1, id(0, 0), &[(23, 0)]);
+    let header = linked(file(next, 1), 1, file(0, 0), &[(23, 0)]);
     keep(&mut device, u32::from(next) + 2, &header)?;
     // the slots up to the next one are in use, and blocks 22 and 23 are
     let slots = if first == 5 { 0x3f } else { 0x7f };
@@ -134,8 +123,8 @@ fn in_two_headers(alloc: Global, first: u16, sequence: u16) -> Result<Memory, Fa
 #[test]
 fn blocks_are_found_by_number(rt: HostRuntime) -> Result<(), Fail> {
     let mut files = opened(rt.alloc(), in_two_headers(rt.alloc(), 5, 5)?)?;
-    let f = id(5, 5);
-    assert_eq!(rt; (files.length(f), files.length(id(4, 4))), (Ok(2), Ok(1)));
+    let f = file(5, 5);
+    assert_eq!(rt; (files.length(f), files.length(file(4, 4))), (Ok(2), Ok(1)));
     assert_eq!(rt; files.write_block(f, 2, &SEVENS), Ok(()));
     let mut block: Block = SEVENS;
     let before = files.lent().transfers();
@@ -148,7 +137,7 @@ fn blocks_are_found_by_number(rt: HostRuntime) -> Result<(), Fail> {
     assert_eq!(rt; files.read_block(f, 3, &mut block), Err(Refusal::EndOfFile));
     assert_eq!(rt; files.write_block(f, 3, &ZEROS), Err(Refusal::EndOfFile));
     assert_eq!(rt;
-        files.read_block(id(6, 1), 1, &mut block),
+        files.read_block(file(6, 1), 1, &mut block),
         Err(Refusal::NoSuchFile)
     );
     assert!(rt; block == SEVENS && !files.failed());
@@ -164,13 +153,13 @@ fn a_header_that_is_lost_is_damage(rt: HostRuntime) -> Result<(), Fail> {
     let mut files = opened(rt.alloc(), device)?;
     files.lent().begin();
     let mut block: Block = SEVENS;
-    assert_eq!(rt; files.read_block(id(5, 5), 1, &mut block), Ok(()));
+    assert_eq!(rt; files.read_block(file(5, 5), 1, &mut block), Ok(()));
     assert_eq!(rt;
-        files.read_block(id(5, 5), 2, &mut block),
+        files.read_block(file(5, 5), 2, &mut block),
         Err(Refusal::Damaged)
     );
     assert!(rt; files.failed());
-    assert_eq!(rt; files.length(id(4, 4)), Err(Refusal::VolumeFailed));
+    assert_eq!(rt; files.length(file(4, 4)), Err(Refusal::VolumeFailed));
     assert_eq!(rt;
         files.create(USER, 0, &[0; 46], &[0; 32]),
         Err(Refusal::VolumeFailed)
@@ -181,9 +170,9 @@ fn a_header_that_is_lost_is_damage(rt: HostRuntime) -> Result<(), Fail> {
 #[test]
 fn a_file_is_cut(rt: HostRuntime) -> Result<(), Fail> {
     let mut files = opened(rt.alloc(), in_two_headers(rt.alloc(), 6, 1)?)?;
-    let f = id(6, 1);
+    let f = file(6, 1);
     assert_eq!(rt; files.truncate(f, 3), Err(Refusal::EndOfFile));
-    assert_eq!(rt; files.truncate(id(6, 2), 0), Err(Refusal::NoSuchFile));
+    assert_eq!(rt; files.truncate(file(6, 2), 0), Err(Refusal::NoSuchFile));
     assert_eq!(rt; files.truncate(f, 2), Ok(2));
     assert_eq!(rt; files.space(), (0, 9, 16));
     assert_eq!(rt; files.truncate(f, 1), Ok(1));
@@ -200,13 +189,16 @@ fn headers_and_blocks_of_a_file_go(rt: HostRuntime) -> Result<(), Fail> {
     let mut files = opened(rt.alloc(), in_two_headers(rt.alloc(), 6, 1)?)?;
     assert_eq!(rt; files.space(), (0, 9, 16));
     let before = files.lent().transfers();
-    assert_eq!(rt; files.delete(id(6, 1)), Ok(()));
+    assert_eq!(rt; files.delete(file(6, 1)), Ok(()));
     assert_eq!(rt; files.lent().transfers(), before.saturating_add(10));
     assert_eq!(rt; files.space(), (2, 11, 16));
-    assert_eq!(rt; files.delete(id(6, 1)), Err(Refusal::NoSuchFile));
-    assert_eq!(rt; files.create(USER, 0, &[0; 46], &[0; 32]), Ok(id(6, 2)));
-    assert_eq!(rt; files.create(USER, 0, &[0; 46], &[0; 32]), Ok(id(7, 2)));
-    assert_eq!(rt; files.read_attr(id(6, 1)).err(), Some(Refusal::NoSuchFile));
+    assert_eq!(rt; files.delete(file(6, 1)), Err(Refusal::NoSuchFile));
+    assert_eq!(rt; files.create(USER, 0, &[0; 46], &[0; 32]), Ok(file(6, 2)));
+    assert_eq!(rt; files.create(USER, 0, &[0; 46], &[0; 32]), Ok(file(7, 2)));
+    assert_eq!(rt;
+        files.read_attr(file(6, 1)).err(),
+        Some(Refusal::NoSuchFile)
+    );
     assert!(rt; is_accepted(rt.alloc(), files.abandon()));
     Ok(())
 }
@@ -216,16 +208,16 @@ fn calls<D: Device>(files: &mut Files<D>) -> bool {
     let mut block: Block = ZEROS;
     let answers = [
         files.create(SYSTEM, 0, &[0; 46], &[0; 32]).err(),
-        files.read_attr(id(4, 4)).err(),
-        files.write_attr(id(4, 4), &Change::Protect(0)).err(),
-        files.mark(id(6, 1)).err(),
-        files.length(id(4, 4)).err(),
-        files.read_block(id(4, 4), 1, &mut block).err(),
-        files.write_block(id(4, 4), 1, &block).err(),
-        files.extend(id(4, 4), 1).err(),
-        files.truncate(id(4, 4), 1).err(),
+        files.read_attr(file(4, 4)).err(),
+        files.write_attr(file(4, 4), &Change::Protect(0)).err(),
+        files.mark(file(6, 1)).err(),
+        files.length(file(4, 4)).err(),
+        files.read_block(file(4, 4), 1, &mut block).err(),
+        files.write_block(file(4, 4), 1, &block).err(),
+        files.extend(file(4, 4), 1).err(),
+        files.truncate(file(4, 4), 1).err(),
         files.grow_index(1).err(),
-        files.delete(id(6, 1)).err(),
+        files.delete(file(6, 1)).err(),
     ];
     let failed = answers
         .iter()

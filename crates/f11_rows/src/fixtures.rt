@@ -1,4 +1,6 @@
 //! What the tests have in common.
+ghost use Rattle.std.specs.Prelude.{◌≡◌};
+
 use f11_bytes::{BLOCK_SIZE, Block, NoMemory, read_word, write_word, zeros};
 use f11_dev::{Device, DeviceFault, Memory};
 use f11_findings::{Finding, Findings};
@@ -21,7 +23,11 @@ pub const SYSTEM: Uic = Uic {
 /// The name words of `A.TXT;1`.
 pub const A_TXT: [u16; 5] = [1600, 0, 0, 32980, 1];
 
-pub fn file(number: u16, sequence: u16) -> FileId {
+/// The identification of a file.
+pub fn file(number: u16, sequence: u16) -> FileId
+    ensures number { result.number ≡ number }
+    ensures volume { result.volume ≡ 0 }
+{
     FileId {
         number,
         sequence,
