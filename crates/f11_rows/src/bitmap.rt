@@ -37,7 +37,11 @@ fn device_with(alloc: Global, first: &Block, second: &Block) -> Result<Memory, F
 fn load<D: Device>(device: &mut Liar<D>, size: u32) -> Result<Storage, DeviceFault>
     requires some { 0 < size }
     requires few { size ≤ 8192 }
-    ensures { IfOk result (λ storage. bitmap_of storage ≡ record { places = 1 ∷ 2 ∷ []; size = size }) }
+    ensures { IfOk result (λ storage. bitmap_of storage ≡ record {
+      places = 1 ∷ 2 ∷ [];
+      size =
+          size;
+    }) }
 {
     if device.blocks() < 3 {
         return Err(DeviceFault);

@@ -48,7 +48,8 @@ pub fn small_volume(alloc: Global, slots: u16) -> Result<Memory, Fail> {
 
 /// Finds the home block of a device, and loads its index file, by three transfers on a small volume.
 pub fn load<D: Device>(alloc: Global, device: &mut D) -> Result<IndexFile, IndexFault>
-    ensures { IfOk result (λ index. LiesWithin (index_kept index) (length (D.disk device.new).image)) }
+    ensures { IfOk result (λ index. LiesWithin (index_kept index)
+        (length (D.disk device.new).image)) }
 {
     let Ok(home) = find(device) else {
         return Err(IndexFault::DeviceFault);

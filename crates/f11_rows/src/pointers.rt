@@ -136,7 +136,8 @@ fn append(block: &mut Block, lbn: u32, count: u32) -> Result<(), MapFull>
     requires lbn { lbn < 2 ^ 24 }
     requires count { (0 < count) × (count ≤ 256) }
     ensures header { IsHeader block.new 6 }
-    ensures blocks { OnOk result (blocks_of (map_area block.new) ≡ blocks_of (map_area block.old) ++ range_with_len lbn count) }
+    ensures blocks { OnOk result (blocks_of (map_area block.new) ≡ blocks_of (map_area block.old) ++
+        range_with_len lbn count) }
 {
     in_hand::append(block, lbn, count)
 }

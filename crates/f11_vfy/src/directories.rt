@@ -79,7 +79,8 @@ impl Reading {
         requires within { LiesWithin (index_kept index.now) (length (D.disk device.old).image) }
         requires slot { k < length self.now.survey.slots.items }
         requires limit { limit_of later.old.entered ≡ length self.now.survey.slots.items + 1 }
-        ensures judges { OnOk result (JudgesSlot (index_kept index.now) self.now k later.old later.new
+        ensures judges { OnOk result (JudgesSlot (index_kept index.now) self.now k later.old
+            later.new
             (D.disk device.old) (D.disk device.new)) }
         ensures failed { IsErrOf result ReadFault.DeviceFault
             → LooksAt (index_kept index.now) self.now k (D.disk device.old) (D.disk device.new) 1 }
@@ -106,9 +107,11 @@ impl Reading {
         ensures judges { IfOk result (λ later. JudgesUpTo (index_kept index.now) self.now
             (length self.now.survey.slots.items) later (D.disk device.old) (D.disk device.new)) }
         ensures failed { IsErrOf result ReadFault.DeviceFault
-            → LooksThrough (index_kept index.now) self.now (D.disk device.old) (D.disk device.new) 1 }
+            → LooksThrough (index_kept index.now) self.now (D.disk device.old)
+            (D.disk device.new) 1 }
         ensures no_memory { IsErrOf result ReadFault.NoMemory
-            → LooksThrough (index_kept index.now) self.now (D.disk device.old) (D.disk device.new) 0 }
+            → LooksThrough (index_kept index.now) self.now (D.disk device.old)
+            (D.disk device.new) 0 }
     {
         let mut later = Later::new(alloc, self.survey.slots.len() as u32)?;
         for k in 0..self.survey.slots.len() {
@@ -134,9 +137,11 @@ impl Reading {
         ensures adds { OnOk result (AddsDirectoryNotes (index_kept index.now) self.now
             found.old found.new (D.disk device.old) (D.disk device.new)) }
         ensures failed { IsErrOf result ReadFault.DeviceFault
-            → LooksThrough (index_kept index.now) self.now (D.disk device.old) (D.disk device.new) 1 }
+            → LooksThrough (index_kept index.now) self.now (D.disk device.old)
+            (D.disk device.new) 1 }
         ensures no_memory { IsErrOf result ReadFault.NoMemory
-            → LooksThrough (index_kept index.now) self.now (D.disk device.old) (D.disk device.new) 0 }
+            → LooksThrough (index_kept index.now) self.now (D.disk device.old)
+            (D.disk device.new) 0 }
     {
         let later = self.judge_directories(alloc, device, index)?;
         add_unentered(found, &self.survey.slots, &later.entered)?;

@@ -25,7 +25,8 @@ pub enum InitError<D: Device> {
 ///
 /// `BadParameter` where no volume can be made with these, and then nothing is written; `DeviceFault` where a write failed.
 pub fn init<D: Device>(device: D, params: &InitParams) -> Result<Accepted<D>, InitError<D>>
-    ensures made { IfOk result (λ made. Inits params.now (D.disk device) (D.disk (device_of made))) }
+    ensures made { IfOk result (λ made. Inits params.now (D.disk device)
+        (D.disk (device_of made))) }
     ensures refused { IfErr result (λ error. HasFailed params.now (D.disk device) D.disk error) }
 {
     let mut device = device;
@@ -42,7 +43,8 @@ pub fn init<D: Device>(device: D, params: &InitParams) -> Result<Accepted<D>, In
 fn lay_out<D: Device>(device: &mut D, layout: &Layout) -> Result<(), DeviceFault>
     requires { layout.now.blocks ≡ length (D.disk device.old).image }
     ensures done { OnOk result (LaysOut layout.now (D.disk device.old) (D.disk device.new)) }
-    ensures failed { OnErr result (FailsToLayOut layout.now (D.disk device.old) (D.disk device.new)) }
+    ensures failed { OnErr result (FailsToLayOut layout.now (D.disk device.old)
+        (D.disk device.new)) }
 {
     let mut block = [0; BLOCK_SIZE];
     for lbn in 0..layout.used_blocks() {
