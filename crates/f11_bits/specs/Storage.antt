@@ -1,5 +1,5 @@
 -- What contracts know of a `Storage`.
-use Rattle.std.specs.Prelude.{◌≡◌, length, take, IsTrue}
+use Rattle.std.specs.Prelude.{◌≡◌, ℕ, length, take, IsTrue}
 use Rattle.f11_dev.specs.Disk.{Disk}
 use Rattle.f11_dev.specs.Image.{Image}
 use Rattle.f11_dev.specs.Looked.{Looked}
@@ -9,6 +9,10 @@ use Rattle.f11_bits.specs.declared.storage.Storage.{Storage}
 -- the bitmap that it stands for
 abbrev pub bitmap_of : Storage → Bitmap
 bitmap_of s = record { places = take s.used s.places; size = s.size }
+
+-- the number of free blocks that it keeps
+abbrev pub count_of : Storage → ℕ
+count_of s = s.free
 
 -- what it keeps is that of the image
 pub record Keeps (s : Storage) (image : Image) : Type 0 where

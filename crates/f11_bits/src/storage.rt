@@ -41,7 +41,7 @@ impl Storage {
     ghost use Rattle.f11_bits.specs.Bitmap.{free_blocks};
     ghost use Rattle.f11_bits.specs.Calls.{MarksOnDisk, FailsToMark, Gives, FailsToGive, Takes, FindsNone, FailsToTake};
     ghost use Rattle.f11_bits.specs.Parts.{IsPart, HasBitOf, HasBits, FindsPart, FindsRest, FindsRun, FailsToFind, FailsToFindRest};
-    ghost use Rattle.f11_bits.specs.Storage.{bitmap_of, Keeps, IsFor, Loads};
+    ghost use Rattle.f11_bits.specs.Storage.{bitmap_of, count_of, Keeps, IsFor, Loads};
     ghost use Rattle.f11_bits.specs.Transfers.{blocks_touched};
 
     /// Counts the free blocks of a volume of `size` blocks whose bitmap blocks are at `places`, in order. It reads each of
@@ -82,7 +82,8 @@ impl Storage {
 
     /// The number of free blocks.
     pub fn free(&self) -> u32
-        ensures { (image : Image) → Keeps self.now image
+        ensures told { result ≡ count_of self.now }
+        ensures free { (image : Image) → Keeps self.now image
             → result ≡ free_blocks image (bitmap_of self.now) }
     {
         self.free

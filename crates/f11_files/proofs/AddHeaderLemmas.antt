@@ -26,7 +26,7 @@ use Rattle.f11_files.specs.Link.{Linking, LinksTail}
 use Rattle.f11_files.specs.Pieces.{MayExtend}
 use Rattle.f11_files.specs.StoreOf.{store_of}
 use Rattle.f11_files.specs.Structure.{home_of, store_on, IsFor, StaysFor}
-use Rattle.f11_files.specs.Tail.{HasStore, HoldsLast, MayBeGiven, whose}
+use Rattle.f11_files.specs.Tail.{HasStore, HoldsLast, MayBeGiven, whose, ownership_of}
 use Rattle.f11_files.specs.declared.structure.Structure.{Structure}
 use Rattle.f11_files.specs.declared.tail.Tail.{Tail}
 use Rattle.f11_files.proofs.AllocationLemmas.{adds-linked}
@@ -144,13 +144,15 @@ module _ (s : Structure) (tail : Tail) (lbn count : ℕ) (old : Disk) (for : IsF
       same-free honest = subst (λ (h : HomeFields). SameFree h mid.image new.image) stays.home (links.free (still-honest honest)) ∙ enters.free honest
 
       -- the file has the run
-      names-run : IsTrue old.honest → NamesMore k (range_with_len lbn count) (table_of old.image home) (table_of new.image home)
+      names-run : IsTrue old.honest → NamesMore k (ownership_of tail) (range_with_len lbn count) (table_of old.image home) (table_of new.image home)
       names-run honest =
           let there : LinksLoose k id.number (table_of mid.image home) (table_of new.image home) =
           subst (λ (h : HomeFields). LinksLoose k id.number (table_of mid.image h) (table_of new.image h)) stays.home (links.links (still-honest honest)) in
           let live : IsLive (table_of mid.image home) id.number = (enters.follows honest).live in
-          subst (λ (l : List ℕ). NamesMore k l (table_of old.image home) (table_of new.image home)) (ap blocks_named (here honest) ∙ enters.extension.names)
-          (adds-linked k id.number (table_of old.image home) (table_of mid.image home) (table_of new.image home) live (enters.adds honest) there)
+          subst (λ (l : List ℕ). NamesMore k (ownership_of tail) l (table_of old.image home) (table_of new.image home))
+          (ap blocks_named (here honest) ∙ enters.extension.names)
+          (adds-linked k id.number (ownership_of tail) (table_of old.image home) (table_of mid.image home) (table_of new.image home) live
+          (enters.adds honest) there)
 
       pub appends-linked : segment_number tail.block < 255 → (file : FileId) (owner : Uic) (protection : ℕ) → (file, owner, protection) ≡ whose tail
           → AppendsRun s after tail (record { file = file; owner = owner; protection = protection; number = id.number; block = block }) lbn count 1 old new

@@ -30,7 +30,7 @@ use Rattle.f11_files.specs.IndexPieces.{MayGrowIndex}
 use Rattle.f11_files.specs.Pieces.{MayExtend}
 use Rattle.f11_files.specs.StoreOf.{store_of}
 use Rattle.f11_files.specs.Structure.{bitmap_in, home_of, store_on, IsFor, StaysFor}
-use Rattle.f11_files.specs.Tail.{HasStore, HoldsLast, MayBeGiven, whose}
+use Rattle.f11_files.specs.Tail.{HasStore, HoldsLast, MayBeGiven, whose, ownership_of}
 use Rattle.f11_files.specs.declared.structure.Structure.{Structure}
 use Rattle.f11_files.specs.declared.tail.Tail.{Tail}
 use Rattle.f11_files.proofs.AllocationLemmas.{adds-linked}
@@ -166,15 +166,16 @@ module _ (s : Structure) (tail : Tail) (lbn count : ℕ) (old : Disk) (for : IsF
           (subst (λ (h : HomeFields). AddsZeroSlots (table_of mid.image h) (table_of new.image h)) stays.home (links.slots (still-honest honest)))
 
       -- the index file has the run
-      names-run : IsTrue old.honest → NamesMore 1 (range_with_len lbn count) (table_of old.image home) (table_of new.image home)
+      names-run : IsTrue old.honest → NamesMore 1 (ownership_of tail) (range_with_len lbn count) (table_of old.image home) (table_of new.image home)
       names-run honest =
           let there : LinksLoose 1 id.number (table_of mid.image home) (table_of new.image home) =
           subst (λ (h : HomeFields). LinksLoose 1 id.number (table_of mid.image h) (table_of new.image h)) stays.home (links.links (still-honest honest)) in
           let live : IsLive (table_of mid.image home) id.number = (enters.follows honest).live in
-          let adds : AddsLoose 1 id.number (table_of old.image home) (table_of mid.image home) =
-          subst (λ (f : ℕ). AddsLoose f id.number (table_of old.image home) (table_of mid.image home)) index (enters.adds honest) in
-          subst (λ (l : List ℕ). NamesMore 1 l (table_of old.image home) (table_of new.image home)) (ap blocks_named (here honest) ∙ enters.extension.names)
-          (adds-linked 1 id.number (table_of old.image home) (table_of mid.image home) (table_of new.image home) live adds there)
+          let adds : AddsLoose 1 id.number (ownership_of tail) (table_of old.image home) (table_of mid.image home) =
+          subst (λ (f : ℕ). AddsLoose f id.number (ownership_of tail) (table_of old.image home) (table_of mid.image home)) index (enters.adds honest) in
+          subst (λ (l : List ℕ). NamesMore 1 (ownership_of tail) l (table_of old.image home) (table_of new.image home))
+          (ap blocks_named (here honest) ∙ enters.extension.names)
+          (adds-linked 1 id.number (ownership_of tail) (table_of old.image home) (table_of mid.image home) (table_of new.image home) live adds there)
 
       pub appends-linked : segment_number tail.block < 255 → (file : FileId) (owner : Uic) (protection : ℕ) → (file, owner, protection) ≡ whose tail
           → AppendsSlots s t tail (record { file = file; owner = owner; protection = protection; number = id.number; block = block }) lbn count 1 old new

@@ -18,7 +18,7 @@ use Rattle.f11_files.specs.Growing.{Taking, IsGrowing, GrowingBy, Grew}
 use Rattle.f11_files.specs.Pieces.{file_numbered, MayExtend, TakesSome, ExtendsSome}
 use Rattle.f11_files.specs.StoreOf.{store_of}
 use Rattle.f11_files.specs.Structure.{bitmap_in, home_of, store_on, IsFor, StaysFor}
-use Rattle.f11_files.specs.Tail.{HoldsLast}
+use Rattle.f11_files.specs.Tail.{HoldsLast, ownership_of}
 use Rattle.f11_files.specs.Take.{TakesRun}
 use Rattle.f11_files.specs.declared.structure.Structure.{Structure}
 use Rattle.f11_files.specs.declared.tail.Tail.{Tail}
@@ -109,7 +109,9 @@ module _ (s t : Structure) (tail : Tail) (from most lbn count : ℕ) (old mid : 
     above = let above = takes.within.above in omega (arith, above);
     within = takes.within.within;
     none_below = none-left s t tail from most lbn count old mid for last enough takes stays u new given.bitmap given.grew.went.honest given.free kept;
-    gains = run-gained s t tail from most lbn count old mid for last enough takes stays u new k given.bitmap given.grew.went.honest given.free given.names kept;
+    gains =
+        run-gained s t tail from most lbn count old mid for last enough takes stays u new k (ownership_of tail) given.bitmap given.grew.went.honest
+        given.free given.names kept;
     grew = grew-within (λ _. run-cost (bitmap_in s) from lbn count takes.within.above takes.within.some takes.within.short)
         (grew-behind appending-moment (store-free s t tail from most lbn count old mid for last enough takes stays) taken (subst (λ (h : HomeFields). Grew (AppendingRun t tail count mid) h (with_more_free now count) k count (count + 1) mid new) stays.home given.grew));
   }

@@ -18,7 +18,7 @@ use Rattle.f11_files.specs.IndexPieces.{MayGrowIndex}
 use Rattle.f11_files.specs.Pieces.{TakesSome}
 use Rattle.f11_files.specs.StoreOf.{store_of}
 use Rattle.f11_files.specs.Structure.{bitmap_in, home_of, store_on, IsFor, StaysFor}
-use Rattle.f11_files.specs.Tail.{HoldsLast}
+use Rattle.f11_files.specs.Tail.{HoldsLast, ownership_of}
 use Rattle.f11_files.specs.Take.{TakesRun}
 use Rattle.f11_files.specs.declared.structure.Structure.{Structure}
 use Rattle.f11_files.specs.declared.tail.Tail.{Tail}
@@ -110,7 +110,9 @@ module _ (s t : Structure) (tail : Tail) (from most lbn count : ℕ) (old mid : 
     within = takes.within.within;
     none_below = none-left s t tail from most lbn count old mid for last enough takes stays u new given.bitmap given.grew.went.honest given.free kept;
     gains = λ honest. record {
-      blocks = run-gained s t tail from most lbn count old mid for last enough takes stays u new 1 given.bitmap given.grew.went.honest given.free given.names kept honest;
+      blocks =
+          run-gained s t tail from most lbn count old mid for last enough takes stays u new 1 (ownership_of tail) given.bitmap given.grew.went.honest
+          given.free given.names kept honest;
       slots = slots-gained s t tail from most lbn count old mid for last enough takes stays new given.slots honest;
     };
     grew = index-within (λ _. run-cost (bitmap_in s) from lbn count takes.within.above takes.within.some takes.within.short)

@@ -1,21 +1,25 @@
 -- What the words of allocation mean beside those of the verifier and of the store.
-use Rattle.std.proofs.Common.{◌≡◌, ◌+◌, ℕ, zero, suc, Bool, true, false, cond, List, [], ◌∷◌, length, length-append, Some, inl, inr, refl, sym, ap, ◌∙◌, arith}
-use Rattle.std.specs.List.{filter, range_with_len, slice_get}
+use Rattle.std.proofs.Common.{◌≡◌, ◌+◌, ℕ, zero, suc, Bool, true, false, cond, List, [], ◌∷◌, ◌++◌, length, length-append, Some, inl, inr, refl, sym, ap, subst, ◌∙◌, arith}
+use Rattle.std.specs.List.{filter, flat_map, range_with_len, slice_get}
 use Rattle.std.proofs.lemmas.Bool.{cases_Bool}
 use Rattle.std.proofs.lemmas.List.Elements.{filter-append}
 use Rattle.std.proofs.lemmas.Option.{none-some}
 use Rattle.f11_bits.specs.Bitmap.{count_below, is_free}
 use Rattle.f11_bits.proofs.CountLemmas.{count_below-zero, count_below-suc, one_if}
-use Rattle.f11_index.specs.Headers.{is_live}
-use Rattle.f11_index.specs.Table.{Table}
+use Rattle.f11_index.specs.Headers.{is_live, headers_of}
+use Rattle.f11_index.proofs.ChainLemmas.{live_of-header}
+use Rattle.f11_index.proofs.HeadersLemmas.{place-has}
+use Rattle.f11_chain.specs.FileHeaders.{blocks_by, file_blocks}
+use Rattle.f11_index.specs.Table.{Table, IsLive}
 use Rattle.f11_index.proofs.NextLemmas.{live-tested}
 use Rattle.f11_index.proofs.PlaceLemmas.{range_with_len-more}
+use Rattle.f11_store.specs.declared.callers.Uic.{Uic}
 use Rattle.f11_vfy.specs.Space.{storage_bitmap}
 use Rattle.f11_vfy.specs.Volume.{volume_of, IsCell}
-use Rattle.f11_files.specs.Allocation.{named_by, free_list}
-use Rattle.f11_files.specs.AllocationLaws.{CellsAreNamed, FreeBlocksAreStored}
+use Rattle.f11_files.specs.Allocation.{named_by, free_list, ownership_in, GainsBlocksAs}
+use Rattle.f11_files.specs.AllocationLaws.{CellsAreNamed, FileBlocksAreNamed, FreeBlocksAreStored, GainsAdd}
 use Rattle.f11_files.specs.StoreOf.{store_of}
-use Rattle.f11_files.proofs.AllocationLemmas.{named-live, named-dead}
+use Rattle.f11_files.proofs.AllocationLemmas.{gains-add, named-live, named-dead}
 
 named-cell : (t : Table) (n place lbn : ℕ) → slice_get (named_by t n) place ≡ Some lbn → IsCell t n place lbn
 named-cell t n place lbn at = elim (cases_Bool (is_live t n)) [
@@ -35,6 +39,21 @@ cells-named t n place lbn = (
   named-cell t n place lbn,
   λ cell. ap (λ (l : List ℕ). slice_get l place) (named-live t n cell.live) ∙ cell.names,
 )
+
+-- what headers that are live name
+blocks-named : (t : Table) (hs : List ℕ) → ((i n : ℕ) → slice_get hs i ≡ Some n → IsLive t n) → blocks_by t hs ≡ flat_map (named_by t) hs
+blocks-named t [] live = refl
+blocks-named t (h ∷ hs) live =
+    (λ i. sym (named-live t h (live 0 h refl)) i ++ blocks_by t hs) ∙ ap (λ (l : List ℕ). named_by t h ++ l) (blocks-named t hs (λ i n at. live (suc i) n at))
+
+pub files-named : FileBlocksAreNamed
+unfolding file_blocks
+files-named t f whole = blocks-named t (headers_of t f) (λ i n at. live_of-header (place-has t f n i whole at).of)
+
+-- a file that gains blocks twice keeps its first header's ownership
+pub gains-both : GainsAdd
+gains-both f a b v w x one two =
+    gains-add f (ownership_in (v.table.header f)) a b v w x one (subst (λ (o : Uic × ℕ). GainsBlocksAs f o b w x) one.names.says.first two)
 
 -- as many pass a test as are counted
 one-passes : (p : ℕ → Bool) (k : ℕ) (b : Bool) → p k ≡ b → length (filter p (k ∷ [])) ≡ one_if b

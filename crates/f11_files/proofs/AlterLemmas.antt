@@ -29,7 +29,7 @@ use Rattle.f11_files.proofs.FieldLemmas.{changes-file, field-keeps}
 use Rattle.f11_files.proofs.FirstLemmas.{table-of}
 use Rattle.f11_files.proofs.NamedLemmas.{is-file, block-is, no-file-cause}
 use Rattle.f11_files.proofs.StoreLemmas.{free-count}
-use Rattle.f11_files.proofs.WriteLemmas.{failed-stays, served-stays, writes-behind}
+use Rattle.f11_files.proofs.WriteLemmas.{breaks-off, failed-stays, served-stays, writes-behind}
 
 -- where a slot was written, the blocks that were free are free still
 pub free-slot : (s : Structure) (n : ℕ) (old new : Image) → KeepsButSlot n (home_of s) old new → Keeps s old → s.storage.free ≡ free_blocks new (bitmap_in s)
@@ -99,11 +99,9 @@ module _ (s : Structure) (f : FileId) (change : File → File) (was block : List
         (λ honest. subst (Keeps s) (ap (λ (d : Disk). d.image) (sym is)) (keeps-header s f.number block old.image written (changes honest).header (for.keeps honest)))
 
     pub fails-alter : (new ≡ with_transfer false now) ⊎ (new ≡ with_transfer false (with_block_at lbn block now)) → FailsToAlter false change (home_of s) f DeviceFault old new
-    fails-alter is = record {
-      right = right-fault _ _;
-      writes = writes-behind (reads-looked finds.looked) (went_failed_write P now new lbn block is moment);
-      unchanged = λ light. absurd cc;
-    }
+    fails-alter is =
+        breaks-off (λ honest. no-file-cause s f was old for finds.holds honest) refl (right-fault _ _)
+        (writes-behind (reads-looked finds.looked) (went_failed_write P now new lbn block is moment))
 
     pub fails-altered : (new ≡ with_transfer false now) ⊎ (new ≡ with_transfer false (with_block_at lbn block now)) → StaysFor true s s new
-    fails-altered is = failed-stays s s work old new for refl (fails-alter is).writes.went
+    fails-altered is = failed-stays s s _ old new for refl (fails-alter is).writes.went

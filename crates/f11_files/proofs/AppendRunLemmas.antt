@@ -26,7 +26,7 @@ use Rattle.f11_files.specs.Growing.{Grew, GrowingInto, SameFree}
 use Rattle.f11_files.specs.Pieces.{file_numbered, MayExtend, TakesSome}
 use Rattle.f11_files.specs.StoreOf.{store_of}
 use Rattle.f11_files.specs.Structure.{bitmap_in, home_of, store_on, IsFor, StaysFor}
-use Rattle.f11_files.specs.Tail.{HoldsLast, Naming, NamesRun, FailsToName, HasNoPlace, pointers_more, with_zeros_more, whose}
+use Rattle.f11_files.specs.Tail.{HoldsLast, Naming, NamesRun, FailsToName, HasNoPlace, pointers_more, with_zeros_more, whose, ownership_of}
 use Rattle.f11_files.specs.Zeros.{Keeping, Zeroes, FailsToZero}
 use Rattle.f11_files.specs.declared.structure.Structure.{Structure}
 use Rattle.f11_files.specs.declared.tail.Tail.{Tail}
@@ -115,8 +115,10 @@ module _ (s : Structure) (tail : Tail) (lbn count : ℕ) (old : Disk) (for : IsF
         bitmap = given.bitmap;
         free = λ honest. given.free (ap (λ (d : Disk). d.honest) full.disk_is ∙ zeroed.went.honest ∙ honest) ∙ ap (λ (d : Disk). (volume_of d.image home).free) full.disk_is ∙ zeros-free honest;
         names = λ honest.
-            subst (λ (x : Tail). NamesMore x.file.number (range_with_len lbn count) (table_of old.image home) (table_of new.image home)) full.tail_is
-            (subst (λ (t : Table). NamesMore after.file.number (range_with_len lbn count) t (table_of new.image home)) (ap (λ (d : Disk). table_of d.image home) full.disk_is ∙ zeros-table honest)
+            subst (λ (x : Tail). NamesMore x.file.number (ownership_of x) (range_with_len lbn count) (table_of old.image home) (table_of new.image home))
+            full.tail_is
+            (subst (λ (t : Table). NamesMore after.file.number (ownership_of after) (range_with_len lbn count) t (table_of new.image home))
+            (ap (λ (d : Disk). table_of d.image home) full.disk_is ∙ zeros-table honest)
             (given.names (ap (λ (d : Disk). d.honest) full.disk_is ∙ zeroed.went.honest ∙ honest)));
         grew = grew-behind into (λ honest. ap (λ (x : Store). with_more_free x count) (same honest)) zeros-written
             (subst (λ (x : Tail). Grew (AppendingRun s x count mid) home (with_more_free (store_on s mid) count) x.file.number count 1 mid new) full.tail_is
@@ -153,7 +155,9 @@ module _ (s : Structure) (tail : Tail) (lbn count : ℕ) (old : Disk) (for : IsF
       last = names.holds;
       bitmap = refl;
       free = λ honest. names.free (zeroed.went.honest ∙ honest) ∙ zeros-free honest;
-      names = λ honest. subst (λ (t : Table). NamesMore k (range_with_len lbn count) t (table_of new.image home)) (zeros-table honest) (names.names (zeroed.went.honest ∙ honest));
+      names = λ honest.
+          subst (λ (t : Table). NamesMore k (ownership_of tail) (range_with_len lbn count) t (table_of new.image home)) (zeros-table honest)
+          (names.names (zeroed.went.honest ∙ honest));
       grew = record {
         extends = λ honest. (at honest).0;
         transfers = zeros-written.transfers + 1;

@@ -29,7 +29,7 @@ use Rattle.f11_files.specs.IndexPieces.{MayGrowIndex}
 use Rattle.f11_files.specs.Pieces.{file_numbered, TakesSome}
 use Rattle.f11_files.specs.StoreOf.{store_of}
 use Rattle.f11_files.specs.Structure.{bitmap_in, home_of, store_on, IsFor, StaysFor}
-use Rattle.f11_files.specs.Tail.{HoldsLast, HasNoPlace, MayBeGiven, pointers_more, whose}
+use Rattle.f11_files.specs.Tail.{HoldsLast, HasNoPlace, MayBeGiven, pointers_more, whose, ownership_of}
 use Rattle.f11_files.specs.Zeros.{Keeping, Zeroes, FailsToZero}
 use Rattle.f11_files.specs.declared.structure.Structure.{Structure}
 use Rattle.f11_files.specs.declared.tail.Tail.{Tail}
@@ -129,9 +129,10 @@ module _ (s : Structure) (tail : Tail) (lbn count : ℕ) (old : Disk) (for : IsF
             left = given.left;
             free = λ honest. given.free (ap (λ (d : Disk). d.honest) full.disk_is ∙ zeroed.went.honest ∙ honest) ∙ ap (λ (d : Disk). (volume_of d.image home).free) full.disk_is ∙ zeros-free honest;
             names = λ honest.
-                subst (λ (t : Table). NamesMore 1 (range_with_len lbn count) t (table_of new.image home))
+                subst (λ (t : Table). NamesMore 1 (ownership_of tail) (range_with_len lbn count) t (table_of new.image home))
                 (ap (λ (d : Disk). table_of d.image home) full.disk_is ∙ zeros-table honest)
-                (given.names (ap (λ (d : Disk). d.honest) full.disk_is ∙ zeroed.went.honest ∙ honest));
+                (subst (λ (x : Tail). NamesMore 1 (ownership_of x) (range_with_len lbn count) (table_of now.image home) (table_of new.image home)) full.tail_is
+                (given.names (ap (λ (d : Disk). d.honest) full.disk_is ∙ zeroed.went.honest ∙ honest)));
             slots = λ honest.
                 subst (λ (t : Table). AddsZeroSlots t (table_of new.image home)) (ap (λ (d : Disk). table_of d.image home) full.disk_is ∙ zeros-table honest)
                 (given.slots (ap (λ (d : Disk). d.honest) full.disk_is ∙ zeroed.went.honest ∙ honest));
@@ -174,7 +175,7 @@ module _ (s : Structure) (tail : Tail) (lbn count : ℕ) (old : Disk) (for : IsF
       left = names.left;
       free = λ honest. names.free (zeroed.went.honest ∙ honest) ∙ zeros-free honest;
       names = λ honest.
-          subst (λ (t : Table). NamesMore 1 (range_with_len lbn count) t (table_of new.image home)) (zeros-table honest)
+          subst (λ (t : Table). NamesMore 1 (ownership_of tail) (range_with_len lbn count) t (table_of new.image home)) (zeros-table honest)
           (names.names (zeroed.went.honest ∙ honest));
       slots = λ honest. subst (λ (t : Table). AddsZeroSlots t (table_of new.image home)) (zeros-table honest) (names.slots (zeroed.went.honest ∙ honest));
       grew = record {

@@ -21,7 +21,7 @@ use Rattle.f11_files.specs.declared.structure.Structure.{Structure}
 use Rattle.f11_files.proofs.AllocationLemmas.{keeps-same}
 use Rattle.f11_files.proofs.AnswerLemmas.{right-fault}
 use Rattle.f11_files.proofs.StoreLemmas.{block-stored}
-use Rattle.f11_files.proofs.WriteLemmas.{keeps-volume, failed-stays, served-stays, writes-behind}
+use Rattle.f11_files.proofs.WriteLemmas.{breaks-off, keeps-volume, failed-stays, served-stays, writes-behind}
 
 -- the block was found, and is written there
 module _ (s : Structure) (f : FileId) (vbn lbn : ℕ) (block : List ℕ) (old now : Disk) (for : IsFor s old) (own : 4 ≤ f.number) (finds : FindsBlock (home_of s) f vbn lbn old now) where
@@ -64,11 +64,7 @@ module _ (s : Structure) (f : FileId) (vbn lbn : ℕ) (block : List ℕ) (old no
         (λ honest. subst (Keeps s) (ap (λ (d : Disk). d.image) (sym is)) (keeps-volume s old.image written (writes honest).keeps (for.keeps honest)))
 
     pub fails-store : (new ≡ with_transfer false now) ⊎ (new ≡ with_transfer false (with_block_at lbn block now)) → FailsToStore false (home_of s) f vbn block DeviceFault old new
-    fails-store is = record {
-      right = right-fault _ _;
-      writes = writes-behind finds.reads (went_failed_write P now new lbn block is moment);
-      unchanged = λ light. absurd cc;
-    }
+    fails-store is = breaks-off finds.no_cause refl (right-fault _ _) (writes-behind finds.reads (went_failed_write P now new lbn block is moment))
 
     pub fails-stays : (new ≡ with_transfer false now) ⊎ (new ≡ with_transfer false (with_block_at lbn block now)) → StaysFor true s s new
-    fails-stays is = failed-stays s s (block_work f vbn block) old new for refl (fails-store is).writes.went
+    fails-stays is = failed-stays s s _ old new for refl (fails-store is).writes.went

@@ -34,7 +34,7 @@ use Rattle.f11_writes.proofs.HeaderLemmas.{kill-keeps}
 use Rattle.f11_writes.proofs.NameLemmas.{own-names, lost-unnamed}
 use Rattle.f11_files.specs.Drops.{FreesMore, IsFreeing, Freeing, BreaksOff, AreAllSpare, MayDrop, Buries}
 use Rattle.f11_files.specs.Growing.{SameFree}
-use Rattle.f11_files.specs.SlotLaws.{with_use, IsLoose}
+use Rattle.f11_files.specs.SlotLaws.{with_use, IsLoose, KeepsOtherBlocks}
 use Rattle.f11_files.specs.StoreOf.{is_first, store_of}
 use Rattle.f11_files.specs.Structure.{index_in, home_of, store_on, Lies, Keeps, IsFor, StaysFor}
 use Rattle.f11_files.specs.declared.structure.Structure.{Structure}
@@ -42,7 +42,7 @@ use Rattle.f11_files.proofs.CreateLemmas.{lies-bit}
 use Rattle.f11_files.proofs.AlterLemmas.{free-slot, keeps-header}
 use Rattle.f11_files.proofs.FirstLemmas.{table-of}
 use Rattle.f11_files.proofs.FreeingLemmas.{frees-none, sound-freed}
-use Rattle.f11_files.proofs.InstanceLemmas.{with_file-same, unlive-loose, loose-written, loose-set, file-killed}
+use Rattle.f11_files.proofs.InstanceLemmas.{with_file-same, unlive-loose, blocks-but, headers-stay, loose-written, loose-set, file-killed}
 use Rattle.f11_files.proofs.NamedLemmas.{file-stored}
 use Rattle.f11_files.proofs.StoreLemmas.{first-is-tested, file-at}
 
@@ -158,6 +158,23 @@ module _ (s : Structure) (n lbn : ℕ) (block dead : List ℕ) (old : Disk) (for
         header = λ m away used. two.slot.others.header m away (one.slot.others.in_use m away ∙ used) ∙ one.slot.others.header m away used;
       }
 
+      dead-still : IsDead ((table_of cleared home).header n)
+      dead-still = ap (λ (v : Table). file_number (v.header n)) two.index_file.table ∙ dead-now
+
+      blocks-now : KeepsOtherBlocks n t (table_of cleared home)
+      blocks-now =
+          let write = blocks-but old.image killed home n dead one in
+          let bit_write = headers-stay killed cleared home n after two in
+          record {
+            slots = bit_write.slots ∙ write.slots;
+            header = λ m above within away.
+                let count = write.slots in
+                bit_write.header m above (omega (arith, count, within)) away ∙ write.header m above within away;
+          }
+
+      size-now : (volume_of cleared home).size ≡ (volume_of old.image home).size
+      size-now = ap (λ (v : Volume). v.size) two.slot.volume ∙ ap (λ (v : Volume). v.size) one.slot.volume
+
       free-now : SameFree home old.image cleared
       free-now = ap (λ (v : Volume). v.free) two.slot.volume ∙ ap (λ (v : Volume). v.free) one.slot.volume
 
@@ -227,6 +244,9 @@ module _ (s : Structure) (n lbn : ℕ) (block dead : List ℕ) (old : Disk) (for
       buries = record {
         others = λ honest. subst (λ (i : Image). KeepsOtherSlots n t (table_of i home)) (sym image-new) (others-now honest (index_kept after) cleared_is.bit);
         unused = λ honest. ap (λ (i : Image). (table_of i home).in_use n) image-new ∙ unused-now honest (index_kept after) cleared_is.bit;
+        dead = λ honest. ap (λ (i : Image). file_number ((table_of i home).header n)) image-new ∙ dead-still honest (index_kept after) cleared_is.bit;
+        blocks = λ honest. subst (λ (i : Image). KeepsOtherBlocks n t (table_of i home)) (sym image-new) (blocks-now honest (index_kept after) cleared_is.bit);
+        size = λ honest. ap (λ (i : Image). (volume_of i home).size) image-new ∙ size-now honest (index_kept after) cleared_is.bit;
         free = λ honest. ap (λ (i : Image). (volume_of i home).free) image-new ∙ free-now honest (index_kept after) cleared_is.bit;
         spare = λ honest. subst (λ (i : Image). AreAllSpare (volume_of i home) (blocks_named block)) (sym image-new) (spare-now honest (index_kept after) cleared_is.bit);
         store = λ honest. ap (λ (i : Image). store_of i home) image-new ∙ store-cleared honest (index_kept after) cleared_is.bit;

@@ -1,5 +1,5 @@
 -- A file's contiguous mark that is cleared.
-use Rattle.std.proofs.Common.{◌≡◌, ◌⊎◌, ◌≤◌, inl, inr, ℕ, Bool, true, false, IsTrue, List, Some, option_map, refl, sym, ap, subst, ◌∙◌, arith}
+use Rattle.std.proofs.Common.{◌≡◌, ◌↔◌, ◌⊎◌, ◌≤◌, inl, inr, ℕ, Bool, true, false, IsTrue, List, Some, option_map, refl, sym, ap, subst, ◌∙◌, arith}
 use Rattle.std.proofs.Math.ListN.{set}
 use Rattle.std.proofs.lemmas.Bool.{cases_eq}
 use Rattle.f11_dev.specs.Disk.{Disk, with_transfer, with_block_at}
@@ -20,7 +20,7 @@ use Rattle.f11_index.proofs.ChainLemmas.{live_of-header}
 use Rattle.f11_index.proofs.HeadersLemmas.{last-whole}
 use Rattle.f11_index.proofs.StayLemmas.{whole-stays}
 use Rattle.f11_store.specs.Changes.{with_change}
-use Rattle.f11_store.specs.File.{File, without_contiguous}
+use Rattle.f11_store.specs.File.{File, without_contiguous, no_file}
 use Rattle.f11_store.specs.Lags.{with_no_mark}
 use Rattle.f11_store.specs.Store.{Store}
 use Rattle.f11_store.specs.declared.files.Attr.{Attr}
@@ -30,7 +30,7 @@ use Rattle.f11_writes.specs.Kept.{file_in}
 use Rattle.f11_writes.specs.OtherSlots.{KeepsOtherSlots}
 use Rattle.f11_vfy.specs.Volume.{volume_of}
 use Rattle.f11_vfy.proofs.FileLemmas.{image-files}
-use Rattle.f11_files.specs.Allocation.{AddsZeroSlots, GainsBlocks}
+use Rattle.f11_files.specs.Allocation.{ownership_in, AddsZeroSlots, GainsBlocks}
 use Rattle.f11_files.specs.Clear.{Clearing, ClearsMark}
 use Rattle.f11_files.specs.FieldLaws.{SaysBut, ChangesFile}
 use Rattle.f11_files.specs.First.{HoldsFile, IsFirstOf}
@@ -70,12 +70,12 @@ module _ (t u : Table) (f : ℕ) (others : KeepsOtherSlots f t u) (stays : Stays
         }
   ]
 
-  headers-stay : IsWholeFile t f → (m : ℕ) → IsHeaderOf t f m → IsHeaderOf u f m
-  headers-stay whole m of = ((whole-stays t u f whole each-stays).1 m).1 of
+  headers-stay : IsWholeFile t f → (m : ℕ) → IsHeaderOf u f m ↔ IsHeaderOf t f m
+  headers-stay whole = (whole-stays t u f whole each-stays).1
 
   last-stays : (n : ℕ) → IsLastOf t f n → IsLastOf u f n
   last-stays n last = record {
-    of = headers-stay (last-whole t f n last) n last.of;
+    of = (headers-stay (last-whole t f n last) n).1 last.of;
     no_link = ap (λ (l : FileId). l.number) (each-stays n last.of).link ∙ last.no_link;
   }
 
@@ -115,6 +115,10 @@ module _ (s : Structure) (f : FileId) (was : List ℕ) (old : Disk) (for : IsFor
     store-kept : Clearing s f old old.image
     store-kept honest = record { sound = for.sound honest; store = sym (unchanged (store_on s old) f.number seen with_no_mark (stored honest) (unmarked honest)) }
 
+    none-gained : IsTrue old.honest → GainsBlocks f.number 0 (volume_of old.image home) (volume_of old.image home)
+    unfolding volume_of
+    none-gained honest = gains-nothing f.number (ownership_in (t.header f.number)) (volume_of old.image home) (file-here honest)
+
     pub clears-none : ClearsMark s f was was old old
     clears-none = record {
       holds = holds;
@@ -122,7 +126,7 @@ module _ (s : Structure) (f : FileId) (was : List ℕ) (old : Disk) (for : IsFor
       slots = λ honest. record { in_use = λ m other. refl; header = λ m other used. refl };
       last = λ honest n last. last;
       is_for = for;
-      gains = λ honest. gains-nothing f.number (volume_of old.image home);
+      gains = none-gained;
       zeros = λ honest. zero-same t;
       store = store-kept;
       went = went_within (Clearing s f old) (went_looked (Clearing s f old) (looked_none old)) (omega arith);
@@ -200,13 +204,15 @@ module _ (s : Structure) (f : FileId) (was : List ℕ) (old : Disk) (for : IsFor
 
       -- the file has the blocks that it had
       gains-now : IsTrue old.honest → GainsBlocks f.number 0 (volume_of old.image home) (volume_of new.image home)
+      unfolding volume_of
       gains-now honest =
           let whole = ((image-files old.image home (for.sound honest)).each f.number (file-here honest)).whole in
           let says_now = subst (λ (b : List ℕ). SaysBut with_no_mark b block) (header-was honest) says in
-          let headers = subst (λ (i : Image). (m : ℕ) → IsHeaderOf t f.number m → IsHeaderOf (table_of i home) f.number m) (image honest)
+          let headers = subst (λ (i : Image). (m : ℕ) → IsHeaderOf (table_of i home) f.number m ↔ IsHeaderOf t f.number m) (image honest)
           (headers-stay t (table_of new.image home) f.number (slots-stay honest) (first-stays honest) whole) in
           subst (λ (i : Image). GainsBlocks f.number 0 (volume_of old.image home) (volume_of i home)) (sym (image honest))
-          (field-gains old.image home f.number block with_no_mark (for.sound honest) (file-here honest) says_now (changes honest).header headers)
+          (field-gains old.image home f.number block with_no_mark (for.sound honest) (file-here honest) says_now (changes honest).header
+          (ownership_in (t.header f.number)) headers (ap (λ (g : File). (g.owner, g.protection)) (says_now.file no_file)))
 
       pub clears-mark : ClearsMark s f was block old new
       clears-mark = record {

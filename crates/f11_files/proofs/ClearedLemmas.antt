@@ -27,7 +27,7 @@ use Rattle.f11_files.specs.First.{HoldsFile}
 use Rattle.f11_files.specs.Room.{FindsRoom}
 use Rattle.f11_files.specs.StoreOf.{store_of}
 use Rattle.f11_files.specs.Structure.{index_in, bitmap_in, home_of, store_on, IsFor}
-use Rattle.f11_files.specs.Tail.{HoldsLast}
+use Rattle.f11_files.specs.Tail.{HoldsLast, ownership_of}
 use Rattle.f11_files.specs.declared.structure.Structure.{Structure}
 use Rattle.f11_files.specs.declared.tail.Tail.{Tail}
 use Rattle.f11_files.proofs.FirstLemmas.{table-of}
@@ -35,6 +35,8 @@ use Rattle.f11_files.proofs.LocateLemmas.{reads-along}
 use Rattle.f11_files.proofs.NamedLemmas.{block-is, is-file}
 use Rattle.f11_files.proofs.OpenLemmas.{looked-for}
 use Rattle.f11_files.proofs.RoomLemmas.{last-is, last-of}
+use Rattle.f11_files.specs.Allocation.{ownership_in}
+use Rattle.f11_vfy.specs.Volume.{volume_of}
 
 -- the storage bitmap of a store has a block for each 4096 blocks
 store-bitmap : (image : Image) (home : HomeFields) → (store_of image home).bitmap_blocks ≡ length (storage_bitmap image home).places
@@ -176,6 +178,14 @@ module _ (s : Structure) (f : FileId) (n : ℕ) (end : FileEnd) (was last : List
               let u : Table = table_of cleared.image home in
               subst (λ (g : FileId). IsLastOf u g.number tail.number) (sym of.file_is) (subst (λ (m : ℕ). IsLastOf u k m) (sym is.0) (last-cleared (was-honest honest)));
         }
+
+      -- and the file's ownership are those that its first header said
+      pub tail-ownership : IsTrue old.honest → ownership_of tail ≡ ownership_in ((volume_of old.image home).table.header k)
+      unfolding volume_of
+      tail-ownership honest =
+          let stays = (clears.gains (honest-read ∙ honest)).names.says.first in
+          (λ i. (of.owner_is i, of.protection_is i)) ∙ ap ownership_in (block-is s f block cleared clears.is_for clears.holds (honest-cleared ∙ honest)) ∙ stays
+          ∙ ap (λ (i : Image). ownership_in ((table_of i home).header k)) image-read
 
       pub holds-last : HoldsLast s tail cleared
       holds-last = elim (cases_eq (link_of block).number 0) [ inl none ↦ alone-last none | inr some ↦ other-last some ]

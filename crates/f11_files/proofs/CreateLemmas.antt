@@ -41,7 +41,7 @@ use Rattle.f11_files.proofs.AlterLemmas.{free-slot, keeps-header}
 use Rattle.f11_files.proofs.AnswerLemmas.{right-fault, reads-looked}
 use Rattle.f11_files.proofs.FreeSlotLemmas.{IsReadAt, read-at}
 use Rattle.f11_files.proofs.NewFileLemmas.{free-stored, least-stored, writes-first, enters-file, entered-keeps}
-use Rattle.f11_files.proofs.WriteLemmas.{failed-stays, sound-went, writes-behind, writes-within}
+use Rattle.f11_files.proofs.WriteLemmas.{breaks-off, failed-stays, sound-went, writes-behind, writes-within}
 
 -- a slot that was given its next sequence number
 numbered : (s : Store) (owner : Uic) (protection : ℕ) (ident attr : List ℕ) (n sequence : ℕ) → sequence ≡ next_sequence (s.last n) → LagsBy (new_work s owner protection ident attr) (with_last s n sequence) s
@@ -101,6 +101,13 @@ module _ (s : Structure) (owner : Uic) (protection : ℕ) (ident attr : List ℕ
   slot : IsTrue old.honest → IsReadAt s n lbn sequence old mid
   slot = read-at s n lbn was sequence old mid for least at counts gives next
 
+  -- a header is free
+  some-free : IsTrue old.honest → first_of (create_causes st) ≡ None
+  some-free honest =
+      let stored = ap (λ (l : List ℕ). length l) (free-stored old.image home) in
+      let within : 0 < length (free_in_index (index_of old.image home)) = slice_get_within _ _ n (slot honest).least.first in
+      ap (λ (b : Bool). cond b (Some NoHeader) None) (ne_eqb (free_headers st) 0 (λ none. omega (arith, stored, within, none)))
+
   module _ (empty block : List ℕ) (new : IsNewFirst id owner protection ident attr empty block) where
     abbrev first : Image
     first = set mid.image lbn block
@@ -143,14 +150,12 @@ module _ (s : Structure) (owner : Uic) (protection : ℕ) (ident attr : List ℕ
     module _ (one : Disk) where
       -- the header couldn't be written
       pub fails-first : (one ≡ with_transfer false mid) ⊎ (one ≡ with_transfer false (with_block_at lbn block mid)) → FailsToCreate false home owner protection ident attr DeviceFault old one
-      fails-first is = record {
-        right = right-fault _ _;
-        writes = writes-within (omega arith) (writes-behind (reads-looked (looked_read old mid counts)) (went_failed_write P mid one lbn block is first-moment));
-        unchanged = λ light. absurd cc;
-      }
+      fails-first is =
+          breaks-off some-free refl (right-fault _ _)
+          (writes-within (omega arith) (writes-behind (reads-looked (looked_read old mid counts)) (went_failed_write P mid one lbn block is first-moment)))
 
       pub fails-first-stays : (t : Structure) → home_of t ≡ home → (one ≡ with_transfer false mid) ⊎ (one ≡ with_transfer false (with_block_at lbn block mid)) → StaysFor true s t one
-      fails-first-stays t same is = failed-stays s t work old one for same (fails-first is).writes.went
+      fails-first-stays t same is = failed-stays s t _ old one for same (fails-first is).writes.went
 
       module _ (landed : one ≡ with_transfer true (with_block_at lbn block mid)) where
         image-one : one.image ≡ first
@@ -163,14 +168,10 @@ module _ (s : Structure) (owner : Uic) (protection : ℕ) (ident attr : List ℕ
 
         -- nor could its bit
         pub fails-bit : (new : Disk) → FailsToWriteBit true n (index_in s) one new → FailsToCreate false home owner protection ident attr DeviceFault old new
-        fails-bit new fails = record {
-          right = right-fault _ _;
-          writes = writes-behind (reads-looked (looked_read old mid counts)) (behind new 1 fails);
-          unchanged = λ light. absurd cc;
-        }
+        fails-bit new fails = breaks-off some-free refl (right-fault _ _) (writes-behind (reads-looked (looked_read old mid counts)) (behind new 1 fails))
 
         pub fails-bit-stays : (t : Structure) (new : Disk) → home_of t ≡ home → FailsToWriteBit true n (index_in s) one new → StaysFor true s t new
-        fails-bit-stays t new same fails = failed-stays s t work old new for same (fails-bit new fails).writes.went
+        fails-bit-stays t new same fails = failed-stays s t _ old new for same (fails-bit new fails).writes.went
 
         image-two : (after : Index) (new : Disk) → WritesBit true n (index_in s) after one new → new.image ≡ with_bitmap_block first after n
         image-two after new wrote_bit = wrote_bit.image ∙ ap (λ (i : Image). with_bitmap_block i after n) image-one
@@ -190,12 +191,6 @@ module _ (s : Structure) (owner : Uic) (protection : ℕ) (ident attr : List ℕ
               let number = least-stored old.image home n (slot honest).least in
               λ i. record { number = sym number i; sequence = ((slot honest).given ∙ ap (λ (k : ℕ). next_sequence (st.last k)) (sym number)) i; volume = 0 };
         }
-          where
-            some-free : IsTrue old.honest → first_of (create_causes st) ≡ None
-            some-free honest =
-                let stored = ap (λ (l : List ℕ). length l) (free-stored old.image home) in
-                let within : 0 < length (free_in_index (index_of old.image home)) = slice_get_within _ _ n (slot honest).least.first in
-                ap (λ (b : Bool). cond b (Some NoHeader) None) (ne_eqb (free_headers st) 0 (λ none. omega (arith, stored, within, none)))
 
         pub created-stays : (t : Structure) (new : Disk) → home_of t ≡ home → bitmap_in t ≡ bitmap_in s → t.storage.free ≡ s.storage.free → WritesBit true n (index_in s) (index_in t) one new → StaysFor false s t new
         created-stays t new same bitmap free wrote_bit =

@@ -271,7 +271,7 @@ module _ (s : Structure) (f : FileId) (to n keep lbn : ℕ) (block cut : List �
           few = λ _. omega arith;
         };
       } in
-      breaks-fails (length_causes (store_on s old) f to) (cut_work f to) cut-moment (breaks-within (λ honest. let few = cost honest in omega (arith, few)) breaks)
+      breaks-fails (length_causes (store_on s old) f to) (cut_work f to) finds.no_cause cut-moment (breaks-within (λ honest. let few = cost honest in omega (arith, few)) breaks)
 
   module _ (now : Disk) (wrote : now ≡ with_transfer true (with_block_at lbn cut read)) where
     pub image-now : now.image ≡ written
@@ -305,7 +305,7 @@ module _ (s : Structure) (f : FileId) (to n keep lbn : ℕ) (block cut : List �
 
     pub fails-giving : (r : Refusal) (new : Disk) → BreaksOff h (store_of now.image h) (4 * pointers_in block) r now new → FailsToCut false h f to r old new
     fails-giving r new breaks =
-        breaks-fails (length_causes (store_on s old) f to) (cut_work f to) cut-moment
+        breaks-fails (length_causes (store_on s old) f to) (cut_work f to) finds.no_cause cut-moment
         (breaks-within (λ honest. let few = cost honest in omega (arith, few)) (breaks-then frees-now first-writes breaks))
 
     -- its other blocks were marked free
@@ -371,7 +371,7 @@ module _ (s : Structure) (f : FileId) (to n keep lbn : ℕ) (block cut : List �
           → FailsToCut false h f to r old new
       fails-behind r new breaks =
           let here = subst (λ (k : HomeFields). BreaksOff k (store_of given.image k) (tail_cost (table_of given.image k) (headers_behind (table_of given.image k) block)) r given new) same breaks in
-          breaks-fails (length_causes (store_on s old) f to) (cut_work f to) cut-moment (breaks-within cost-behind (breaks-then frees-given more-writes here))
+          breaks-fails (length_causes (store_on s old) f to) (cut_work f to) finds.no_cause cut-moment (breaks-within cost-behind (breaks-then frees-given more-writes here))
 
       -- the blocks of the file: those before, this header's own, and those behind
       counted : (honest : IsTrue old.honest) → length_of (file_in h f.number old.image) ≡ blocks_before t f.number n + length (blocks_named block) + length (blocks_by t hs)
@@ -444,6 +444,9 @@ module _ (s : Structure) (f : FileId) (to n keep lbn : ℕ) (block cut : List �
       free-now : IsTrue old.honest → SameFree h old.image now.image
       free-now honest = ap (λ (i : Image). (volume_of i h).free) image-now ∙ ap (λ (v : Volume). v.free) (one honest).slot.volume
 
+      size-now : IsTrue old.honest → (volume_of now.image h).size ≡ (volume_of old.image h).size
+      size-now honest = ap (λ (i : Image). (volume_of i h).size) image-now ∙ ap (λ (v : Volume). v.size) (one honest).slot.volume
+
       cuts-there : IsTrue old.honest → CutsThere f.number n keep to (volume_of old.image h) (volume_of given.image h)
       unfolding volume_of
       cuts-there honest = record {
@@ -458,8 +461,11 @@ module _ (s : Structure) (f : FileId) (to n keep lbn : ℕ) (block cut : List �
         to_is = finds.to_is honest;
         needed = subst (λ (b : List ℕ). (segment_number b ≡ 0) ⊎ (0 < keep)) (header-is honest) finds.needed;
         free =
-            subst (λ (b : List ℕ). FreesBlocks (drop keep (blocks_named b)) (volume_of old.image h) (volume_of given.image h)) (header-is honest) (λ k.
-            gives.frees (now-honest honest) k ∙ ap (λ (free : ℕ → Bool). free k || is_in (drop keep (blocks_named block)) k) (free-now honest));
+            subst (λ (b : List ℕ). FreesBlocks (drop keep (blocks_named b)) (volume_of old.image h) (volume_of given.image h)) (header-is honest) (record {
+              size = (gives.frees (now-honest honest)).size ∙ size-now honest;
+              free = λ k.
+                  (gives.frees (now-honest honest)).free k ∙ ap (λ (free : ℕ → Bool). free k || is_in (drop keep (blocks_named block)) k) (free-now honest);
+            });
       }
 
       -- the blocks of the file, once the headers behind it are gone

@@ -2,6 +2,7 @@
 use Rattle.std.proofs.Common.{◌≡◌, ◌≢◌, ◌⊎◌, ◌+◌, ◌*◌, ◌&&◌, ◌||◌, ℕ, Bool, true, false, cond, not, IsTrue, List, ◌∷◌, None, eqb, length, inl, inr, refl, sym, ap, subst, ◌∙◌, arith}
 use Rattle.std.proofs.lemmas.Bool.{cases_eq, eq-eqb, ne_eqb}
 use Rattle.f11_dev.specs.Disk.{Disk}
+use Rattle.f11_header.specs.Fields.{file_number}
 use Rattle.f11_home.specs.Home.{HomeFields}
 use Rattle.f11_index.specs.HeaderBlock.{blocks_named}
 use Rattle.f11_index.specs.Table.{Table, table_of}
@@ -11,6 +12,7 @@ use Rattle.f11_store.specs.declared.refusals.Refusal.{Refusal}
 use Rattle.f11_writes.specs.OtherSlots.{KeepsOtherSlots}
 use Rattle.f11_files.specs.Drops.{FreesMore, BreaksOff, Buries, GivesBlocks, DropsHeader, without_header, with_more_free, drop_cost}
 use Rattle.f11_files.specs.FileLaws.{pointers_in}
+use Rattle.f11_files.specs.SlotLaws.{KeepsOtherBlocks}
 use Rattle.f11_files.specs.StoreOf.{store_of}
 use Rattle.f11_files.proofs.BuryLemmas.{frees-slot}
 use Rattle.f11_files.proofs.FreeingLemmas.{freeing-more, writes-then, breaks-then}
@@ -26,7 +28,12 @@ module _ (home at : HomeFields) (n : ℕ) (block : List ℕ) (old now new : Disk
       record {
         others = λ honest. subst (KeepsOtherSlots n (table_of old.image home)) (sym (gives.table (now_honest honest))) (buries.others honest);
         unused = λ honest. ap (λ (t : Table). t.in_use n) (gives.table (now_honest honest)) ∙ buries.unused honest;
-        frees = λ honest k. gives.frees (now_honest honest) k ∙ ap (λ (free : ℕ → Bool). free k || is_in (blocks_named block) k) (buries.free honest);
+        dead = λ honest. ap (λ (t : Table). file_number (t.header n)) (gives.table (now_honest honest)) ∙ buries.dead honest;
+        blocks = λ honest. subst (KeepsOtherBlocks n (table_of old.image home)) (sym (gives.table (now_honest honest))) (buries.blocks honest);
+        frees = λ honest. record {
+          size = (gives.frees (now_honest honest)).size ∙ buries.size honest;
+          free = λ k. (gives.frees (now_honest honest)).free k ∙ ap (λ (free : ℕ → Bool). free k || is_in (blocks_named block) k) (buries.free honest);
+        };
         store = λ honest. gives.store (now_honest honest) ∙ ap (λ (s : Store). with_more_free s (length (blocks_named block))) (buries.store honest);
         writes = writes-then (freeing-more home (with_file (store_of old.image home) n None) (store_of now.image home) old now buries.writes.went.honest frees-now) buries.writes gives.writes;
       }

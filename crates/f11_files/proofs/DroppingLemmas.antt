@@ -6,7 +6,8 @@ use Rattle.f11_dev.specs.Disk.{Disk}
 use Rattle.f11_dev.specs.Image.{Image, IsImage}
 use Rattle.f11_dev.specs.Looked.{Looked}
 use Rattle.f11_dev.proofs.WentLemmas.{went_looked, went_within}
-use Rattle.f11_header.specs.Header.{holds_header}
+use Rattle.f11_header.specs.Fields.{file_number}
+use Rattle.f11_header.specs.Header.{holds_header, IsDead}
 use Rattle.f11_home.specs.Home.{HomeFields}
 use Rattle.f11_index.specs.HeaderBlock.{segment_number, link_of, blocks_named}
 use Rattle.f11_index.specs.IndexFile.{index_of}
@@ -26,11 +27,11 @@ use Rattle.f11_vfy.specs.Contents.{pointer_count}
 use Rattle.f11_vfy.specs.Sound.{HasSoundVolume}
 use Rattle.f11_vfy.specs.Volume.{Volume, volume_of}
 use Rattle.f11_writes.specs.OtherSlots.{KeepsOtherSlots}
-use Rattle.f11_files.specs.Allocation.{FreesBlocks}
+use Rattle.f11_files.specs.Allocation.{FreesBlocks, LosesHeaders}
 use Rattle.f11_files.specs.Answers.{Writes, refusal_for}
 use Rattle.f11_files.specs.Drops.{FreesMore, Freeing, BreaksOff, MayDrop, DropsHeader, DropsBehind, HangsBehind, headers_behind, without_header, without_headers, with_more_free, drop_cost, tail_cost}
 use Rattle.f11_files.specs.FileLaws.{pointers_in}
-use Rattle.f11_files.specs.SlotLaws.{with_use}
+use Rattle.f11_files.specs.SlotLaws.{with_use, KeepsOtherBlocks}
 use Rattle.f11_files.specs.StoreOf.{store_of}
 use Rattle.f11_files.specs.Structure.{index_in, home_of, store_on, IsFor, StaysFor}
 use Rattle.f11_files.specs.declared.structure.Structure.{Structure}
@@ -39,6 +40,7 @@ use Rattle.f11_files.proofs.DropLemmas.{drop-store}
 use Rattle.f11_files.proofs.FirstLemmas.{table-of}
 use Rattle.f11_files.proofs.FreeingLemmas.{frees-none, frees-then, frees-blocks, freeing-more, writes-then, writes-within, writes-none, breaks-then, breaks-within, stays-for}
 use Rattle.f11_files.proofs.InstanceLemmas.{with_file-same}
+use Rattle.f11_files.proofs.KillLemmas.{KillsAlike, in_use-place, kills-same, kills-then, kills-first}
 use Rattle.f11_files.proofs.LossLemmas.{LosesAlike, loses-same, loses-then, loses-all, loses-first}
 use Rattle.f11_files.proofs.NamedLemmas.{file-stored}
 use Rattle.f11_files.proofs.OpenLemmas.{looked-for}
@@ -61,6 +63,10 @@ pub record Dropping (s c : Structure) (from block : List ℕ) (old now : Disk) :
       IsTrue old.honest →
       LosesAlike (headers_behind (table_of old.image (home_of s)) from) (headers_behind (table_of now.image (home_of s)) block)
       (volume_of old.image (home_of s)) (volume_of now.image (home_of s))
+  pub kills :
+      IsTrue old.honest →
+      KillsAlike (headers_behind (table_of old.image (home_of s)) from) (headers_behind (table_of now.image (home_of s)) block)
+      (table_of old.image (home_of s)) (table_of now.image (home_of s))
   pub store :
       IsTrue old.honest →
       without_headers (store_of now.image (home_of s)) (table_of now.image (home_of s)) (headers_behind (table_of now.image (home_of s)) block)
@@ -78,6 +84,7 @@ dropping-none s from old for holds hangs = record {
   few = λ _. omega arith;
   frees = λ _. frees-none (store_on s old);
   loses = λ _. loses-same (headers_behind (table_of old.image (home_of s)) from) (volume_of old.image (home_of s));
+  kills = λ _. kills-same (headers_behind (table_of old.image (home_of s)) from) (table_of old.image (home_of s));
   store = λ _. refl;
   hangs = hangs;
 }
@@ -112,17 +119,29 @@ module _ (s c : Structure) (from block : List ℕ) (old now : Disk) (d : Droppin
       go (n ∷ ns) cost hangs honest = omega (arith, cost)
 
   -- the last one is in hand
+  module _ (after : List ℕ) (new : Disk) (last : FindsLast block after now new) (honest : IsTrue old.honest) where
+    abbrev hs : List ℕ
+    hs = headers_behind (table_of old.image h) from
+
+    all-killed : KillsAlike hs [] (table_of old.image h) u
+    all-killed = subst (λ (ns : List ℕ). KillsAlike hs ns (table_of old.image h) u) (behind-none u block last.no_link) (d.kills honest)
+
+    all-lost : LosesHeaders hs (volume_of old.image h) (volume_of now.image h)
+    unfolding volume_of
+    all-lost =
+        let was : Volume = volume_of old.image h in
+        let is : Volume = volume_of now.image h in
+        loses-all hs was is (subst (λ (ns : List ℕ). LosesAlike hs ns was is) (behind-none u block last.no_link) (d.loses honest))
+        (λ n among. (all-killed.killed n among refl).dead)
+
   pub dropped-all : (after : List ℕ) (new : Disk) → FindsLast block after now new → DropsBehind h from old new
   dropped-all after new last = subst (DropsBehind h from old) (sym last.disk_stays) (record {
     store = λ honest.
         let none : headers_behind u block ≡ [] = behind-none u block last.no_link in
         let sum : (store_of now.image h).free ≡ (store_of now.image h).free + 0 = omega arith in
         ap (λ (free : ℕ). record (store_of now.image h) { free = free }) sum ∙ ap (without_headers (store_of now.image h) u) (sym none) ∙ d.store honest;
-    loses = λ honest.
-        let hs : List ℕ = headers_behind (table_of old.image h) from in
-        let was : Volume = volume_of old.image h in
-        let is : Volume = volume_of now.image h in
-        loses-all hs was is (subst (λ (ns : List ℕ). LosesAlike hs ns was is) (behind-none u block last.no_link) (d.loses honest));
+    loses = all-lost after new last;
+    blocks = λ honest. (all-killed after new last honest).stays;
     writes = writes-within (λ honest. let few = d.few honest in omega (arith, few)) d.writes;
   })
 
@@ -261,6 +280,27 @@ module _ (s c : Structure) (from block : List ℕ) (old now : Disk) (d : Droppin
           (subst (λ (ns : List ℕ). LosesAlike hs ns (volume_of old.image h) (volume_of now.image h)) (list honest) (d.loses honest))
           (subst (λ (ns : List ℕ). LosesAlike (n ∷ rest) ns (volume_of now.image h) (volume_of new.image h)) (sym (rest-is honest)) (loses-one honest))
 
+      others-stay : IsTrue old.honest → KeepsOtherBlocks n u v
+      others-stay honest =
+          subst (λ (i : Image). KeepsOtherBlocks n (table_of i h) v) reads.looked.image
+          (subst (λ (k : HomeFields). KeepsOtherBlocks n (table_of read.image k) (table_of new.image k)) d.home (drops.blocks (read-honest honest)))
+
+      dead-now : IsTrue old.honest → IsDead (v.header n)
+      dead-now honest = ap (λ (k : HomeFields). file_number ((table_of new.image k).header n)) (sym d.home) ∙ drops.dead (read-honest honest)
+
+      kills-one : IsTrue old.honest → KillsAlike (n ∷ rest) rest u v
+      kills-one honest =
+          let place = in_use-place now.image h n (live honest).in_use in
+          let count = (others-stay honest).slots in
+          kills-first n rest u v (others-stay honest) (record { some = place.0; within = omega (arith, place.1, count); dead = dead-now honest })
+
+      kills-now : IsTrue old.honest → KillsAlike (headers_behind (table_of old.image h) from) (headers_behind v following) (table_of old.image h) v
+      kills-now honest =
+          let hs : List ℕ = headers_behind (table_of old.image h) from in
+          kills-then hs (n ∷ rest) (headers_behind v following) (table_of old.image h) u v
+          (subst (λ (ns : List ℕ). KillsAlike hs ns (table_of old.image h) u) (list honest) (d.kills honest))
+          (subst (λ (ns : List ℕ). KillsAlike (n ∷ rest) ns u v) (sym (rest-is honest)) (kills-one honest))
+
       store-now : IsTrue old.honest → without_headers (store_of new.image h) v (headers_behind v following) ≡ without_headers (store_of now.image h) u (headers_behind u block)
       store-now honest =
           let ns : List ℕ = rest in
@@ -304,6 +344,7 @@ module _ (s c : Structure) (from block : List ℕ) (old now : Disk) (d : Droppin
         few = cost-now;
         frees = frees-now;
         loses = loses-now;
+        kills = kills-now;
         store = λ honest. store-now honest ∙ d.store honest;
         hangs = λ honest. subst (HangsBehind v following) (sym (rest-is honest)) (hangs-now honest);
       }

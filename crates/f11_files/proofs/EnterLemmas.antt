@@ -45,7 +45,7 @@ use Rattle.f11_files.specs.Pieces.{TakesSome}
 use Rattle.f11_files.specs.SlotLaws.{with_last, with_use}
 use Rattle.f11_files.specs.StoreOf.{store_of}
 use Rattle.f11_files.specs.Structure.{index_in, home_of, store_on, Lies, Keeps, IsFor, StaysFor}
-use Rattle.f11_files.specs.Tail.{HoldsLast, MayBeGiven}
+use Rattle.f11_files.specs.Tail.{HoldsLast, MayBeGiven, ownership_of}
 use Rattle.f11_files.specs.Zeros.{HoldsZeros}
 use Rattle.f11_files.specs.declared.structure.Structure.{Structure}
 use Rattle.f11_files.specs.declared.tail.Tail.{Tail}
@@ -62,6 +62,7 @@ use Rattle.f11_files.proofs.GrowingLemmas.{breaks-fault}
 use Rattle.f11_files.proofs.InstanceLemmas.{unused-given}
 use Rattle.f11_files.proofs.NewFileLemmas.{free-stored, least-stored, slot-taken}
 use Rattle.f11_files.proofs.WriteLemmas.{writes-behind, writes-within}
+use Rattle.f11_files.specs.Allocation.{SaysOnly}
 
 -- a slot that wasn't in use and was given its next sequence number
 given-last : (s : Store) (n sequence m : ℕ) → s.in_use n ≡ false → sequence ≡ next_sequence (s.last n) → (m ≡ n) ⊎ (m ≢ n)
@@ -154,6 +155,13 @@ module _ (s : Structure) (tail : Tail) (lbn count : ℕ) (old : Disk) (for : IsF
 
       abbrev second : Index → Image
       second after = with_bitmap_block first after n
+
+      says-only : SaysOnly (ownership_of tail) block
+      says-only = record {
+        ownership_is = λ i. (new.owner_is i, new.protection_is i);
+        no_characteristics = new.no_characteristics;
+        no_attributes = new.no_attributes;
+      }
 
       is-new : IsTrue old.honest → IsNewExtension (index_of old.image home) n lbn count block
       is-new honest = record {
@@ -332,7 +340,9 @@ module _ (s : Structure) (tail : Tail) (lbn count : ℕ) (old : Disk) (for : IsF
               zeros = λ honest. subst (λ (i : Image). HoldsZeros i lbn count) (sym image-two) (zeros-second (index_kept after) honest bit.bit);
               bitmap = refl;
               free = λ honest. ap (λ (v : Volume). v.free) (made honest).bit.slot.volume ∙ ap (λ (v : Volume). v.free) (made honest).header.slot.volume;
-              adds = λ honest. adds-loose tail.file.number tail.number n block (index_kept after) home old.image first done.image (last.is_last honest) (slot honest).unused (made honest);
+              adds = λ honest.
+                  adds-loose tail.file.number tail.number n (ownership_of tail) block (index_kept after) home old.image first done.image (last.is_last honest)
+                  (slot honest).unused says-only (made honest);
               slots = λ honest. zero-entered n block (index_kept after) home old.image first done.image (made honest);
               slot = λ honest. sym (least-stored old.image home n (slot honest).least);
               store = λ honest. ap (λ (i : Image). store_of i home) image-two ∙ store-second (index_kept after) honest bit.bit;

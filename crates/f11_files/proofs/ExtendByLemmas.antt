@@ -16,14 +16,14 @@ use Rattle.f11_store.specs.declared.files.FileId.{FileId}
 use Rattle.f11_store.specs.declared.refusals.Refusal.{Refusal}
 use Rattle.f11_vfy.specs.Sound.{HasSoundVolume}
 use Rattle.f11_vfy.specs.Volume.{volume_of}
-use Rattle.f11_files.specs.Allocation.{GainsBlocks}
+use Rattle.f11_files.specs.Allocation.{GainsBlocksAs}
 use Rattle.f11_files.specs.Answers.{Meanwhile, Writes, Breaks}
 use Rattle.f11_files.specs.Extend.{AddsRun, ExtendsBy}
 use Rattle.f11_files.specs.Growing.{GrowingBy, Grew, IsGrowing}
 use Rattle.f11_files.specs.Pieces.{file_numbered, MayExtend, TakesSome, ExtendsSome}
 use Rattle.f11_files.specs.StoreOf.{store_of}
 use Rattle.f11_files.specs.Structure.{bitmap_in, home_of, store_on, IsFor, StaysFor}
-use Rattle.f11_files.specs.Tail.{HoldsLast, whose}
+use Rattle.f11_files.specs.Tail.{HoldsLast, whose, ownership_of}
 use Rattle.f11_files.specs.Take.{NoneBelow}
 use Rattle.f11_files.specs.declared.structure.Structure.{Structure}
 use Rattle.f11_files.specs.declared.tail.Tail.{Tail}
@@ -32,6 +32,7 @@ use Rattle.f11_files.proofs.FreeingLemmas.{breaks-behind, breaks-within, stays-t
 use Rattle.f11_files.proofs.GrowingLemmas.{grew-within}
 use Rattle.f11_files.proofs.PieceLemmas.{none-extended, extensions-add, others-may}
 use Rattle.f11_files.proofs.PieceLagLemmas.{extended-lags, taken-lags}
+use Rattle.f11_index.proofs.ChainLemmas.{file_of-header}
 
 -- the work of extending a file, in hand
 abbrev pub tail_work : Structure → Tail → ℕ → Disk → Work
@@ -47,7 +48,8 @@ pub record Extending (s t : Structure) (tail later : Tail) (n from left : ℕ) (
   pub bitmap : bitmap_in t ≡ bitmap_in s
   pub within : from ≤ (bitmap_in s).size
   pub none_below : IsTrue old.honest → NoneBelow now.image (bitmap_in s) from
-  pub gains : IsTrue old.honest → GainsBlocks tail.file.number done (volume_of old.image (home_of s)) (volume_of now.image (home_of s))
+  pub gains :
+      IsTrue old.honest → GainsBlocksAs tail.file.number (ownership_of tail) done (volume_of old.image (home_of s)) (volume_of now.image (home_of s))
   pub grew : Grew (Meanwhile (tail_work s tail n old) (home_of s) old) (home_of s) (store_on s old) tail.file.number done (from / 4096 + 5 * done) old now
 
 module _ (s : Structure) (tail : Tail) (n : ℕ) (old : Disk) (for : IsFor s old) (last : HoldsLast s tail old) (may : IsTrue old.honest → MayExtend (store_on s old) tail.file.number n) where
@@ -63,6 +65,10 @@ module _ (s : Structure) (tail : Tail) (n : ℕ) (old : Disk) (for : IsFor s old
   abbrev P : Image → Type 0
   P = Meanwhile (tail_work s tail n old) home old
 
+  nothing-gained : IsTrue old.honest → GainsBlocksAs k (ownership_of tail) 0 (volume_of old.image home) (volume_of old.image home)
+  unfolding volume_of
+  nothing-gained honest = gains-nothing k (ownership_of tail) (volume_of old.image home) (file_of-header (last.is_last honest).of)
+
   pub extending-none : Extending s s tail tail n 0 n old old
   extending-none = record {
     done = 0;
@@ -73,7 +79,7 @@ module _ (s : Structure) (tail : Tail) (n : ℕ) (old : Disk) (for : IsFor s old
     bitmap = refl;
     within = omega arith;
     none_below = λ honest j low. absurd (omega (arith, low));
-    gains = λ honest. gains-nothing k (volume_of old.image home);
+    gains = nothing-gained;
     grew = record {
       extends = λ honest. none-extended st k n (may honest);
       transfers = 0;
@@ -97,6 +103,9 @@ module _ (s : Structure) (tail : Tail) (n : ℕ) (old : Disk) (for : IsFor s old
 
     number : later.file.number ≡ k
     number = ap (λ (w : FileId × Uic × ℕ). w.0.number) so_far.file
+
+    ownership : ownership_of later ≡ ownership_of tail
+    ownership = ap (λ (w : FileId × Uic × ℕ). (w.1, w.2)) so_far.file
 
     -- what the file has so far
     abbrev has : IsTrue old.honest → Extends st k so_far.done tn
@@ -184,9 +193,12 @@ module _ (s : Structure) (tail : Tail) (n : ℕ) (old : Disk) (for : IsFor s old
         within = let same = ap (λ (b : Bitmap). b.size) so_far.bitmap in let inside = adds.within in omega (arith, same, inside);
         none_below = λ honest. subst (λ (b : Bitmap). NoneBelow new.image b end) so_far.bitmap (adds.none_below (now-honest honest));
         gains = λ honest.
-            gains-add k so_far.done count (volume_of old.image home) (volume_of now.image home) (volume_of new.image home) (so_far.gains honest)
-            (subst (λ (h : HomeFields). GainsBlocks k count (volume_of now.image h) (volume_of new.image h)) so_far.stays.home
-            (subst (λ (j : ℕ). GainsBlocks j count (volume_of now.image (home_of t)) (volume_of new.image (home_of t))) number (adds.gains (now-honest honest))));
+            gains-add k (ownership_of tail) so_far.done count (volume_of old.image home) (volume_of now.image home) (volume_of new.image home)
+            (so_far.gains honest)
+            (subst (λ (h : HomeFields). GainsBlocksAs k (ownership_of tail) count (volume_of now.image h) (volume_of new.image h)) so_far.stays.home
+            (subst (λ (w : Uic × ℕ). GainsBlocksAs k w count (volume_of now.image (home_of t)) (volume_of new.image (home_of t))) ownership
+            (subst (λ (j : ℕ). GainsBlocksAs j (ownership_of later) count (volume_of now.image (home_of t)) (volume_of new.image (home_of t))) number
+            (adds.gains (now-honest honest)))));
         grew = record {
           extends = λ honest. (both honest).0;
           transfers = so_far.grew.transfers + adds.grew.transfers;
@@ -200,11 +212,12 @@ module _ (s : Structure) (tail : Tail) (n : ℕ) (old : Disk) (for : IsFor s old
         };
       }
 
-    pub extending-done : left ≤ 0 → ExtendsBy s k n old now
+    pub extending-done : left ≤ 0 → ExtendsBy s k (ownership_of tail) n old now
     extending-done none =
         let all : so_far.done ≡ n = let sum = so_far.sum in omega (arith, sum, none) in
         record {
-          gains = λ honest. subst (λ (m : ℕ). GainsBlocks k m (volume_of old.image home) (volume_of now.image home)) all (so_far.gains honest);
+          gains = λ honest.
+              subst (λ (m : ℕ). GainsBlocksAs k (ownership_of tail) m (volume_of old.image home) (volume_of now.image home)) all (so_far.gains honest);
           grew =
               subst (λ (m : ℕ). Grew P home st k m ((bitmap_in s).size / 4096 + 5 * m) old now) all
               (grew-within (λ _. let within = so_far.within in omega (arith, within)) so_far.grew);

@@ -17,10 +17,10 @@ use Rattle.f11_store.specs.declared.refusals.Refusal.TheVariants.{NoSuchFile, De
 use Rattle.f11_store.specs.declared.refusals.Refusal.{Refusal}
 use Rattle.f11_store.proofs.LagLaws.{lags_itself}
 use Rattle.f11_vfy.specs.Volume.{volume_of}
-use Rattle.f11_files.specs.Allocation.{GainsBlocks}
+use Rattle.f11_files.specs.Allocation.{GainsBlocks, ownership_in, GainsBlocksAs}
 use Rattle.f11_files.specs.Answers.{Breaks, Meanwhile, Writes}
 use Rattle.f11_files.specs.Clear.{Clearing, ClearsMark}
-use Rattle.f11_files.specs.Extend.{ExtendsBy, ExtendsFile, FailsToExtend, IsLengthAfter}
+use Rattle.f11_files.specs.Extend.{ExtendsBy, ExtendsFile, FailsToExtend, IsLengthAfter, IsTailOf}
 use Rattle.f11_files.specs.Operations.{extend_causes}
 use Rattle.f11_files.specs.Pieces.{MayExtend, file_numbered}
 use Rattle.f11_files.specs.Room.{FindsRoom}
@@ -30,12 +30,15 @@ use Rattle.f11_files.specs.declared.structure.Structure.{Structure}
 use Rattle.f11_files.proofs.AllocationLemmas.{gains-add}
 use Rattle.f11_files.proofs.AnswerLemmas.{right-fault}
 use Rattle.f11_files.proofs.ClearLemmas.{stored}
-use Rattle.f11_files.proofs.ClearedLemmas.{enough, fewer-needed, grave-right, covered, image-read, honest-read, reads-found, honest-cleared}
+use Rattle.f11_files.proofs.ClearedLemmas.{enough, fewer-needed, grave-right, covered, image-read, honest-read, reads-found, honest-cleared, tail-ownership}
 use Rattle.f11_files.proofs.LocateLemmas.{counts-last}
 use Rattle.f11_files.proofs.NamedLemmas.{found-named, held-named, is-file}
 use Rattle.f11_files.proofs.PieceLagLemmas.{cleared-lags}
 use Rattle.f11_files.proofs.PieceLemmas.{cleared-extends, cleared-may}
-use Rattle.f11_files.proofs.WriteLemmas.{failed-stays, writes-behind}
+use Rattle.f11_files.proofs.WriteLemmas.{breaks-off, failed-stays, writes-behind}
+use Rattle.f11_files.specs.Tail.{ownership_of}
+use Rattle.f11_files.specs.declared.tail.Tail.{Tail}
+use Rattle.f11_store.specs.declared.callers.Uic.{Uic}
 
 -- a file has the room that it had where its mark is cleared
 pub cleared-room : (s : Store) (k : ℕ) → (file_numbered (with_change s k with_no_mark) k).room ≡ (file_numbered s k).room
@@ -100,14 +103,11 @@ module _ (s : Structure) (f : FileId) (n : ℕ) (end : FileEnd) (was last : List
   pub fails-clearing : (new : Disk) → Went (Clearing s f read) read new 1 1 → FailsToExtend false home f n DeviceFault old new
   fails-clearing new went =
       let writes = writes-behind (reads-found s f n end was last old read for finds) (went_weaker (Clearing s f read) (Meanwhile work home old) clear-moment went) in
-      record {
-        right = right-fault _ _;
-        writes = record { transfers = writes.transfers; went = writes.went; few = λ honest. let few = writes.few honest in let cost = clear-cost in omega (arith, few, cost) };
-        unchanged = λ light. absurd cc;
-      }
+      breaks-off finds.no_cause refl (right-fault _ _)
+      (record { transfers = writes.transfers; went = writes.went; few = λ honest. let few = writes.few honest in let cost = clear-cost in omega (arith, few, cost) })
 
   pub stays-clearing : (new : Disk) → Went (Clearing s f read) read new 1 1 → StaysFor true s s new
-  stays-clearing new went = failed-stays s s work old new for refl (fails-clearing new went).writes.went
+  stays-clearing new went = failed-stays s s _ old new for refl (fails-clearing new went).writes.went
 
   module _ (block : List ℕ) (cleared : Disk) (clears : ClearsMark s f was block read cleared) where
     still-honest : cleared.honest ≡ old.honest
@@ -143,24 +143,27 @@ module _ (s : Structure) (f : FileId) (n : ℕ) (end : FileEnd) (was last : List
     pub fails-growing : (r : Refusal) (new : Disk)
         → Breaks (Meanwhile (extend_work k (file_numbered after k).room n) home cleared) (after.bitmap_blocks + 5 * n + 3 * need (file_numbered after k).room n + 3) r cleared new
         → FailsToExtend false home f n r old new
-    fails-growing r new breaks = record {
-      right = grave-right (extend_causes st f n) r old.honest breaks.grave (λ honest. breaks.undamaged (still-honest ∙ honest));
-      writes = record {
-        transfers = writes-cleared.transfers + breaks.writes.transfers;
-        went = went_more (Meanwhile work home old) writes-cleared.went (went_weaker _ (Meanwhile work home old) grown-moment breaks.writes.went);
-        few = λ honest.
-            let first = writes-cleared.few honest in
-            let then = breaks.writes.few (still-honest ∙ honest) in
-            let blocks = ap (λ (x : Store). x.bitmap_blocks) (store-cleared honest) in
-            let many = enough st.index_bitmap_blocks ((n + 101) / 102) in
-            let headers : need (file_numbered after k).room n ≤ (n + 101) / 102 = fewer-needed (file_numbered after k).room n in
-            omega (arith, first, then, blocks, many, headers);
-      };
-      unchanged = λ light. let no : true ≡ false = sym breaks.grave ∙ light in absurd cc;
-    }
+    fails-growing r new breaks =
+        breaks-off finds.no_cause breaks.grave (grave-right (extend_causes st f n) r old.honest breaks.grave (λ honest. breaks.undamaged (still-honest ∙ honest)))
+        (record {
+          transfers = writes-cleared.transfers + breaks.writes.transfers;
+          went = went_more (Meanwhile work home old) writes-cleared.went (went_weaker _ (Meanwhile work home old) grown-moment breaks.writes.went);
+          few = λ honest.
+              let first = writes-cleared.few honest in
+              let then = breaks.writes.few (still-honest ∙ honest) in
+              let blocks = ap (λ (x : Store). x.bitmap_blocks) (store-cleared honest) in
+              let many = enough st.index_bitmap_blocks ((n + 101) / 102) in
+              let headers : need (file_numbered after k).room n ≤ (n + 101) / 102 = fewer-needed (file_numbered after k).room n in
+              omega (arith, first, then, blocks, many, headers);
+        })
 
-    pub extends-file : (new : Disk) → ExtendsBy s k n cleared new → ExtendsFile home f n old new
-    extends-file new extends = let grew = extends.grew in record {
+    -- the ownership that its headers had
+    abbrev ownership : Uic × ℕ
+    ownership = ownership_in ((volume_of old.image home).table.header k)
+
+    pub extends-file : (tail : Tail) → IsTailOf f block end.number last tail → (new : Disk) → ExtendsBy s k (ownership_of tail) n cleared new
+        → ExtendsFile home f n old new
+    extends-file tail of new extends = let grew = extends.grew in record {
       no_cause = finds.no_cause;
       makes = λ honest.
           (cleared-extends st (store_of new.image home) k n (is-numbered honest)
@@ -169,7 +172,9 @@ module _ (s : Structure) (f : FileId) (n : ℕ) (end : FileEnd) (was last : List
           let none : 0 + n ≡ n = omega arith in
           let cleared_first = subst (λ (i : Image). GainsBlocks k 0 (volume_of i home) (volume_of cleared.image home)) (image-read s f n end was last old read for finds) (clears.gains (honest-then ∙ honest)) in
           subst (λ (m : ℕ). GainsBlocks k m (volume_of old.image home) (volume_of new.image home)) none
-          (gains-add k 0 n (volume_of old.image home) (volume_of cleared.image home) (volume_of new.image home) cleared_first (extends.gains (still-honest ∙ honest)));
+          (gains-add k ownership 0 n (volume_of old.image home) (volume_of cleared.image home) (volume_of new.image home) cleared_first
+          (subst (λ (r : Uic × ℕ). GainsBlocksAs k r n (volume_of cleared.image home) (volume_of new.image home))
+          (tail-ownership s f n end was last old read for finds block cleared clears tail of honest) (extends.gains (still-honest ∙ honest))));
       writes = record {
         transfers = writes-cleared.transfers + grew.transfers;
         went = went_more (Meanwhile work home old) writes-cleared.went (went_weaker _ (Meanwhile work home old) grown-moment grew.went);

@@ -1,5 +1,5 @@
 -- A file whose first header was written with the map that it had.
-use Rattle.std.proofs.Common.{◌≡◌, ◌≢◌, ◌⊎◌, ◌≤◌, ◌<◌, ◌-◌, inl, inr, ℕ, Bool, true, false, IsTrue, List, [], Some, option_map, refl, ap, sym, subst, ◌∙◌, length, map, get_or, arith}
+use Rattle.std.proofs.Common.{◌≡◌, ◌≢◌, ◌↔◌, ◌⊎◌, ◌≤◌, ◌<◌, ◌-◌, inl, inr, ℕ, Bool, true, false, IsTrue, List, [], Some, option_map, refl, ap, sym, subst, ◌∙◌, length, map, get_or, arith}
 use Rattle.std.specs.Prelude.{Contains}
 use Rattle.std.specs.List.{sum_by}
 use Rattle.std.proofs.lemmas.Bool.{cases_eq, cond-false}
@@ -15,7 +15,7 @@ use Rattle.f11_map.specs.MapArea.{runs_of, blocks_of}
 use Rattle.f11_index.specs.Growth.{with_header}
 use Rattle.f11_index.specs.HeaderBlock.{segment_number, link_of, blocks_named}
 use Rattle.f11_index.specs.Headers.{headers_of}
-use Rattle.f11_index.specs.Table.{Table, table_of, IsFile, IsHeaderOf, IsWholeFile, first}
+use Rattle.f11_index.specs.Table.{Table, table_of, IsFile, IsLive, IsHeaderOf, IsWholeFile, first}
 use Rattle.f11_index.proofs.ChainLemmas.{live_of-header}
 use Rattle.f11_index.proofs.HeadersLemmas.{listed-are, headers_from-some, live-some}
 use Rattle.f11_chain.specs.FileHeaders.{file_blocks}
@@ -23,6 +23,7 @@ use Rattle.f11_chain.proofs.ChangeLemmas.{file-alike}
 use Rattle.f11_store.specs.Changes.{with_delete_mark, with_replacement}
 use Rattle.f11_store.specs.File.{File, with_mark, without_contiguous}
 use Rattle.f11_store.specs.Lags.{with_no_mark}
+use Rattle.f11_store.specs.declared.callers.Uic.{Uic}
 use Rattle.f11_store.specs.declared.files.Change.TheVariants as change
 use Rattle.f11_vfy.specs.Contents.{block_or_zeros, file_of, headers_reached, pointer_count, room_left}
 use Rattle.f11_vfy.specs.Sound.{HasSoundVolume}
@@ -32,9 +33,10 @@ use Rattle.f11_writes.specs.Kept.{file_in, said_of, WritesHeader}
 use Rattle.f11_writes.specs.Volumes.{MayName, MayBecome, links_as_before}
 use Rattle.f11_writes.proofs.HeaderLemmas.{rewrite-keeps, file-rewrite-keeps}
 use Rattle.f11_writes.proofs.NameLemmas.{own-names}
-use Rattle.f11_files.specs.Allocation.{GainsBlocks, KeepsBlocks}
+use Rattle.f11_writes.proofs.OtherSlotLemmas.{live-was, turned}
+use Rattle.f11_files.specs.Allocation.{ownership_in, AddsHeaders, GainsBlocksAs, KeepsBlocks}
 use Rattle.f11_files.specs.FieldLaws.{said_by, SaysBut, WrittenSays, AttributesAreReplaced, IdentIsReplaced, ProtectionIsReplaced, DeleteMarkIsSet, ContiguousMarkIsCleared, ChangesFile}
-use Rattle.f11_files.proofs.AllocationLemmas.{gains-none, keeps-slot, named-live}
+use Rattle.f11_files.proofs.AllocationLemmas.{gains-none, keeps-slot, named-live, said-again}
 use Rattle.f11_files.proofs.FileLemmas.{sum-same}
 use Rattle.f11_files.proofs.InstanceLemmas.{first-alone, seen-stored, file-stored}
 
@@ -114,14 +116,31 @@ module _ (image : Image) (home : HomeFields) (f : ℕ) (block : List ℕ) (chang
     pub field-keeps : KeepsBlocks (volume_of image home) (volume_of new home)
     unfolding volume_of
     field-keeps = record {
+      size = ap (λ (v : Volume). v.size) wrote.slot.volume;
       names = keeps-slot f image new home wrote.slot
           (named-live u f file-now.live ∙ ap blocks_named here ∙ blocks-same change (t.header f) block says ∙ sym (named-live t f file.live));
       free = ap (λ (v : Volume). v.free) wrote.slot.volume;
     }
 
-    pub field-gains : ((m : ℕ) → IsHeaderOf t f m → IsHeaderOf u f m) → GainsBlocks f 0 (volume_of image home) (volume_of new home)
+    -- and has no header more
+    field-says : (ownership : Uic × ℕ) → ((m : ℕ) → IsHeaderOf u f m → IsHeaderOf t f m) → ownership_in block ≡ ownership_in (t.header f) → AddsHeaders f ownership t u
+    field-says ownership were alike = record {
+      file = file;
+      added = λ m of. inl (were m of);
+      live = λ m live. elim (cases_eq m f) [
+        | inl here ↦ subst (IsLive u) (sym here) file-now.live
+        | inr away ↦ live-was u t f (turned t u f wrote.slot.others) m away live
+      ];
+      alike = λ m live away. said-again (wrote.slot.others.header m away live.in_use);
+      first = ap ownership_in here ∙ alike;
+    }
+
+    pub field-gains : (ownership : Uic × ℕ) → ((m : ℕ) → IsHeaderOf u f m ↔ IsHeaderOf t f m) → ownership_in block ≡ ownership_in (t.header f)
+        → GainsBlocksAs f ownership 0 (volume_of image home) (volume_of new home)
     unfolding volume_of
-    field-gains headers = gains-none f (volume_of image home) (volume_of new home) headers same.1 field-keeps (ap (λ (v : Volume). v.size) wrote.slot.volume)
+    field-gains ownership headers alike =
+        gains-none f ownership (volume_of image home) (volume_of new home) (λ m of. (headers m).1 of) (field-says ownership (λ m of. (headers m).0 of) alike) same.1
+        field-keeps
 
     headers-were : headers_reached t f ≡ headers_of t f
     headers-were = reached-are 256 t f was-whole (first file)

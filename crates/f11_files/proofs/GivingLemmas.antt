@@ -25,7 +25,7 @@ use Rattle.f11_files.specs.StoreOf.{store_of}
 use Rattle.f11_files.specs.Structure.{home_of, store_on, IsFor, StaysFor}
 use Rattle.f11_files.specs.declared.structure.Structure.{Structure}
 use Rattle.f11_files.proofs.FreeingLemmas.{frees-none, frees-then, frees-blocks, freeing-more, writes-then, writes-within, writes-none, breaks-then, breaks-within, stays-for, run-keeps, run-store}
-use Rattle.f11_files.proofs.LossLemmas.{FreeAlike, frees-run, frees-nothing, first-freed, all-freed}
+use Rattle.f11_files.proofs.LossLemmas.{FreeAlike, frees-run, frees-nothing, alike-same, alike-then, first-freed, all-freed}
 
 -- what is left of a header's blocks: those of this pointer, and those of the ones behind it
 pub left-split : (runs : List (ℕ × ℕ)) (i left kept : ℕ) (run : ℕ × ℕ) → slice_get runs i ≡ Some run → kept ≡ min left run.1
@@ -135,7 +135,7 @@ giving-none s lbns old for spare = record {
   table = λ _. refl;
   free = λ _. refl;
   frees = λ _. frees-none (store_on s old);
-  bits = λ _ k. refl;
+  bits = λ _. alike-same lbns (volume_of old.image (home_of s));
   spare = spare;
 }
 
@@ -177,8 +177,11 @@ module _ (s t : Structure) (all : List ℕ) (lbn count : ℕ) (rest : List ℕ) 
           frees = λ honest.
               frees-then (store_on s old) (store_of now.image (home_of s)) (store_of new.image (home_of s)) (giving.frees honest)
               (subst (FreesMore (store_of now.image (home_of s))) (sym (done honest).store) (frees-blocks (store_of now.image (home_of s)) count));
-          bits = λ honest k.
-              first-freed (range_with_len lbn count) rest (volume_of now.image (home_of s)) (volume_of new.image (home_of s)) (done honest).frees k ∙ giving.bits honest k;
+          bits = λ honest.
+              let was : Volume = volume_of now.image (home_of s) in
+              let is : Volume = volume_of new.image (home_of s) in
+              alike-then all (range_with_len lbn count ++ rest) rest (volume_of old.image (home_of s)) was is (giving.bits honest)
+              (first-freed (range_with_len lbn count) rest was is (done honest).frees);
           spare = λ honest. (done honest).spare;
         }
       where

@@ -7,6 +7,7 @@ use Rattle.std.proofs.lemmas.List.Sums.{sum_by-cons}
 use Rattle.f11_dev.specs.Disk.{Disk}
 use Rattle.f11_dev.specs.Image.{Image, IsImage}
 use Rattle.f11_dev.proofs.WentLemmas.{went_looked, went_weaker}
+use Rattle.f11_header.specs.Header.{IsDead}
 use Rattle.f11_home.specs.Home.{HomeFields}
 use Rattle.f11_index.specs.HeaderBlock.{segment_number, blocks_named}
 use Rattle.f11_index.specs.Headers.{headers_from, headers_of}
@@ -15,8 +16,8 @@ use Rattle.f11_index.specs.Table.{Table, table_of, IsLive, first}
 use Rattle.f11_index.proofs.HeadersLemmas.{link_number, live-some, headers_from-some}
 use Rattle.f11_index.proofs.SegmentLemmas.{table-bytes}
 use Rattle.f11_chain.specs.FileHeaders.{blocks_by, file_blocks}
-use Rattle.f11_store.specs.Causes.{Cause}
-use Rattle.f11_store.specs.Changes.{with_file, without_slots, without_file, without_file_at}
+use Rattle.f11_store.specs.Causes.{Cause, first_of}
+use Rattle.f11_store.specs.Changes.{is_in, with_file, without_slots, without_file, without_file_at}
 use Rattle.f11_store.specs.Cost.{cut_cost}
 use Rattle.f11_store.specs.File.{File, no_file, length_of}
 use Rattle.f11_store.specs.Lags.{Work, AreLike, LagsBy, go_work}
@@ -34,7 +35,7 @@ use Rattle.f11_writes.proofs.OtherSlotLemmas.{turned, header-was}
 use Rattle.f11_files.specs.Allocation.{FreesBlocks, LosesHeaders}
 use Rattle.f11_files.specs.Answers.{IsRight, Writes, FailsToWrite, Meanwhile, is_grave, is_cause}
 use Rattle.f11_files.specs.Deletes.{Deletes, FailsToDelete}
-use Rattle.f11_files.specs.Drops.{FreesMore, Freeing, BreaksOff, DropsHeader, DropsBehind, HangsBehind, headers_behind, drop_cost, tail_cost, with_more_free, without_header, without_headers}
+use Rattle.f11_files.specs.Drops.{FreesMore, Freeing, BreaksOff, DropsHeader, DropsBehind, HangsBehind, KeepsBlocksBut, headers_behind, drop_cost, tail_cost, with_more_free, without_header, without_headers}
 use Rattle.f11_files.specs.FileLaws.{pointers_in}
 use Rattle.f11_files.specs.First.{FindsFile, HoldsFile}
 use Rattle.f11_files.specs.Operations.{file_causes}
@@ -42,9 +43,11 @@ use Rattle.f11_files.specs.SlotLaws.{with_use}
 use Rattle.f11_files.specs.StoreOf.{store_of}
 use Rattle.f11_files.specs.Structure.{index_in, home_of, store_on, IsFor}
 use Rattle.f11_files.specs.declared.structure.Structure.{Structure}
+use Rattle.f11_files.proofs.WriteLemmas.{breaks-off}
 use Rattle.f11_files.proofs.BuryLemmas.{frees-slot}
 use Rattle.f11_files.proofs.DropLemmas.{drop-store}
 use Rattle.f11_files.proofs.FreeingLemmas.{frees-none, frees-then, frees-blocks, freeing-more, writes-then, writes-within, breaks-then, breaks-within}
+use Rattle.f11_files.proofs.KillLemmas.{IsKilled, in_use-place, killed-both}
 use Rattle.f11_files.proofs.LocateLemmas.{whole, held-are}
 use Rattle.f11_files.proofs.LossLemmas.{LosesAlike, loses-then, loses-all, lost-all, loses-first}
 use Rattle.f11_files.proofs.NamedLemmas.{block-is, no-file-cause, held-named, seen-same, file-stored}
@@ -79,13 +82,12 @@ breaks-right causes breaks = record {
     grave-cause : (r : Refusal) → is_grave r ≡ true → is_cause r ≡ true → ⊥
     grave-cause r grave is = grind (arith, nat_tests)
 
-pub breaks-fails : {home : HomeFields} {s : Store} {most : ℕ} {r : Refusal} {old new : Disk} (causes : List Cause) (work : Work) → ((image : Image) → Freeing home s old image → Meanwhile work home old image)
+pub breaks-fails : {home : HomeFields} {s : Store} {most : ℕ} {r : Refusal} {old new : Disk} (causes : List Cause) (work : Work) → (IsTrue old.honest → first_of causes ≡ None)
+    → ((image : Image) → Freeing home s old image → Meanwhile work home old image)
     → BreaksOff home s most r old new → FailsToWrite false causes most work home r old new
-breaks-fails {home = home} {s = s} {old = old} causes work moments breaks = record {
-  right = breaks-right causes breaks;
-  writes = record { transfers = breaks.writes.transfers; went = went_weaker (Freeing home s old) (Meanwhile work home old) moments breaks.writes.went; few = breaks.writes.few };
-  unchanged = λ light. let no : true ≡ false = sym breaks.grave ∙ light in absurd cc;
-}
+breaks-fails {home = home} {s = s} {old = old} causes work none moments breaks =
+    breaks-off none breaks.grave (breaks-right causes breaks)
+    (record { transfers = breaks.writes.transfers; went = went_weaker (Freeing home s old) (Meanwhile work home old) moments breaks.writes.went; few = breaks.writes.few })
 
 -- a file's first header in hand, on an honest disk
 module _ (s : Structure) (f : FileId) (block : List ℕ) (disk : Disk) (for : IsFor s disk) (holds : HoldsFile (index_in s) f block disk) (honest : IsTrue disk.honest) where
@@ -153,7 +155,7 @@ module _ (s : Structure) (f : FileId) (block : List ℕ) (old read : Disk) (for 
   gone-first r new breaks =
       let whole-breaks = breaks-then (λ _. frees-none (with_file (store_on s old) n None)) read-writes
       (subst (λ (i : Image). BreaksOff h (with_file (store_of i h) n None) (drop_cost block) r read new) finds.looked.image breaks) in
-      breaks-fails (file_causes (store_on s old) f) (go_work n) (gone-moment h n old) (breaks-within (λ honest. let cost = cost-was honest in omega (arith, cost)) whole-breaks)
+      breaks-fails (file_causes (store_on s old) f) (go_work n) (λ honest. no-file-cause s f block old for finds.holds honest) (gone-moment h n old) (breaks-within (λ honest. let cost = cost-was honest in omega (arith, cost)) whole-breaks)
 
   module _ (c : Structure) (now : Disk) (drops : DropsHeader h n block read now) (same : home_of c ≡ h) (is_image : IsImage now.image) where
     abbrev u : Table
@@ -212,14 +214,32 @@ module _ (s : Structure) (f : FileId) (block : List ℕ) (old read : Disk) (for 
       unfolding volume_of
       loses-one = loses-first n hs (volume_of old.image h) (volume_of now.image h) others unused blocks-freed blocks-behind
 
-      -- and then so are those of the others
-      loses-file : (new : Image) → LosesHeaders (headers_behind u block) (volume_of now.image h) (volume_of new h) → LosesHeaders (headers_of was n) (volume_of old.image h) (volume_of new h)
-      loses-file new loses =
-          let v : Volume = volume_of old.image h in
-          let w : Volume = volume_of now.image h in
-          let x : Volume = volume_of new h in
-          subst (λ (ns : List ℕ). LosesHeaders ns v x) (sym (headers-are s f block old for finds.holds honest))
-          (loses-all (n ∷ hs) v x (loses-then (n ∷ hs) hs [] v w x loses-one (lost-all hs w x (subst (λ (ns : List ℕ). LosesHeaders ns w x) behind-is loses))))
+      -- its header was killed
+      is-killed : IsKilled u n
+      is-killed =
+          let place = in_use-place old.image h n (whole s f block old for finds.holds honest).file.live.in_use in
+          let count = (drops.blocks read-honest).slots ∙ ap (λ (v : Table). v.slots) tables in
+          record { some = place.0; within = omega (arith, place.1, count); dead = drops.dead read-honest }
+
+      -- and then the others went
+      module _ (new : Image) (loses : LosesHeaders (headers_behind u block) (volume_of now.image h) (volume_of new h))
+          (stays : KeepsBlocksBut (headers_behind u block) u (table_of new h)) where
+        rest-lost : LosesHeaders hs (volume_of now.image h) (volume_of new h)
+        rest-lost = subst (λ (ns : List ℕ). LosesHeaders ns (volume_of now.image h) (volume_of new h)) behind-is loses
+
+        all-killed : (m : ℕ) → is_in (n ∷ hs) m ≡ true → IsDead ((table_of new h).header m)
+        unfolding volume_of
+        all-killed =
+            killed-both n hs u (table_of new h) is-killed (subst (λ (ns : List ℕ). KeepsBlocksBut ns u (table_of new h)) behind-is stays) rest-lost.killed
+
+        loses-file : LosesHeaders (headers_of was n) (volume_of old.image h) (volume_of new h)
+        unfolding volume_of
+        loses-file =
+            let v : Volume = volume_of old.image h in
+            let w : Volume = volume_of now.image h in
+            let x : Volume = volume_of new h in
+            subst (λ (ns : List ℕ). LosesHeaders ns v x) (sym (headers-are s f block old for finds.holds honest))
+            (loses-all (n ∷ hs) v x (loses-then (n ∷ hs) hs [] v w x loses-one (lost-all hs w x rest-lost)) all-killed)
 
       store-now : store_of now.image h ≡ without_header (store_on s old) n (length (blocks_named block))
       store-now = drops.store read-honest ∙ ap (λ (i : Image). without_header (store_of i h) n (length (blocks_named block))) finds.looked.image
@@ -270,7 +290,7 @@ module _ (s : Structure) (f : FileId) (block : List ℕ) (old read : Disk) (for 
         → FailsToDelete false h f r old new
     gone-behind r new breaks =
         let here = subst (λ (k : HomeFields). BreaksOff k (store_of now.image k) (tail_cost (table_of now.image k) (headers_behind (table_of now.image k) block)) r now new) same breaks in
-        breaks-fails (file_causes (store_on s old) f) (go_work n) (gone-moment h n old) (breaks-within cost-behind (breaks-then frees-now first-writes here))
+        breaks-fails (file_causes (store_on s old) f) (go_work n) (λ honest. no-file-cause s f block old for finds.holds honest) (gone-moment h n old) (breaks-within cost-behind (breaks-then frees-now first-writes here))
 
     pub deletes-file : (new : Disk) → DropsBehind (home_of c) block now new → Deletes h f old new
     deletes-file new behind =
@@ -284,7 +304,9 @@ module _ (s : Structure) (f : FileId) (block : List ℕ) (old read : Disk) (for 
               ∙ ap (λ (bs : List ℕ). with_more_free (without_slots (store_of now.image h) (hs honest)) (length bs)) (blocks-behind honest)
               ∙ ap (λ (x : Store). with_more_free (without_slots x (hs honest)) (length (blocks_by was (hs honest)))) (store-now honest)
               ∙ gone-store honest;
-          allots = λ honest. loses-file honest new.image (here.loses (drops.writes.went.honest ∙ finds.looked.honest ∙ honest));
+          allots = λ honest.
+              let sure : IsTrue now.honest = drops.writes.went.honest ∙ finds.looked.honest ∙ honest in
+              loses-file honest new.image (here.loses sure) (here.blocks sure);
           writes = record {
             transfers = wrote.transfers;
             went = went_weaker (Freeing h (with_file (store_on s old) n None) old) (Meanwhile (go_work n) h old) (gone-moment h n old) wrote.went;

@@ -17,7 +17,7 @@ use Rattle.f11_store.specs.declared.files.FileId.{FileId}
 use Rattle.f11_store.specs.declared.refusals.Refusal.{Refusal}
 use Rattle.f11_vfy.specs.Sound.{HasSoundVolume}
 use Rattle.f11_vfy.specs.Volume.{volume_of}
-use Rattle.f11_files.specs.Allocation.{GainsSlots}
+use Rattle.f11_files.specs.Allocation.{GainsSlotsAs}
 use Rattle.f11_files.specs.Answers.{Meanwhile, Writes, Breaks}
 use Rattle.f11_files.specs.GrowIndex.{AddsSlots, GrewIndex, GrowingIndexBy, GrowsIndexBy, GrowsSome}
 use Rattle.f11_files.specs.Growing.{IsGrowing}
@@ -25,7 +25,7 @@ use Rattle.f11_files.specs.IndexPieces.{MayGrowIndex}
 use Rattle.f11_files.specs.Pieces.{TakesSome}
 use Rattle.f11_files.specs.StoreOf.{store_of}
 use Rattle.f11_files.specs.Structure.{bitmap_in, home_of, store_on, IsFor, StaysFor}
-use Rattle.f11_files.specs.Tail.{HoldsLast, whose}
+use Rattle.f11_files.specs.Tail.{HoldsLast, whose, ownership_of}
 use Rattle.f11_files.specs.Take.{NoneBelow}
 use Rattle.f11_files.specs.declared.structure.Structure.{Structure}
 use Rattle.f11_files.specs.declared.tail.Tail.{Tail}
@@ -34,6 +34,8 @@ use Rattle.f11_files.proofs.FreeingLemmas.{breaks-behind, breaks-within, stays-t
 use Rattle.f11_files.proofs.GrowingIndexLemmas.{index-within}
 use Rattle.f11_files.proofs.IndexPieceLemmas.{none-grown, growths-add, others-grow}
 use Rattle.f11_files.proofs.IndexPieceLagLemmas.{grown-lags, taken-index-lags}
+use Rattle.f11_index.proofs.ChainLemmas.{file_of-header}
+use Rattle.f11_index.specs.Table.{table_of, IsFile}
 
 -- the work of growing the index file
 abbrev pub index_work : Structure → ℕ → Disk → Work
@@ -50,7 +52,7 @@ pub record GrowingOn (s t : Structure) (tail later : Tail) (n from left : ℕ) (
   pub reserved : left ≤ room t.index
   pub within : from ≤ (bitmap_in s).size
   pub none_below : IsTrue old.honest → NoneBelow now.image (bitmap_in s) from
-  pub gains : IsTrue old.honest → GainsSlots done (volume_of old.image (home_of s)) (volume_of now.image (home_of s))
+  pub gains : IsTrue old.honest → GainsSlotsAs (ownership_of tail) done (volume_of old.image (home_of s)) (volume_of now.image (home_of s))
   pub grew : GrewIndex (Meanwhile (index_work s n old) (home_of s) old) (home_of s) (store_on s old) done (from / 4096 + 5 * done) old now
 
 module _ (s : Structure) (tail : Tail) (n : ℕ) (old : Disk) (for : IsFor s old) (last : HoldsLast s tail old) (index : tail.file.number ≡ 1) (reserved : n ≤ room s.index)
@@ -64,6 +66,11 @@ module _ (s : Structure) (tail : Tail) (n : ℕ) (old : Disk) (for : IsFor s old
   abbrev P : Image → Type 0
   P = Meanwhile (index_work s n old) home old
 
+  nothing-gained : IsTrue old.honest → GainsSlotsAs (ownership_of tail) 0 (volume_of old.image home) (volume_of old.image home)
+  unfolding volume_of
+  nothing-gained honest =
+      slots-nothing (ownership_of tail) (volume_of old.image home) (subst (IsFile (table_of old.image home)) index (file_of-header (last.is_last honest).of))
+
   pub growing-none : GrowingOn s s tail tail n 0 n old old
   growing-none = record {
     done = 0;
@@ -75,7 +82,7 @@ module _ (s : Structure) (tail : Tail) (n : ℕ) (old : Disk) (for : IsFor s old
     reserved = reserved;
     within = omega arith;
     none_below = λ honest j low. absurd (omega (arith, low));
-    gains = λ honest. slots-nothing (volume_of old.image home);
+    gains = nothing-gained;
     grew = record {
       grows = λ honest. none-grown st n (may honest);
       transfers = 0;
@@ -103,6 +110,9 @@ module _ (s : Structure) (tail : Tail) (n : ℕ) (old : Disk) (for : IsFor s old
 
     pub next-index : later.file.number ≡ 1
     next-index = ap (λ (w : FileId × Uic × ℕ). w.0.number) so_far.file ∙ index
+
+    ownership : ownership_of later ≡ ownership_of tail
+    ownership = ap (λ (w : FileId × Uic × ℕ). (w.1, w.2)) so_far.file
 
     pub next-may : IsTrue now.honest → MayGrowIndex (store_on t now) left
     next-may honest =
@@ -183,8 +193,10 @@ module _ (s : Structure) (tail : Tail) (n : ℕ) (old : Disk) (for : IsFor s old
         within = let same = ap (λ (b : Bitmap). b.size) so_far.bitmap in let inside = adds.within in omega (arith, same, inside);
         none_below = λ honest. subst (λ (b : Bitmap). NoneBelow new.image b end) so_far.bitmap (adds.none_below (now-honest honest));
         gains = λ honest.
-            slots-add so_far.done count (volume_of old.image home) (volume_of now.image home) (volume_of new.image home) (so_far.gains honest)
-            (subst (λ (h : HomeFields). GainsSlots count (volume_of now.image h) (volume_of new.image h)) so_far.stays.home (adds.gains (now-honest honest)));
+            slots-add (ownership_of tail) so_far.done count (volume_of old.image home) (volume_of now.image home) (volume_of new.image home) (so_far.gains honest)
+            (subst (λ (h : HomeFields). GainsSlotsAs (ownership_of tail) count (volume_of now.image h) (volume_of new.image h)) so_far.stays.home
+            (subst (λ (w : Uic × ℕ). GainsSlotsAs w count (volume_of now.image (home_of t)) (volume_of new.image (home_of t))) ownership
+            (adds.gains (now-honest honest))));
         grew = record {
           grows = λ honest. (both honest).0;
           transfers = so_far.grew.transfers + adds.grew.transfers;
@@ -198,11 +210,11 @@ module _ (s : Structure) (tail : Tail) (n : ℕ) (old : Disk) (for : IsFor s old
         };
       }
 
-    pub growing-done : left ≤ 0 → GrowsIndexBy s n old now
+    pub growing-done : left ≤ 0 → GrowsIndexBy s (ownership_of tail) n old now
     growing-done none =
         let all : so_far.done ≡ n = let sum = so_far.sum in omega (arith, sum, none) in
         record {
-          gains = λ honest. subst (λ (m : ℕ). GainsSlots m (volume_of old.image home) (volume_of now.image home)) all (so_far.gains honest);
+          gains = λ honest. subst (λ (m : ℕ). GainsSlotsAs (ownership_of tail) m (volume_of old.image home) (volume_of now.image home)) all (so_far.gains honest);
           grew =
               subst (λ (m : ℕ). GrewIndex P home st m ((bitmap_in s).size / 4096 + 5 * m) old now) all
               (index-within (λ _. let within = so_far.within in omega (arith, within)) so_far.grew);

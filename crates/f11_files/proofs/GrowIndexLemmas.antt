@@ -15,14 +15,14 @@ use Rattle.f11_store.specs.Causes.{first_of, growth_causes}
 use Rattle.f11_store.specs.Changes.{with_change, with_more_slots, GrowsIndex}
 use Rattle.f11_store.specs.Cost.{growth_cost, header_count}
 use Rattle.f11_store.specs.File.{File, need}
-use Rattle.f11_store.specs.Lags.{Work, LagsBy, grow_work, with_no_mark}
+use Rattle.f11_store.specs.Lags.{Work, LagsBy, grow_work, with_no_mark, work_if}
 use Rattle.f11_store.specs.Store.{Store, file_named, index_file}
 use Rattle.f11_store.specs.declared.refusals.Refusal.TheVariants.{NoSuchFile, IndexLimit, NoMemory, DeviceFault}
 use Rattle.f11_store.specs.Refusal.{refusal_number}
 use Rattle.f11_store.specs.declared.refusals.Refusal.{Refusal}
 use Rattle.f11_store.proofs.LagLaws.{lags_itself}
 use Rattle.f11_vfy.specs.Volume.{volume_of}
-use Rattle.f11_files.specs.Allocation.{GainsSlots}
+use Rattle.f11_files.specs.Allocation.{GainsSlots, ownership_in, GainsSlotsAs}
 use Rattle.f11_files.specs.Answers.{Breaks, FailsToWrite, IsRight, Meanwhile, Reads, Writes, is_among}
 use Rattle.f11_files.specs.Clear.{Clearing, ClearsMark}
 use Rattle.f11_files.specs.GrowIndex.{FailsToGrow, FindsIndexRoom, GrowsIndexBy, GrowsIndexFile, IsSlotsAfter, index_id}
@@ -34,13 +34,17 @@ use Rattle.f11_files.specs.Structure.{index_in, home_of, store_on, IsFor, StaysF
 use Rattle.f11_files.specs.declared.structure.Structure.{Structure}
 use Rattle.f11_files.proofs.ZeroSlotLemmas.{slots-add}
 use Rattle.f11_files.proofs.AnswerLemmas.{right-fault, reads-within}
-use Rattle.f11_files.proofs.ClearedLemmas.{enough, fewer-needed, grave-right, covered, image-read, honest-read, reads-found, honest-cleared}
+use Rattle.f11_files.proofs.ClearedLemmas.{enough, fewer-needed, grave-right, covered, image-read, honest-read, reads-found, honest-cleared, tail-ownership}
 use Rattle.f11_files.proofs.IndexFileLemmas.{index-is}
 use Rattle.f11_files.proofs.IndexPieceLagLemmas.{cleared-grow-lags}
 use Rattle.f11_files.proofs.IndexPieceLemmas.{cleared-grow, cleared-grows}
 use Rattle.f11_files.proofs.ExtendLemmas.{cleared-room}
 use Rattle.f11_files.proofs.SpaceLemmas.{slots-of}
-use Rattle.f11_files.proofs.WriteLemmas.{failed-stays, looked-stays, writes-behind}
+use Rattle.f11_files.proofs.WriteLemmas.{breaks-off, failed-stays, looked-stays, writes-behind}
+use Rattle.f11_files.specs.Extend.{IsTailOf}
+use Rattle.f11_files.specs.Tail.{ownership_of}
+use Rattle.f11_files.specs.declared.tail.Tail.{Tail}
+use Rattle.f11_store.specs.declared.callers.Uic.{Uic}
 
 module _ (s : Structure) (index : IndexFile) (kept : index_kept index ≡ index_in s) where
   abbrev r : Structure
@@ -130,7 +134,7 @@ module _ (s : Structure) (n : ℕ) (end : FileEnd) (was last : List ℕ) (old re
   wants-memory = record {
     right = λ not. absurd (not refl);
     wanting = λ _. (refl, no-cause);
-    writes = record { transfers = reads-there.reads; went = went_looked (Meanwhile work home old) reads-there.looked; few = λ honest. let few = reads-there.few honest in let cost = read-cost st file n in omega (arith, few, cost) };
+    writes = record { transfers = reads-there.reads; went = went_looked (Meanwhile (work_if (first_of (grow_causes st n)) work) home old) reads-there.looked; few = λ honest. let few = reads-there.few honest in let cost = read-cost st file n in omega (arith, few, cost) };
     unchanged = λ _. reads-within (let cost = read-cost st file n in omega (arith, cost)) reads-there;
   }
 
@@ -150,14 +154,12 @@ module _ (s : Structure) (n : ℕ) (end : FileEnd) (was last : List ℕ) (old re
   pub fails-clearing : (new : Disk) → Went (Clearing s index_id read) read new 1 1 → FailsToGrow false home n DeviceFault old new
   fails-clearing new went =
       let writes = writes-behind reads-there (went_weaker (Clearing s index_id read) (Meanwhile work home old) clear-moment went) in
-      as-grow (λ is. omega (arith, is)) (record {
-        right = right-fault _ _;
-        writes = record { transfers = writes.transfers; went = writes.went; few = λ honest. let few = writes.few honest in let cost = read-cost st file n in omega (arith, few, cost) };
-        unchanged = λ light. absurd cc;
-      })
+      as-grow (λ is. omega (arith, is))
+      (breaks-off no-cause refl (right-fault _ _)
+      (record { transfers = writes.transfers; went = writes.went; few = λ honest. let few = writes.few honest in let cost = read-cost st file n in omega (arith, few, cost) }))
 
   pub stays-clearing : (new : Disk) → Went (Clearing s index_id read) read new 1 1 → StaysFor true s s new
-  stays-clearing new went = failed-stays s s work old new for refl (fails-clearing new went).writes.went
+  stays-clearing new went = failed-stays s s _ old new for refl (fails-clearing new went).writes.went
 
   module _ (block : List ℕ) (cleared : Disk) (clears : ClearsMark s index_id was block read cleared) where
     still-honest : cleared.honest ≡ old.honest
@@ -192,23 +194,21 @@ module _ (s : Structure) (n : ℕ) (end : FileEnd) (was last : List ℕ) (old re
 
     pub fails-growing : (r : Refusal) (new : Disk)
         → Breaks (Meanwhile (grow_work (index_file after).room n) home cleared) (after.bitmap_blocks + 5 * n + 3 * need (index_file after).room n + 3) r cleared new → FailsToGrow false home n r old new
-    fails-growing r new breaks = as-grow (λ is. let no : true ≡ false = sym breaks.grave ∙ ap (ltb 18) is in absurd cc) (record {
-      right = grave-right (grow_causes st n) r old.honest breaks.grave (λ honest. breaks.undamaged (still-honest ∙ honest));
-      writes = record {
-        transfers = writes-cleared.transfers + breaks.writes.transfers;
-        went = went_more (Meanwhile work home old) writes-cleared.went (went_weaker _ (Meanwhile work home old) grown-moment breaks.writes.went);
-        few = λ honest.
-            let first = writes-cleared.few honest in
-            let then = breaks.writes.few (still-honest ∙ honest) in
-            let blocks = ap (λ (x : Store). x.bitmap_blocks) (store-cleared honest) in
-            let many = enough st.index_bitmap_blocks ((n + 101) / 102) in
-            let headers : need (index_file after).room n ≤ (n + 101) / 102 = fewer-needed (index_file after).room n in
-            omega (arith, first, then, blocks, many, headers);
-      };
-      unchanged = λ light. let no : true ≡ false = sym breaks.grave ∙ light in absurd cc;
-    })
+    fails-growing r new breaks = as-grow (λ is. let no : true ≡ false = sym breaks.grave ∙ ap (ltb 18) is in absurd cc)
+        (breaks-off no-cause breaks.grave (grave-right (grow_causes st n) r old.honest breaks.grave (λ honest. breaks.undamaged (still-honest ∙ honest)))
+        (record {
+          transfers = writes-cleared.transfers + breaks.writes.transfers;
+          went = went_more (Meanwhile work home old) writes-cleared.went (went_weaker _ (Meanwhile work home old) grown-moment breaks.writes.went);
+          few = λ honest.
+              let first = writes-cleared.few honest in
+              let then = breaks.writes.few (still-honest ∙ honest) in
+              let blocks = ap (λ (x : Store). x.bitmap_blocks) (store-cleared honest) in
+              let many = enough st.index_bitmap_blocks ((n + 101) / 102) in
+              let headers : need (index_file after).room n ≤ (n + 101) / 102 = fewer-needed (index_file after).room n in
+              omega (arith, first, then, blocks, many, headers);
+        }))
 
-    grown : (new : Disk) → GrowsIndexBy s n cleared new → IsTrue old.honest → GrowsIndex st n (store_of new.image home)
+    grown : {ownership : Uic × ℕ} (new : Disk) → GrowsIndexBy s ownership n cleared new → IsTrue old.honest → GrowsIndex st n (store_of new.image home)
     grown new grows honest =
         (cleared-grows st (store_of new.image home) n (is-numbered honest)
         (subst (λ (x : Store). GrowsIndex x n (store_of new.image home)) (store-cleared honest) (grows.grew.grows (still-honest ∙ honest)))).0
@@ -219,19 +219,26 @@ module _ (s : Structure) (n : ℕ) (end : FileEnd) (was last : List ℕ) (old re
     mark-gains honest = record { blocks = clears.gains honest; slots = clears.zeros honest }
 
     -- and it has the lowest free blocks more
-    gains-all : (new : Disk) → GrowsIndexBy s n cleared new → IsTrue old.honest → GainsSlots n (volume_of old.image home) (volume_of new.image home)
-    gains-all new grows honest =
+    abbrev ownership : Uic × ℕ
+    ownership = ownership_in ((volume_of old.image home).table.header 1)
+
+    gains-all : (tail : Tail) → IsTailOf index_id block end.number last tail → (new : Disk) → GrowsIndexBy s (ownership_of tail) n cleared new
+        → IsTrue old.honest → GainsSlots n (volume_of old.image home) (volume_of new.image home)
+    gains-all tail of new grows honest =
         let none : 0 + n ≡ n = omega arith in
         let first : GainsSlots 0 (volume_of old.image home) (volume_of cleared.image home) =
         subst (λ (i : Image). GainsSlots 0 (volume_of i home) (volume_of cleared.image home)) image-then (mark-gains (honest-then ∙ honest)) in
         subst (λ (m : ℕ). GainsSlots m (volume_of old.image home) (volume_of new.image home)) none
-        (slots-add 0 n (volume_of old.image home) (volume_of cleared.image home) (volume_of new.image home) first (grows.gains (still-honest ∙ honest)))
+        (slots-add ownership 0 n (volume_of old.image home) (volume_of cleared.image home) (volume_of new.image home) first
+        (subst (λ (r : Uic × ℕ). GainsSlotsAs r n (volume_of cleared.image home) (volume_of new.image home))
+        (tail-ownership s index_id n end was last old read for finds.room block cleared clears tail of honest) (grows.gains (still-honest ∙ honest))))
 
-    pub grows-file : (new : Disk) → GrowsIndexBy s n cleared new → GrowsIndexFile home n old new
-    grows-file new grows = let grew = grows.grew in record {
+    pub grows-file : (tail : Tail) → IsTailOf index_id block end.number last tail → (new : Disk) → GrowsIndexBy s (ownership_of tail) n cleared new
+        → GrowsIndexFile home n old new
+    grows-file tail of new grows = let grew = grows.grew in record {
       no_cause = no-cause;
       makes = grown new grows;
-      allots = gains-all new grows;
+      allots = gains-all tail of new grows;
       writes = record {
         transfers = writes-cleared.transfers + grew.transfers;
         went = went_more (Meanwhile work home old) writes-cleared.went (went_weaker _ (Meanwhile work home old) grown-moment grew.went);
@@ -246,7 +253,8 @@ module _ (s : Structure) (n : ℕ) (end : FileEnd) (was last : List ℕ) (old re
       };
     }
 
-    pub slots-after : (t : Structure) (new : Disk) (count : ℕ) → GrowsIndexBy s n cleared new → StaysFor false s t new → count ≡ slots (index_in t) → IsSlotsAfter home n old count
+    pub slots-after : {ownership : Uic × ℕ} (t : Structure) (new : Disk) (count : ℕ) → GrowsIndexBy s ownership n cleared new → StaysFor false s t new
+        → count ≡ slots (index_in t) → IsSlotsAfter home n old count
     slots-after t new count grows stays is honest =
         let end = grows.grew.went.honest ∙ still-honest ∙ honest in
         is ∙ ap slots (stays.keeps refl end).index_is ∙ sym (slots-of new.image (home_of t)) ∙ ap (λ (h : HomeFields). (store_of new.image h).slots) stays.home

@@ -96,7 +96,7 @@ module _ (old new : Image) (home : HomeFields) (n : ℕ) where
 
   -- a header was written
   module _ (block : List ℕ) (wrote : WritesHeader n block home old new) where
-    blocks-but : KeepsOtherBlocks n t u
+    pub blocks-but : KeepsOtherBlocks n t u
     unfolding table_in
     blocks-but = record { slots = ap slots wrote.index_file.index; header = wrote.index_file.others }
 
@@ -156,7 +156,7 @@ module _ (old new : Image) (home : HomeFields) (n : ℕ) where
 
   -- a bit was written
   module _ (after : Index) (wrote : WritesSlotBit n after home old new) where
-    headers-stay : KeepsOtherBlocks n t u
+    pub headers-stay : KeepsOtherBlocks n t u
     headers-stay = record { slots = ap (λ (v : Table). v.slots) wrote.index_file.table; header = λ m some within apart. ap (λ (v : Table). v.header m) wrote.index_file.table }
 
     last-stays : last_given t n ≡ last_given u n

@@ -34,6 +34,7 @@ pub mod StepLemmas
 pub mod ExtensionLemmas
 pub mod LooseLemmas
 pub mod KeptLemmas
+pub mod KillLemmas
 pub mod CutLemmas
 pub mod RoomLemmas
 pub mod ZeroLemmas

@@ -10,6 +10,7 @@ use Rattle.std.proofs.lemmas.List.Folds.{list_any-append}
 use Rattle.std.proofs.lemmas.Option.{none-some, same_Some, slice_get_within}
 use Rattle.f11_bits.specs.Bitmap.{Marks}
 use Rattle.f11_dev.specs.Image.{Image}
+use Rattle.f11_header.specs.Header.{IsDead}
 use Rattle.f11_home.specs.Home.{HomeFields}
 use Rattle.f11_map.proofs.MapLemmas.{slice_get-append_back}
 use Rattle.f11_index.specs.HeaderBlock.{segment_number, blocks_named}
@@ -61,40 +62,53 @@ out-run a (suc count) k out =
 pub frees-run : (old new : Image) (home : HomeFields) (lbn count : ℕ) → KeepsButFree home old new → Marks true (storage_bitmap old home) lbn count old new
     → FreesBlocks (range_with_len lbn count) (volume_of old home) (volume_of new home)
 unfolding volume_of
-frees-run old new home lbn count kept marks k =
-    let was : Bool = (volume_of old home).free k in
-    let now = ap (λ (v : Volume). v.free k) kept.volume in
-    let out : (k < lbn) ⊎ (lbn + count ≤ k) → was ≡ (was || is_in (range_with_len lbn count) k) =
-    λ is. sym (or-false was) ∙ ap (λ (b : Bool). was || b) (sym (out-run lbn count k is)) in
-    elim (cases_lt k lbn) [
-      | inl below ↦ now ∙ marks.before k below ∙ out (inl below)
-      | inr low ↦ elim (cases_lt k (lbn + count)) [
-        | inl inside ↦ now ∙ marks.inside k low inside ∙ sym (ap (λ (b : Bool). was || b) (in-run lbn count k low inside) ∙ or-true was)
-        | inr past ↦ now ∙ marks.after k past ∙ out (inr past)
-      ]
-    ]
+frees-run old new home lbn count kept marks = record { size = ap (λ (v : Volume). v.size) kept.volume; free = now-free }
+  where
+    now-free : (k : ℕ) → (volume_of new home).free k ≡ ((volume_of old home).free k || is_in (range_with_len lbn count) k)
+    now-free k =
+        let was : Bool = (volume_of old home).free k in
+        let now = ap (λ (v : Volume). v.free k) kept.volume in
+        let out : (k < lbn) ⊎ (lbn + count ≤ k) → was ≡ (was || is_in (range_with_len lbn count) k) =
+        λ is. sym (or-false was) ∙ ap (λ (b : Bool). was || b) (sym (out-run lbn count k is)) in
+        elim (cases_lt k lbn) [
+          | inl below ↦ now ∙ marks.before k below ∙ out (inl below)
+          | inr low ↦ elim (cases_lt k (lbn + count)) [
+            | inl inside ↦ now ∙ marks.inside k low inside ∙ sym (ap (λ (b : Bool). was || b) (in-run lbn count k low inside) ∙ or-true was)
+            | inr past ↦ now ∙ marks.after k past ∙ out (inr past)
+          ]
+        ]
 
 -- none was
 pub frees-nothing : (v : Volume) → FreesBlocks [] v v
-frees-nothing v k = sym (or-false (v.free k))
+frees-nothing v = record { size = refl; free = λ k. sym (or-false (v.free k)) }
 
--- with these blocks free in one volume the same are free as with those in another
-abbrev pub FreeAlike : List ℕ → List ℕ → Volume → Volume → Type 0
-FreeAlike xs ys v w = (k : ℕ) → (w.free k || is_in ys k) ≡ (v.free k || is_in xs k)
+-- With these blocks free in one volume the same are free as with those in another, and that has the same size.
+pub record FreeAlike (xs ys : List ℕ) (v w : Volume) : Type 0 where
+  pub size : w.size ≡ v.size
+  pub free : (k : ℕ) → (w.free k || is_in ys k) ≡ (v.free k || is_in xs k)
+
+pub alike-same : (xs : List ℕ) (v : Volume) → FreeAlike xs xs v v
+alike-same xs v = record { size = refl; free = λ k. refl }
+
+pub alike-then : (xs ys zs : List ℕ) (u v w : Volume) → FreeAlike xs ys u v → FreeAlike ys zs v w → FreeAlike xs zs u w
+alike-then xs ys zs u v w one two = record { size = two.size ∙ one.size; free = λ k. two.free k ∙ one.free k }
 
 -- of all that are to be marked free the first were
 pub first-freed : (xs rest : List ℕ) (v w : Volume) → FreesBlocks xs v w → FreeAlike (xs ++ rest) rest v w
-first-freed xs rest v w frees k =
-    ap (λ (b : Bool). b || is_in rest k) (frees k) ∙ or_assoc (v.free k) (is_in xs k) (is_in rest k)
-    ∙ ap (λ (b : Bool). v.free k || b) (sym (in-append xs rest k))
+first-freed xs rest v w frees = record {
+  size = frees.size;
+  free = λ k.
+      ap (λ (b : Bool). b || is_in rest k) (frees.free k) ∙ or_assoc (v.free k) (is_in xs k) (is_in rest k)
+      ∙ ap (λ (b : Bool). v.free k || b) (sym (in-append xs rest k));
+}
 
 -- all were
 pub all-freed : (xs : List ℕ) (v w : Volume) → FreeAlike xs [] v w → FreesBlocks xs v w
-all-freed xs v w alike k = sym (or-false (w.free k)) ∙ alike k
+all-freed xs v w alike = record { size = alike.size; free = λ k. sym (or-false (w.free k)) ∙ alike.free k }
 
 -- some were, and then others
 frees-both : (xs ys : List ℕ) (u v w : Volume) → FreesBlocks xs u v → FreesBlocks ys v w → FreesBlocks (xs ++ ys) u w
-frees-both xs ys u v w one two k = two k ∙ first-freed xs ys u v one k
+frees-both xs ys u v w one two = record { size = two.size ∙ one.size; free = λ k. two.free k ∙ (first-freed xs ys u v one).free k }
 
 -- With these headers gone from one volume, the others name there what they name in another with those gone, and the same blocks are free.
 pub record LosesAlike (xs ys : List ℕ) (v w : Volume) : Type 0 where
@@ -102,26 +116,35 @@ pub record LosesAlike (xs ys : List ℕ) (v w : Volume) : Type 0 where
   pub free : FreeAlike (blocks_by v.table xs) (blocks_by w.table ys) v w
 
 pub loses-same : (xs : List ℕ) (v : Volume) → LosesAlike xs xs v v
-loses-same xs v = record { names = λ n. refl; free = λ k. refl }
+loses-same xs v = record { names = λ n. refl; free = alike-same (blocks_by v.table xs) v }
 
 pub loses-then : (xs ys zs : List ℕ) (u v w : Volume) → LosesAlike xs ys u v → LosesAlike ys zs v w → LosesAlike xs zs u w
-loses-then xs ys zs u v w one two = record { names = λ n. two.names n ∙ one.names n; free = λ k. two.free k ∙ one.free k }
+loses-then xs ys zs u v w one two = record {
+  names = λ n. two.names n ∙ one.names n;
+  free = alike-then (blocks_by u.table xs) (blocks_by v.table ys) (blocks_by w.table zs) u v w one.free two.free;
+}
 
 -- all of them went
-pub loses-all : (xs : List ℕ) (v w : Volume) → LosesAlike xs [] v w → LosesHeaders xs v w
-loses-all xs v w loses = record { names = loses.names; free = all-freed (blocks_by v.table xs) v w loses.free }
+pub loses-all : (xs : List ℕ) (v w : Volume) → LosesAlike xs [] v w → ((n : ℕ) → is_in xs n ≡ true → IsDead (w.table.header n)) → LosesHeaders xs v w
+loses-all xs v w loses killed = record { names = loses.names; killed = killed; free = all-freed (blocks_by v.table xs) v w loses.free }
 
 pub lost-all : (xs : List ℕ) (v w : Volume) → LosesHeaders xs v w → LosesAlike xs [] v w
-lost-all xs v w loses = record { names = loses.names; free = λ k. or-false (w.free k) ∙ loses.free k }
+lost-all xs v w loses = record {
+  names = loses.names;
+  free = record { size = loses.free.size; free = λ k. or-false (w.free k) ∙ loses.free.free k };
+}
 
 -- the first of them did
 pub loses-first : (n : ℕ) (ns : List ℕ) (v w : Volume) → KeepsOtherSlots n v.table w.table → w.table.in_use n ≡ false
     → FreesBlocks (blocks_named (v.table.header n)) v w → blocks_by w.table ns ≡ blocks_by v.table ns → LosesAlike (n ∷ ns) ns v w
 loses-first n ns v w others unused frees blocks = record {
   names = λ m. ap (λ (l : List ℕ). cond (is_in ns m) [] l) (one m) ∙ both (is_in ns m) (n == m) (named_by v.table m);
-  free = λ k.
-      ap (λ (l : List ℕ). w.free k || is_in l k) blocks
-      ∙ first-freed (blocks_named (v.table.header n)) (blocks_by v.table ns) v w frees k;
+  free = record {
+    size = frees.size;
+    free = λ k.
+        ap (λ (l : List ℕ). w.free k || is_in l k) blocks
+        ∙ (first-freed (blocks_named (v.table.header n)) (blocks_by v.table ns) v w frees).free k;
+  };
 }
   where
     one : (m : ℕ) → named_by w.table m ≡ cond (n == m) [] (named_by v.table m)
@@ -348,6 +371,7 @@ module _ (f n keep to : ℕ) (v w x : Volume) (cut : CutsThere f n keep to v w) 
       needed = elim cut.needed [ inl none ↦ inl none | inr some ↦ inr (let to_is = cut.to_is in omega (arith, some, to_is)) ];
       own = begins;
       gone = λ m is. goes m (ap (λ (l : List ℕ). is_in l m) (sym rest-left) ∙ is);
+      killed = λ m is. loses.killed m (ap (λ (l : List ℕ). is_in l m) (sym rest-left) ∙ is);
       others = away-from;
       free =
           subst (λ (l : List ℕ). FreesBlocks l v x) (sym lost-blocks)

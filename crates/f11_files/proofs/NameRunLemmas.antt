@@ -33,7 +33,7 @@ use Rattle.f11_files.specs.Allocation.{NamesMore}
 use Rattle.f11_files.specs.FileLaws.{SaysAlike, HasPointersMore, NamesMoreOf, held_from, room_in, with_more_blocks}
 use Rattle.f11_files.specs.Growing.{SameFree}
 use Rattle.f11_files.specs.Structure.{index_in, home_of, store_on, Lies, Keeps, IsFor}
-use Rattle.f11_files.specs.Tail.{HoldsLast, MayBeGiven, HasStore, pointers_more, with_zeros_more, Naming, NamesRun, FailsToName}
+use Rattle.f11_files.specs.Tail.{HoldsLast, MayBeGiven, HasStore, pointers_more, with_zeros_more, Naming, NamesRun, FailsToName, ownership_of}
 use Rattle.f11_files.specs.Zeros.{HoldsZeros}
 use Rattle.f11_files.specs.declared.structure.Structure.{Structure}
 use Rattle.f11_files.specs.declared.tail.Tail.{Tail}
@@ -250,8 +250,9 @@ module _ (s : Structure) (tail : Tail) (block : List ℕ) (lbn count : ℕ) (old
           is_for = for-new;
           store = λ honest. subst (HasStore home (with_zeros_more f more count (store_on s old))) (sym (image honest)) (store-named honest);
           names = λ honest.
-              subst (λ (i : Image). NamesMore f (range_with_len lbn count) t (table_of i home)) (sym (image honest))
-              (names-more old.image next home f n block more lbn count (as-header n block home old.image next (wrote-tail honest)) (names honest));
+              subst (λ (i : Image). NamesMore f (ownership_of tail) (range_with_len lbn count) t (table_of i home)) (sym (image honest))
+              (names-more old.image next home f n block more lbn count (as-header n block home old.image next (wrote-tail honest)) (names honest)
+              (ownership_of tail));
           free = λ honest. subst (SameFree home old.image) (sym (image honest)) (ap (λ (v : Volume). v.free) (wrote-tail honest).slot.volume);
           went = went;
         }

@@ -26,7 +26,7 @@ use Rattle.f11_files.specs.FileLaws.{HasSlotsMore, NamesMoreOf}
 use Rattle.f11_files.specs.Growing.{SameFree}
 use Rattle.f11_files.specs.IndexGrowth.{MayBecomeSlots, NamingSlots, NamesSlots, FailsToNameSlots, with_slots_named}
 use Rattle.f11_files.specs.Structure.{index_in, bitmap_in, home_of, store_on, IsFor, StaysFor}
-use Rattle.f11_files.specs.Tail.{HoldsLast, MayBeGiven, HasStore, pointers_more}
+use Rattle.f11_files.specs.Tail.{HoldsLast, MayBeGiven, HasStore, pointers_more, ownership_of}
 use Rattle.f11_files.specs.declared.structure.Structure.{Structure}
 use Rattle.f11_files.specs.declared.tail.Tail.{Tail}
 use Rattle.f11_files.proofs.AllocationLemmas.{names-more}
@@ -157,8 +157,8 @@ module _ (s : Structure) (tail : Tail) (block : List ℕ) (lbn count : ℕ) (old
         bitmap = refl;
         left = left;
         names = λ honest.
-            subst (λ (i : Image). NamesMore 1 (range_with_len lbn count) t (table_of i home)) (sym (image honest))
-            (names-more old.image next home 1 n block more lbn count (written honest) (names-one honest));
+            subst (λ (i : Image). NamesMore 1 (ownership_of tail) (range_with_len lbn count) t (table_of i home)) (sym (image honest))
+            (names-more old.image next home 1 n block more lbn count (written honest) (names-one honest) (ownership_of tail));
         slots = λ honest. subst (λ (i : Image). AddsZeroSlots t (table_of i home)) (sym (image honest)) (zero-slots honest);
         store = λ honest. subst (HasStore home then) (sym (image honest)) (store-slots honest);
         free = λ honest. subst (SameFree home old.image) (sym (image honest)) (ap (λ (v : Volume). v.free) (wrote-slots honest).slot.volume);

@@ -152,6 +152,7 @@ module _ (id : FileId) (owned : Uic) (protects : ℕ) (ident attr empty block : 
                   named-others (table_of one home) u id.number m wrote.slot.others away
                   ∙ named-others (table_of image home) (table_of one home) id.number m first_slot.others away
             ];
+            size = ap (λ (v : Volume). v.size) wrote.slot.volume ∙ ap (λ (v : Volume). v.size) first_slot.volume;
             free = ap (λ (v : Volume). v.free) wrote.slot.volume ∙ ap (λ (v : Volume). v.free) first_slot.volume;
           }
 

@@ -9,9 +9,10 @@ use Rattle.f11_index.specs.Headers.{IsLastOf}
 use Rattle.f11_index.specs.IndexFile.{Index, is_in_use}
 use Rattle.f11_index.specs.Table.{Table, table_of}
 use Rattle.f11_store.specs.Store.{Store}
+use Rattle.f11_store.specs.declared.callers.Uic.{Uic}
 use Rattle.f11_vfy.specs.Space.{storage_bitmap}
 use Rattle.f11_vfy.specs.Volume.{volume_of}
-use Rattle.f11_files.specs.Allocation.{AddsZeroSlots, GainsBlocks, NamesMore}
+use Rattle.f11_files.specs.Allocation.{AddsZeroSlots, GainsBlocksAs, NamesMore}
 use Rattle.f11_files.specs.Drops.{with_more_free}
 use Rattle.f11_files.specs.Growing.{SameFree}
 use Rattle.f11_files.specs.StoreOf.{store_of}
@@ -103,14 +104,16 @@ module _ (s t : Structure) (tail : Tail) (from most lbn count : ℕ) (old mid : 
       ∙ takes.none_below honest j low
 
   -- the file has the run then
-  pub run-gained : (u : Structure) (new : Disk) (f : ℕ) → bitmap_in u ≡ bitmap_in t → new.honest ≡ mid.honest → (IsTrue mid.honest → SameFree (home_of t) mid.image new.image)
-      → (IsTrue mid.honest → NamesMore f (range_with_len lbn count) (table_of mid.image (home_of t)) (table_of new.image (home_of t))) → StaysFor false t u new
-      → IsTrue old.honest → GainsBlocks f count (volume_of old.image home) (volume_of new.image home)
+  pub run-gained : (u : Structure) (new : Disk) (f : ℕ) (ownership : Uic × ℕ) → bitmap_in u ≡ bitmap_in t → new.honest ≡ mid.honest
+      → (IsTrue mid.honest → SameFree (home_of t) mid.image new.image)
+      → (IsTrue mid.honest → NamesMore f ownership (range_with_len lbn count) (table_of mid.image (home_of t)) (table_of new.image (home_of t)))
+      → StaysFor false t u new → IsTrue old.honest → GainsBlocksAs f ownership count (volume_of old.image home) (volume_of new.image home)
   unfolding volume_of
-  run-gained u new f bitmap still free names kept honest =
+  run-gained u new f ownership bitmap still free names kept honest =
       let there = takes.writes.went.honest ∙ honest in
-      gains-run f lbn count (volume_of old.image home) (volume_of mid.image home) (volume_of new.image home) (tables honest) (takes.lowest honest)
-      (subst (λ (h : HomeFields). NamesMore f (range_with_len lbn count) (table_of mid.image h) (table_of new.image h)) stays.home (names there))
+      gains-run f ownership lbn count (volume_of old.image home) (volume_of mid.image home) (volume_of new.image home) (tables honest) (takes.lowest honest)
+      (subst (λ (h : HomeFields). NamesMore f ownership (range_with_len lbn count) (table_of mid.image h) (table_of new.image h)) stays.home (names there))
+      (ap (λ (b : Bitmap). b.size) (bitmap-mid there ∙ (for.keeps honest).bitmap_is))
       (ap (λ (b : Bitmap). b.size) (bitmap-then u new bitmap kept (still ∙ there) ∙ sym (bitmap-mid there)))
       (subst (λ (h : HomeFields). SameFree h mid.image new.image) stays.home (free there))
 

@@ -1,5 +1,5 @@
 -- What is kept of an open volume, where blocks are written.
-use Rattle.std.proofs.Common.{◌≡◌, ◌≢◌, ◌⊎◌, ◌+◌, ◌≤◌, ℕ, Bool, true, false, cond, IsTrue, List, length, inl, inr, refl, sym, ap, subst, ◌∙◌, arith}
+use Rattle.std.proofs.Common.{◌≡◌, ◌≢◌, ◌⊎◌, ◌+◌, ◌≤◌, ℕ, Bool, true, false, cond, IsTrue, List, Option, None, length, inl, inr, refl, sym, ap, subst, ◌∙◌, arith}
 use Rattle.std.proofs.lemmas.Bool.{cases_eq, lt-ltb, ne_eqb}
 use Rattle.f11_bits.specs.Bitmap.{free_blocks, count_below}
 use Rattle.f11_dev.specs.Disk.{Disk}
@@ -9,15 +9,15 @@ use Rattle.f11_dev.specs.Went.{Went}
 use Rattle.f11_dev.proofs.LookedLemmas.{looked_none}
 use Rattle.f11_dev.proofs.WentLemmas.{went_looked, went_more, went_weaker, went_last}
 use Rattle.f11_home.specs.Home.{HomeFields}
-use Rattle.f11_store.specs.Causes.{Cause}
-use Rattle.f11_store.specs.Lags.{Work}
+use Rattle.f11_store.specs.Causes.{Cause, first_of}
+use Rattle.f11_store.specs.Lags.{Work, work_if}
 use Rattle.f11_store.specs.Refusal.{refusal_number}
 use Rattle.f11_store.specs.declared.refusals.Refusal.{Refusal}
 use Rattle.f11_store.specs.declared.refusals.Refusal.TheVariants.{VolumeFailed}
 use Rattle.f11_vfy.specs.Sound.{HasSoundVolume}
 use Rattle.f11_vfy.specs.Volume.{Volume}
 use Rattle.f11_writes.specs.Kept.{KeepsVolume}
-use Rattle.f11_files.specs.Answers.{Reads, Writes, FailsToRead, FailsToWrite, Meanwhile, is_grave, faults_of}
+use Rattle.f11_files.specs.Answers.{Reads, Writes, FailsToRead, FailsToWrite, IsRight, IsUnderWay, Meanwhile, is_grave, faults_of}
 use Rattle.f11_files.specs.Structure.{home_of, Lies, Keeps, IsFor, StaysFor}
 use Rattle.f11_files.specs.declared.structure.Structure.{Structure}
 use Rattle.f11_files.proofs.StoreLemmas.{free-count}
@@ -78,14 +78,32 @@ writes-behind {P = P} {n = n} reads went = record {
 pub writes-within : {P : Image → Type 0} {a b : Disk} {m n faults : ℕ} → m ≤ n → Writes P m a b faults → Writes P n a b faults
 writes-within fewer writes = record { transfers = writes.transfers; went = writes.went; few = λ honest. let few = writes.few honest in omega (arith, few, fewer) }
 
+-- where there was no cause against a call, the work that is under way is its own
+pub unless-refused : (causes : List Cause) (work : Work) (home : HomeFields) (old : Disk) → (IsTrue old.honest → first_of causes ≡ None)
+    → (image : Image) → Meanwhile work home old image → Meanwhile (work_if (first_of causes) work) home old image
+unless-refused causes work home old none image is honest = subst (λ (o : Option Refusal). IsUnderWay (work_if o work) home old.image image) (sym (none honest)) (is honest)
+
+-- a call against which there was no cause broke off
+pub breaks-off : {causes : List Cause} {m : ℕ} {work : Work} {home : HomeFields} {r : Refusal} {old new : Disk} → (IsTrue old.honest → first_of causes ≡ None) → is_grave r ≡ true
+    → IsRight false old.honest causes r → Writes (Meanwhile work home old) m old new (faults_of r) → FailsToWrite false causes m work home r old new
+breaks-off {causes = causes} {work = work} {home = home} {old = old} none grave right writes = record {
+  right = right;
+  writes = record {
+    transfers = writes.transfers;
+    went = went_weaker (Meanwhile work home old) (Meanwhile (work_if (first_of causes) work) home old) (unless-refused causes work home old none) writes.went;
+    few = writes.few;
+  };
+  unchanged = λ light. let no : true ≡ false = sym grave ∙ light in absurd cc;
+}
+
 -- a refusal to read is one to write
 pub fails-unread : {causes : List Cause} {m n : ℕ} {work : Work} {home : HomeFields} {r : Refusal} {old new : Disk} → m ≤ n
     → FailsToRead false causes m r old new → FailsToWrite false causes n work home r old new
-fails-unread {work = work} {home = home} {r = r} {old = old} {new = new} fewer fails = record {
+fails-unread {causes = causes} {work = work} {home = home} {r = r} {old = old} {new = new} fewer fails = record {
   right = fails.right;
   writes = record {
     transfers = fails.reads.reads;
-    went = went_looked (Meanwhile work home old) fails.reads.looked;
+    went = went_looked (Meanwhile (work_if (first_of causes) work) home old) fails.reads.looked;
     few = λ honest. let few = fails.reads.few honest in omega (arith, few, fewer);
   };
   unchanged = λ light. record {
@@ -104,8 +122,8 @@ fails-unread {work = work} {home = home} {r = r} {old = old} {new = new} fewer f
 
 -- the volume had failed, and nothing is done
 pub had-failed : {failed : Bool} {causes : List Cause} {n : ℕ} {work : Work} {home : HomeFields} (old : Disk) → failed ≡ true → FailsToWrite failed causes n work home VolumeFailed old old
-had-failed {work = work} {home = home} old is = record {
+had-failed {causes = causes} {work = work} {home = home} old is = record {
   right = record { volume = λ _. is; among = λ is. absurd cc; cause = λ _ is. absurd cc; undamaged = λ _ same. let no : 1 ≡ 20 = ap refusal_number same in omega (arith, no) };
-  writes = record { transfers = 0; went = went_looked (Meanwhile work home old) (looked_none old); few = λ _. omega arith };
+  writes = record { transfers = 0; went = went_looked (Meanwhile (work_if (first_of causes) work) home old) (looked_none old); few = λ _. omega arith };
   unchanged = λ _. record { reads = 0; looked = looked_none old; few = λ _. omega arith };
 }

@@ -5,12 +5,13 @@ use Rattle.f11_bytes.specs.Block.{zero_block}
 use Rattle.f11_dev.specs.Image.{Image}
 use Rattle.f11_home.specs.Home.{HomeFields}
 use Rattle.f11_index.specs.IndexFile.{Index, slots}
-use Rattle.f11_index.specs.Table.{Table, table_in, table_of}
+use Rattle.f11_index.specs.Table.{Table, table_in, table_of, IsFile}
 use Rattle.f11_vfy.specs.Volume.{Volume}
 use Rattle.f11_writes.specs.Kept.{WritesHeader, WritesGrowth}
-use Rattle.f11_files.specs.Allocation.{AddsZeroSlots, GainsSlots}
+use Rattle.f11_files.specs.Allocation.{AddsZeroSlots, GainsSlotsAs}
 use Rattle.f11_files.specs.ExtensionLaws.{EntersExtension}
 use Rattle.f11_files.proofs.AllocationLemmas.{gains-add, gains-nothing}
+use Rattle.f11_store.specs.declared.callers.Uic.{Uic}
 
 pub zero-same : (t : Table) → AddsZeroSlots t t
 zero-same t = record {
@@ -83,8 +84,11 @@ zero-grown old new home n block lbn count wrote used more zeros = record {
 }
 
 -- an index file that gains no slots, and one that gains some twice
-pub slots-nothing : (v : Volume) → GainsSlots 0 v v
-slots-nothing v = record { blocks = gains-nothing 1 v; slots = zero-same v.table }
+pub slots-nothing : (ownership : Uic × ℕ) (v : Volume) → IsFile v.table 1 → GainsSlotsAs ownership 0 v v
+slots-nothing ownership v file = record { blocks = gains-nothing 1 ownership v file; slots = zero-same v.table }
 
-pub slots-add : (a b : ℕ) (v w x : Volume) → GainsSlots a v w → GainsSlots b w x → GainsSlots (a + b) v x
-slots-add a b v w x one two = record { blocks = gains-add 1 a b v w x one.blocks two.blocks; slots = zero-then v.table w.table x.table one.slots two.slots }
+pub slots-add : (ownership : Uic × ℕ) (a b : ℕ) (v w x : Volume) → GainsSlotsAs ownership a v w → GainsSlotsAs ownership b w x → GainsSlotsAs ownership (a + b) v x
+slots-add ownership a b v w x one two = record {
+  blocks = gains-add 1 ownership a b v w x one.blocks two.blocks;
+  slots = zero-then v.table w.table x.table one.slots two.slots;
+}

@@ -9,7 +9,7 @@ use Rattle.f11_dev.specs.Looked.{Looked}
 use Rattle.f11_dev.specs.Went.{Went}
 use Rattle.f11_home.specs.Home.{HomeFields}
 use Rattle.f11_store.specs.Causes.{Cause, first_of}
-use Rattle.f11_store.specs.Lags.{Work, LagsBy}
+use Rattle.f11_store.specs.Lags.{Work, LagsBy, work_if}
 use Rattle.f11_store.specs.Refusal.{refusal_number}
 use Rattle.f11_store.specs.Store.{Store}
 use Rattle.f11_store.specs.declared.refusals.Refusal.{Refusal}
@@ -21,6 +21,10 @@ use Rattle.f11_files.specs.StoreOf.{store_of}
 -- DeviceFault and Damaged fail the volume
 abbrev pub is_grave : Refusal → Bool
 is_grave refusal = nat_lt 18 (refusal_number refusal)
+
+-- any other refusal leaves all as it was
+abbrev pub is_light : Refusal → Bool
+is_light refusal = nat_lt (refusal_number refusal) 19
 
 -- a transfer failed
 abbrev pub is_fault : Refusal → Bool
@@ -93,10 +97,10 @@ pub record Does
     pub allots : IsTrue old.honest → Allots (volume_of old.image home) (volume_of new.image home)
     pub writes : Writes (Meanwhile work home old) most old new 0
 
--- A call that writes was refused: unless it failed the volume, no block was written.
+-- A call that writes was refused: unless it failed the volume, no block was written, nor was one where there was a cause against it.
 pub record FailsToWrite (failed : Bool) (causes : List Cause) (most : ℕ) (work : Work) (home : HomeFields) (refusal : Refusal) (old new : Disk) : Type 0 where
   pub right : IsRight failed old.honest causes refusal
-  pub writes : Writes (Meanwhile work home old) most old new (faults_of refusal)
+  pub writes : Writes (Meanwhile (work_if (first_of causes) work) home old) most old new (faults_of refusal)
   pub unchanged : is_grave refusal ≡ false → Reads most old new 0
 
 -- what a fault of a walk along a file's headers is to those who ask

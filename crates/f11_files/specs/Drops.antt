@@ -4,6 +4,7 @@ use Rattle.std.specs.List.{slice_get}
 use Rattle.f11_bits.specs.Bitmap.{Marks}
 use Rattle.f11_dev.specs.Disk.{Disk}
 use Rattle.f11_dev.specs.Image.{Image}
+use Rattle.f11_header.specs.Header.{IsDead}
 use Rattle.f11_home.specs.Home.{HomeFields}
 use Rattle.f11_index.specs.HeaderBlock.{segment_number, link_of, blocks_named}
 use Rattle.f11_index.specs.Headers.{headers_from, IsInFile}
@@ -11,7 +12,7 @@ use Rattle.f11_index.specs.Sound.{AreApart}
 use Rattle.f11_index.specs.Table.{Table, table_of, IsNext}
 use Rattle.f11_chain.specs.Calls.{IsNextOf}
 use Rattle.f11_chain.specs.FileHeaders.{blocks_by}
-use Rattle.f11_store.specs.Changes.{with_file, without_slots}
+use Rattle.f11_store.specs.Changes.{is_in, with_file, without_slots}
 use Rattle.f11_store.specs.Lags.{SameLimits}
 use Rattle.f11_store.specs.Store.{Store}
 use Rattle.f11_store.specs.declared.refusals.Refusal.{Refusal}
@@ -24,7 +25,7 @@ use Rattle.f11_files.specs.Allocation.{FreesBlocks, LosesHeaders}
 use Rattle.f11_files.specs.Answers.{Writes, Breaks}
 use Rattle.f11_files.specs.FileLaws.{pointers_in}
 use Rattle.f11_files.specs.Growing.{SameFree}
-use Rattle.f11_files.specs.SlotLaws.{with_use}
+use Rattle.f11_files.specs.SlotLaws.{with_use, KeepsOtherBlocks}
 use Rattle.f11_files.specs.StoreOf.{store_of}
 
 -- A store has the files of another, and what is free there is free here.
@@ -82,6 +83,9 @@ pub record MayDrop (t : Table) (n : ℕ) : Type 0 where
 pub record Buries (home : HomeFields) (n : ℕ) (block : List ℕ) (old new : Disk) : Type 0 where
   pub others : IsTrue old.honest → KeepsOtherSlots n (table_of old.image home) (table_of new.image home)
   pub unused : IsTrue old.honest → (table_of new.image home).in_use n ≡ false
+  pub dead : IsTrue old.honest → IsDead ((table_of new.image home).header n)
+  pub blocks : IsTrue old.honest → KeepsOtherBlocks n (table_of old.image home) (table_of new.image home)
+  pub size : IsTrue old.honest → (volume_of new.image home).size ≡ (volume_of old.image home).size
   pub free : IsTrue old.honest → SameFree home old.image new.image
   pub spare : IsTrue old.honest → AreAllSpare (volume_of new.image home) (blocks_named block)
   pub store : IsTrue old.honest → store_of new.image home ≡ with_use (with_file (store_of old.image home) n None) n false
@@ -99,6 +103,8 @@ drop_cost block = 2 + 4 * pointers_in block
 pub record DropsHeader (home : HomeFields) (n : ℕ) (block : List ℕ) (old new : Disk) : Type 0 where
   pub others : IsTrue old.honest → KeepsOtherSlots n (table_of old.image home) (table_of new.image home)
   pub unused : IsTrue old.honest → (table_of new.image home).in_use n ≡ false
+  pub dead : IsTrue old.honest → IsDead ((table_of new.image home).header n)
+  pub blocks : IsTrue old.honest → KeepsOtherBlocks n (table_of old.image home) (table_of new.image home)
   pub frees : IsTrue old.honest → FreesBlocks (blocks_named block) (volume_of old.image home) (volume_of new.image home)
   pub store : IsTrue old.honest → store_of new.image home ≡ without_header (store_of old.image home) n (length (blocks_named block))
   pub writes : Writes (Freeing home (with_file (store_of old.image home) n None) old) (drop_cost block) old new 0
@@ -120,11 +126,19 @@ without_headers s t headers = with_more_free (without_slots s headers) (length (
 abbrev pub tail_cost : Table → List ℕ → ℕ
 tail_cost t headers = 3 * length headers + 4 * sum_by (pointer_count t) headers
 
+-- There are as many slots, and each but these keeps its block.
+pub record KeepsBlocksBut (headers : List ℕ) (old new : Table) : Type 0 where
+  pub slots : new.slots ≡ old.slots
+  pub header : (m : ℕ) → 0 < m → m ≤ old.slots → is_in headers m ≡ false → new.header m ≡ old.header m
+
 -- All headers behind the one in hand went.
 pub record DropsBehind (home : HomeFields) (block : List ℕ) (old new : Disk) : Type 0 where
   pub store :
       IsTrue old.honest →
       store_of new.image home ≡ without_headers (store_of old.image home) (table_of old.image home) (headers_behind (table_of old.image home) block)
   pub loses : IsTrue old.honest → LosesHeaders (headers_behind (table_of old.image home) block) (volume_of old.image home) (volume_of new.image home)
+  pub blocks :
+      IsTrue old.honest →
+      KeepsBlocksBut (headers_behind (table_of old.image home) block) (table_of old.image home) (table_of new.image home)
   pub writes :
       Writes (Freeing home (store_of old.image home) old) (tail_cost (table_of old.image home) (headers_behind (table_of old.image home) block)) old new 0

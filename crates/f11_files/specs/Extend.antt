@@ -10,17 +10,18 @@ use Rattle.f11_store.specs.Cost.{growth_cost}
 use Rattle.f11_store.specs.File.{length_of}
 use Rattle.f11_store.specs.Lags.{extend_work}
 use Rattle.f11_store.specs.Store.{file_named}
+use Rattle.f11_store.specs.declared.callers.Uic.{Uic}
 use Rattle.f11_store.specs.declared.files.FileId.{FileId}
 use Rattle.f11_store.specs.declared.refusals.Refusal.{Refusal}
 use Rattle.f11_vfy.specs.Volume.{volume_of}
-use Rattle.f11_files.specs.Allocation.{GainsBlocks}
+use Rattle.f11_files.specs.Allocation.{GainsBlocks, GainsBlocksAs}
 use Rattle.f11_files.specs.Answers.{Meanwhile, Does, FailsToWrite}
 use Rattle.f11_files.specs.Growing.{Grew, GrowingBy}
 use Rattle.f11_files.specs.Operations.{extend_causes}
 use Rattle.f11_files.specs.Pieces.{file_numbered}
 use Rattle.f11_files.specs.StoreOf.{store_of}
 use Rattle.f11_files.specs.Structure.{bitmap_in, home_of, store_on}
-use Rattle.f11_files.specs.Tail.{HoldsLast, whose}
+use Rattle.f11_files.specs.Tail.{HoldsLast, ownership_of, whose}
 use Rattle.f11_files.specs.Take.{NoneBelow}
 use Rattle.f11_files.specs.declared.structure.Structure.{Structure}
 use Rattle.f11_files.specs.declared.tail.Tail.{Tail}
@@ -43,7 +44,8 @@ pub record AddsRun (s after : Structure) (tail later : Tail) (from most end coun
   pub above : from + count ≤ end
   pub within : end ≤ (bitmap_in s).size
   pub none_below : IsTrue old.honest → NoneBelow new.image (bitmap_in s) end
-  pub gains : IsTrue old.honest → GainsBlocks tail.file.number count (volume_of old.image (home_of s)) (volume_of new.image (home_of s))
+  pub gains :
+      IsTrue old.honest → GainsBlocksAs tail.file.number (ownership_of tail) count (volume_of old.image (home_of s)) (volume_of new.image (home_of s))
   pub grew :
       Grew (GrowingBy (home_of s) (store_on s old) tail.file.number most old) (home_of s) (store_on s old) tail.file.number count
       (end / 4096 - from / 4096 + 5 * count) old new
@@ -52,12 +54,13 @@ pub record AddsRun (s after : Structure) (tail later : Tail) (from most end coun
 abbrev pub ExtendingBy : Structure → ℕ → ℕ → Disk → Image → Type 0
 ExtendingBy s k n old = Meanwhile (extend_work k (file_numbered (store_on s old) k).room n) (home_of s) old
 
--- It was extended by them.
-pub record ExtendsBy (s : Structure) (k n : ℕ) (old new : Disk) : Type 0 where
-  pub gains : IsTrue old.honest → GainsBlocks k n (volume_of old.image (home_of s)) (volume_of new.image (home_of s))
+-- It was extended by them: headers that were added say this ownership.
+pub record ExtendsBy (s : Structure) (k : ℕ) (ownership : Uic × ℕ) (n : ℕ) (old new : Disk) : Type 0 where
+  pub gains : IsTrue old.honest → GainsBlocksAs k ownership n (volume_of old.image (home_of s)) (volume_of new.image (home_of s))
   pub grew : Grew (ExtendingBy s k n old) (home_of s) (store_on s old) k n ((bitmap_in s).size / 4096 + 5 * n) old new
 
--- A file was extended by n blocks of zeros, the lowest free ones: one transfer less than the cost, which counts a look at its right.
+-- A file was extended by n blocks of zeros, the lowest free ones: one transfer less than the cost, which counts a look at its right. A header that
+-- was added says the owner and the protection of the file's first one.
 abbrev pub ExtendsFile : HomeFields → FileId → ℕ → Disk → Disk → Type 0
 ExtendsFile home f n old new =
     let s = store_of old.image home in

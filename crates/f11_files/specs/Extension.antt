@@ -21,7 +21,7 @@ use Rattle.f11_files.specs.Growing.{Taking, GrowingInto, Grew, SameFree}
 use Rattle.f11_files.specs.Link.{MayFollow}
 use Rattle.f11_files.specs.StoreOf.{store_of}
 use Rattle.f11_files.specs.Structure.{index_in, bitmap_in, home_of, store_on}
-use Rattle.f11_files.specs.Tail.{HoldsLast, whose}
+use Rattle.f11_files.specs.Tail.{HoldsLast, ownership_of, whose}
 use Rattle.f11_files.specs.Zeros.{HoldsZeros}
 use Rattle.f11_files.specs.declared.structure.Structure.{Structure}
 use Rattle.f11_files.specs.declared.tail.Tail.{Tail}
@@ -51,7 +51,8 @@ pub record EntersHeader (s after : Structure) (tail : Tail) (lbn count : ℕ) (i
   pub bitmap : bitmap_in after ≡ bitmap_in s
   pub left : room after.index ≡ room s.index
   pub free : IsTrue old.honest → SameFree (home_of s) old.image new.image
-  pub adds : IsTrue old.honest → AddsLoose tail.file.number id.number (table_of old.image (home_of s)) (table_of new.image (home_of s))
+  pub adds :
+      IsTrue old.honest → AddsLoose tail.file.number id.number (ownership_of tail) (table_of old.image (home_of s)) (table_of new.image (home_of s))
   pub slots : IsTrue old.honest → AddsZeroSlots (table_of old.image (home_of s)) (table_of new.image (home_of s))
   pub slot : IsTrue old.honest → id.number ≡ least_free (store_on s old)
   pub store : IsTrue old.honest → store_of new.image (home_of s) ≡ with_slots (store_on s old) (id.number ∷ [])
@@ -67,5 +68,7 @@ pub record AppendsRun (s after : Structure) (tail later : Tail) (lbn count most 
   pub last : HoldsLast after later new
   pub bitmap : bitmap_in after ≡ bitmap_in s
   pub free : IsTrue old.honest → SameFree (home_of s) old.image new.image
-  pub names : IsTrue old.honest → NamesMore tail.file.number (range_with_len lbn count) (table_of old.image (home_of s)) (table_of new.image (home_of s))
+  pub names :
+      IsTrue old.honest →
+      NamesMore tail.file.number (ownership_of tail) (range_with_len lbn count) (table_of old.image (home_of s)) (table_of new.image (home_of s))
   pub grew : Grew (AppendingRun s tail count old) (home_of s) (with_more_free (store_on s old) count) tail.file.number count most old new

@@ -12,13 +12,14 @@ use Rattle.f11_store.specs.Causes.{first_of}
 use Rattle.f11_store.specs.Changes.{GrowsIndex}
 use Rattle.f11_store.specs.Cost.{growth_cost}
 use Rattle.f11_store.specs.File.{need}
-use Rattle.f11_store.specs.Lags.{grow_work}
+use Rattle.f11_store.specs.Lags.{grow_work, work_if}
 use Rattle.f11_store.specs.Store.{Store, index_file}
+use Rattle.f11_store.specs.declared.callers.Uic.{Uic}
 use Rattle.f11_store.specs.declared.files.FileId.{FileId}
 use Rattle.f11_store.specs.declared.refusals.Refusal.{Refusal}
 use Rattle.f11_store.specs.declared.refusals.Refusal.TheVariants.{NoMemory}
 use Rattle.f11_vfy.specs.Volume.{volume_of}
-use Rattle.f11_files.specs.Allocation.{AddsZeroSlots, GainsSlots, NamesMore}
+use Rattle.f11_files.specs.Allocation.{AddsZeroSlots, GainsSlots, GainsSlotsAs, NamesMore}
 use Rattle.f11_files.specs.Answers.{is_grave, faults_of, Does, IsRight, Meanwhile, Reads, Writes}
 use Rattle.f11_files.specs.Drops.{with_more_free}
 use Rattle.f11_files.specs.Growing.{Growing, SameFree}
@@ -26,7 +27,7 @@ use Rattle.f11_files.specs.Operations.{grow_causes}
 use Rattle.f11_files.specs.Room.{FindsRoom}
 use Rattle.f11_files.specs.StoreOf.{store_of}
 use Rattle.f11_files.specs.Structure.{bitmap_in, home_of, store_on}
-use Rattle.f11_files.specs.Tail.{HoldsLast, whose}
+use Rattle.f11_files.specs.Tail.{HoldsLast, ownership_of, whose}
 use Rattle.f11_files.specs.Take.{NoneBelow}
 use Rattle.f11_files.specs.declared.structure.Structure.{Structure}
 use Rattle.f11_files.specs.declared.tail.Tail.{Tail}
@@ -58,7 +59,8 @@ pub record AppendsSlots (s after : Structure) (tail later : Tail) (lbn count mos
   pub bitmap : bitmap_in after ≡ bitmap_in s
   pub left : room s.index ≤ room after.index + count
   pub free : IsTrue old.honest → SameFree (home_of s) old.image new.image
-  pub names : IsTrue old.honest → NamesMore 1 (range_with_len lbn count) (table_of old.image (home_of s)) (table_of new.image (home_of s))
+  pub names :
+      IsTrue old.honest → NamesMore 1 (ownership_of tail) (range_with_len lbn count) (table_of old.image (home_of s)) (table_of new.image (home_of s))
   pub slots : IsTrue old.honest → AddsZeroSlots (table_of old.image (home_of s)) (table_of new.image (home_of s))
   pub grew : GrewIndex (AppendingSlots s count old) (home_of s) (with_more_free (store_on s old) count) count most old new
 
@@ -73,7 +75,7 @@ pub record AddsSlots (s after : Structure) (tail later : Tail) (from most end co
   pub above : from + count ≤ end
   pub within : end ≤ (bitmap_in s).size
   pub none_below : IsTrue old.honest → NoneBelow new.image (bitmap_in s) end
-  pub gains : IsTrue old.honest → GainsSlots count (volume_of old.image (home_of s)) (volume_of new.image (home_of s))
+  pub gains : IsTrue old.honest → GainsSlotsAs (ownership_of tail) count (volume_of old.image (home_of s)) (volume_of new.image (home_of s))
   pub grew :
       GrewIndex (GrowingIndexBy (home_of s) (store_on s old) most old) (home_of s) (store_on s old) count
       (end / 4096 - from / 4096 + 5 * count) old new
@@ -82,9 +84,9 @@ pub record AddsSlots (s after : Structure) (tail later : Tail) (from most end co
 abbrev pub GrowingIndex : Structure → ℕ → Disk → Image → Type 0
 GrowingIndex s n old = Meanwhile (grow_work (index_file (store_on s old)).room n) (home_of s) old
 
--- It has grown by them.
-pub record GrowsIndexBy (s : Structure) (n : ℕ) (old new : Disk) : Type 0 where
-  pub gains : IsTrue old.honest → GainsSlots n (volume_of old.image (home_of s)) (volume_of new.image (home_of s))
+-- It has grown by them: headers that were added say this ownership.
+pub record GrowsIndexBy (s : Structure) (ownership : Uic × ℕ) (n : ℕ) (old new : Disk) : Type 0 where
+  pub gains : IsTrue old.honest → GainsSlotsAs ownership n (volume_of old.image (home_of s)) (volume_of new.image (home_of s))
   pub grew : GrewIndex (GrowingIndex s n old) (home_of s) (store_on s old) n ((bitmap_in s).size / 4096 + 5 * n) old new
 
 -- the identification of the index file
@@ -96,7 +98,8 @@ pub record FindsIndexRoom (s : Structure) (n : ℕ) (end : FileEnd) (first last 
   pub within : IsTrue old.honest → (store_on s old).slots + n ≤ (store_on s old).limit
   pub room : FindsRoom s index_id n end first last old new
 
--- The index file has n slots more, none of which was given a sequence number: they are the lowest free blocks, and hold zeros.
+-- The index file has n slots more, none of which was given a sequence number: they are the lowest free blocks, and hold zeros. A header that was
+-- added says the owner and the protection of the file's first one.
 abbrev pub GrowsIndexFile : HomeFields → ℕ → Disk → Disk → Type 0
 GrowsIndexFile home n old new =
     let s = store_of old.image home in
@@ -113,6 +116,7 @@ pub record FailsToGrow (failed : Bool) (home : HomeFields) (n : ℕ) (refusal : 
   pub right : refusal ≢ NoMemory → IsRight failed old.honest (grow_causes (store_of old.image home) n) refusal
   pub wanting : refusal ≡ NoMemory → (failed ≡ false) × (IsTrue old.honest → first_of (grow_causes (store_of old.image home) n) ≡ None)
   pub writes :
-      Writes (Meanwhile (grow_work (index_file (store_of old.image home)).room n) home old)
+      Writes
+      (Meanwhile (work_if (first_of (grow_causes (store_of old.image home) n)) (grow_work (index_file (store_of old.image home)).room n)) home old)
       (growth_cost (store_of old.image home) (index_file (store_of old.image home)) n) old new (faults_of refusal)
   pub unchanged : is_grave refusal ≡ false → Reads (growth_cost (store_of old.image home) (index_file (store_of old.image home)) n) old new 0

@@ -17,7 +17,7 @@ use Rattle.f11_files.specs.Allocation.{AddsZeroSlots, LinksLoose, NamesMore}
 use Rattle.f11_files.specs.FileLaws.{room_in, with_more_blocks, with_header_linked}
 use Rattle.f11_files.specs.Growing.{SameFree}
 use Rattle.f11_files.specs.Structure.{index_in, bitmap_in, home_of, store_on}
-use Rattle.f11_files.specs.Tail.{HasStore, HoldsLast, pointers_more, whose}
+use Rattle.f11_files.specs.Tail.{HasStore, HoldsLast, pointers_more, ownership_of, whose}
 use Rattle.f11_files.specs.declared.structure.Structure.{Structure}
 use Rattle.f11_files.specs.declared.tail.Tail.{Tail}
 
@@ -42,7 +42,8 @@ pub record NamesSlots (s after : Structure) (tail later : Tail) (lbn count : ℕ
   pub holds : HoldsLast after later new
   pub bitmap : bitmap_in after ≡ bitmap_in s
   pub left : room s.index ≤ room after.index + count
-  pub names : IsTrue old.honest → NamesMore 1 (range_with_len lbn count) (table_of old.image (home_of s)) (table_of new.image (home_of s))
+  pub names :
+      IsTrue old.honest → NamesMore 1 (ownership_of tail) (range_with_len lbn count) (table_of old.image (home_of s)) (table_of new.image (home_of s))
   pub slots : IsTrue old.honest → AddsZeroSlots (table_of old.image (home_of s)) (table_of new.image (home_of s))
   pub store : NamingSlots s tail lbn count old new.image
   pub free : IsTrue old.honest → SameFree (home_of s) old.image new.image

@@ -7,9 +7,9 @@ use Rattle.f11_store.specs.Store.{Store}
 use Rattle.f11_store.specs.declared.files.FileId.{FileId}
 use Rattle.f11_store.specs.declared.refusals.Refusal.{Refusal}
 use Rattle.f11_store.specs.declared.refusals.Refusal.TheVariants.{VolumeFailed}
-use Rattle.f11_files.specs.Answers.{is_grave, is_refused}
+use Rattle.f11_files.specs.Answers.{is_grave, is_light, is_refused}
 use Rattle.f11_files.specs.StoreOf.{store_of}
-use Rattle.f11_files.specs.Structure.{home_of}
+use Rattle.f11_files.specs.Structure.{counts_of, home_of}
 use Rattle.f11_files.specs.declared.files.Files.{Files}
 
 -- the device
@@ -19,6 +19,10 @@ device_in files = files.device
 -- whether a call has answered DeviceFault or Damaged
 abbrev pub has_failed : {D : Type 0} {met : Ghosts D} → Files D met → Bool
 has_failed files = files.failed
+
+-- the counts that are told
+abbrev pub counts_in : {D : Type 0} {met : Ghosts D} → Files D met → ℕ × ℕ × ℕ
+counts_in files = counts_of files.structure
 
 -- the home block
 abbrev pub home_in : {D : Type 0} {met : Ghosts D} → Files D met → HomeFields
@@ -42,9 +46,10 @@ pub record IsIdFrom (least : ℕ) (f : FileId) : Type 0 where
   pub volume : f.volume ≡ 0
 
 -- A call fails the volume where it answers DeviceFault or Damaged, and no other way; where an earlier one did, it answers VolumeFailed and
--- makes no transfer.
+-- makes no transfer. Where it is refused and doesn't fail the volume, the counts that are told stay.
 pub record Answers {D T : Type 0} {met : Ghosts D} (result : Result T Refusal) (old new : Files D met) : Type 0 where
   pub failed : has_failed old ≡ true → IsErrOf result VolumeFailed
   pub untouched : has_failed old ≡ true → disk_in new ≡ disk_in old
   pub next : has_failed new ≡ (has_failed old || is_refused is_grave result)
   pub home : home_in new ≡ home_in old
+  pub counts : is_refused is_light result ≡ true → counts_in new ≡ counts_in old

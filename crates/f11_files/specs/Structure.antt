@@ -1,11 +1,11 @@
 -- What is kept of an open volume, and when it is that of a disk.
 use Rattle.std.specs.Prelude.{◌≡◌, ℕ, ◌≤◌, Bool, false, IsTrue, length}
 use Rattle.f11_bits.specs.Bitmap.{Bitmap, free_blocks, LiesWithin as BitmapLiesWithin}
-use Rattle.f11_bits.specs.Storage.{bitmap_of}
+use Rattle.f11_bits.specs.Storage.{bitmap_of, count_of}
 use Rattle.f11_dev.specs.Disk.{Disk}
 use Rattle.f11_dev.specs.Image.{Image}
 use Rattle.f11_home.specs.Home.{HomeFields, IsHomeOf}
-use Rattle.f11_index.specs.IndexFile.{Index, index_of}
+use Rattle.f11_index.specs.IndexFile.{Index, index_of, free_slots, slots}
 use Rattle.f11_index.specs.Kept.{index_kept, LiesWithin}
 use Rattle.f11_store.specs.Store.{Store}
 use Rattle.f11_vfy.specs.Sound.{HasSoundVolume}
@@ -26,6 +26,10 @@ bitmap_in s = bitmap_of s.storage
 -- the store of a disk's image with that home block
 abbrev pub store_on : Structure → Disk → Store
 store_on s disk = store_of disk.image (home_of s)
+
+-- the counts that are kept: of free blocks, of free headers, and of slots
+abbrev pub counts_of : Structure → ℕ × ℕ × ℕ
+counts_of s = (count_of s.storage, length (free_slots (index_in s)), slots (index_in s))
 
 -- They are on a device of so many blocks.
 pub record Lies (s : Structure) (blocks : ℕ) : Type 0 where

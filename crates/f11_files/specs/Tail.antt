@@ -33,6 +33,9 @@ use Rattle.f11_files.specs.declared.tail.Tail.{Tail}
 abbrev pub whose : Tail → FileId × Uic × ℕ
 whose tail = (tail.file, tail.owner, tail.protection)
 
+abbrev pub ownership_of : Tail → Uic × ℕ
+ownership_of tail = (tail.owner, tail.protection)
+
 -- The block is a valid header in use, which links to none; it is the last of the file where the disk is honest.
 pub record HoldsLast (s : Structure) (tail : Tail) (disk : Disk) : Type 0 where
   pub header : HoldsHeader (index_in s) tail.number tail.block disk
@@ -74,7 +77,9 @@ pub record NamesRun (s : Structure) (tail after : Tail) (lbn count : ℕ) (old n
   pub fits : pointers_more tail.block lbn count ≤ room_in tail.block
   pub holds : HoldsLast s after new
   pub is_for : IsFor s new
-  pub names : IsTrue old.honest → NamesMore tail.file.number (range_with_len lbn count) (table_of old.image (home_of s)) (table_of new.image (home_of s))
+  pub names :
+      IsTrue old.honest →
+      NamesMore tail.file.number (ownership_of tail) (range_with_len lbn count) (table_of old.image (home_of s)) (table_of new.image (home_of s))
   pub store : Naming s tail lbn count old new.image
   pub free : IsTrue old.honest → SameFree (home_of s) old.image new.image
   pub went : Went (Naming s tail lbn count old) old new 1 0

@@ -133,7 +133,7 @@ impl<D: Device> Files<D> {
     }
 
     /// Replaces a part of a file's attributes: the user attributes, the ident area or the protection word. One read and one write at
-    /// most; where it is refused, but for `DeviceFault`, nothing is written.
+    /// most; where it is refused, but for `DeviceFault` and `Damaged`, nothing is written.
     ///
     /// # Errors
     ///
@@ -155,7 +155,8 @@ impl<D: Device> Files<D> {
         answer
     }
 
-    /// Marks a file for delete (SC.MDL). One read and one write at most; where it is refused, but for `DeviceFault`, nothing is written.
+    /// Marks a file for delete (SC.MDL). One read and one write at most; where it is refused, but for `DeviceFault` and `Damaged`, nothing
+    /// is written.
     ///
     /// # Errors
     ///

@@ -107,7 +107,7 @@ impl<D: Device> Files<D> {
     }
 
     /// Writes block `vbn` of a file, from 1. It reads the file's headers up to the one that names the block, each once, and writes the
-    /// block. Where it is refused, but for `DeviceFault`, nothing is written.
+    /// block. Where it is refused, but for `DeviceFault` and `Damaged`, nothing is written.
     ///
     /// # Errors
     ///

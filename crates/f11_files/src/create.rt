@@ -1,9 +1,9 @@
 //! A new file.
-ghost use Rattle.std.specs.Prelude.{◌≡◌, ◌<◌, false, IfErr, IfOk};
-ghost use Rattle.f11_files.specs.Answers.{is_grave, is_refused};
+ghost use Rattle.std.specs.Prelude.{◌≡◌, ◌<◌, false, IfErr, IfOk, true};
+ghost use Rattle.f11_files.specs.Answers.{is_grave, is_light, is_refused};
 ghost use Rattle.f11_files.specs.Create.{Creates, FailsToCreate};
 ghost use Rattle.f11_files.specs.NewFileLaws.{IsNewFirst};
-ghost use Rattle.f11_files.specs.Structure.{home_of, IsFor, StaysFor};
+ghost use Rattle.f11_files.specs.Structure.{counts_of, home_of, IsFor, StaysFor};
 ghost use Rattle.f11_header.specs.Fields.{file_sequence};
 ghost use Rattle.f11_header.specs.Writing.{blank_header};
 ghost use Rattle.f11_store.specs.Changes.{next_sequence};
@@ -67,6 +67,8 @@ impl Structure {
             protection ident.now attr.now refusal (D.disk device.old) (D.disk device.new)) }
         ensures stays { StaysFor (is_refused is_grave result) self.old self.new
             (D.disk device.new) }
+        ensures counts { is_refused is_light result ≡ true → counts_of self.new ≡ counts_of
+            self.old }
     {
         let Some(number) = self.index.least_free() else {
             return Err(Refusal::NoHeader);

@@ -1,8 +1,8 @@
 //! A file that is deleted.
-ghost use Rattle.std.specs.Prelude.{◌≤◌, false, IfErr, OnOk};
-ghost use Rattle.f11_files.specs.Answers.{is_grave, is_refused};
+ghost use Rattle.std.specs.Prelude.{◌≡◌, ◌≤◌, false, IfErr, OnOk, true};
+ghost use Rattle.f11_files.specs.Answers.{is_grave, is_light, is_refused};
 ghost use Rattle.f11_files.specs.Deletes.{Deletes, FailsToDelete};
-ghost use Rattle.f11_files.specs.Structure.{home_of, IsFor, StaysFor};
+ghost use Rattle.f11_files.specs.Structure.{counts_of, home_of, IsFor, StaysFor};
 
 use crate::answer::is_grave;
 use crate::files::Files;
@@ -26,6 +26,8 @@ impl Structure {
             (D.disk device.old) (D.disk device.new)) }
         ensures stays { StaysFor (is_refused is_grave result) self.old self.new
             (D.disk device.new) }
+        ensures counts { is_refused is_light result ≡ true → counts_of self.new ≡ counts_of
+            self.old }
     {
         let mut block = [0; BLOCK_SIZE];
         self.read_first(device, f, &mut block)?;

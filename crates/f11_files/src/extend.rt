@@ -1,13 +1,13 @@
 //! A file that is extended: it gets more blocks, run by run, which are zeros.
-ghost use Rattle.std.specs.Prelude.{◌≡◌, ◌+◌, ◌-◌, ◌*◌, ◌/◌, ◌<◌, ◌≤◌, false, IfErr, IfOk, IsTrue, OnOk};
+ghost use Rattle.std.specs.Prelude.{◌≡◌, ◌+◌, ◌-◌, ◌*◌, ◌/◌, ◌<◌, ◌≤◌, false, IfErr, IfOk, IsTrue, OnOk, true};
 ghost use Rattle.f11_bits.specs.Transfers.{blocks_from};
-ghost use Rattle.f11_files.specs.Answers.{is_grave, is_refused, Breaks};
+ghost use Rattle.f11_files.specs.Answers.{is_grave, is_light, is_refused, Breaks};
 ghost use Rattle.f11_files.specs.Drops.{with_more_free};
 ghost use Rattle.f11_files.specs.Extend.{AddsRun, ExtendingBy, ExtendsBy, ExtendsFile, FailsToExtend, IsLengthAfter, IsTailOf};
 ghost use Rattle.f11_files.specs.Extension.{AppendingRun, AppendsRun};
 ghost use Rattle.f11_files.specs.Growing.{GrowingBy};
-ghost use Rattle.f11_files.specs.Structure.{bitmap_in, home_of, store_on, IsFor, StaysFor};
-ghost use Rattle.f11_files.specs.Tail.{HoldsLast};
+ghost use Rattle.f11_files.specs.Structure.{counts_of, bitmap_in, home_of, store_on, IsFor, StaysFor};
+ghost use Rattle.f11_files.specs.Tail.{HoldsLast, ownership_of};
 ghost use Rattle.f11_files.specs.Take.{NoneBelow};
 ghost use Rattle.f11_header.specs.Header.{holds_header};
 ghost use Rattle.f11_store.specs.File.{need};
@@ -140,7 +140,8 @@ impl Structure {
         requires may { IsTrue (D.disk device.old).honest
             → MayExtend (store_on self.old (D.disk device.old)) tail.old.file.number n }
         ensures extended { OnOk result
-            (ExtendsBy self.old tail.old.file.number n (D.disk device.old) (D.disk device.new)) }
+            (ExtendsBy self.old tail.old.file.number (ownership_of tail.old) n (D.disk device.old)
+            (D.disk device.new)) }
         ensures refused { let s = store_on self.old (D.disk device.old) in
             let k = tail.old.file.number in
             IfErr result (λ refusal. Breaks
@@ -180,6 +181,8 @@ impl Structure {
             refusal (D.disk device.old) (D.disk device.new)) }
         ensures stays { StaysFor (is_refused is_grave result) self.old self.new
             (D.disk device.new) }
+        ensures counts { is_refused is_light result ≡ true → counts_of self.new ≡ counts_of
+            self.old }
     {
         let mut first = [0; BLOCK_SIZE];
         let mut last = [0; BLOCK_SIZE];
@@ -206,7 +209,8 @@ impl<D: Device> Files<D> {
     ///
     /// `VolumeFailed` where an earlier call answered `DeviceFault` or `Damaged`, `NoSuchFile` where no file has this identification,
     /// `TooManySegments` where it would have over 256 headers, `DeviceFull` where fewer blocks are free, `NoHeader` where fewer headers
-    /// are free than it may need, `DeviceFault` where a transfer failed, `Damaged` where a header or a link isn't as it should be.
+    /// are free than it may need, `DeviceFault` where a transfer failed, `Damaged` where a header or a link isn't as it should be, or no
+    /// block or header is found free though one should be: on no honest device.
     pub fn extend(&mut self, f: FileId, n: u32) -> Result<u32, Refusal>
         requires id { IsIdFrom 4 f }
         requires some { 0 < n }

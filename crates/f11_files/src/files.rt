@@ -8,7 +8,8 @@ use f11_dev::Device;
 
 /// The files of an accepted volume, without tasks, and the device that it is on.
 ///
-/// After a call has answered `DeviceFault` or `Damaged` each later one answers `VolumeFailed`, until the device is verified again.
+/// After a call has answered `DeviceFault` or `Damaged` each later one that may be refused answers `VolumeFailed`, until the device is
+/// verified again.
 #[derive(Drop)]
 pub struct Files<D: Device> {
     pub(crate) device: D,
@@ -26,7 +27,7 @@ pub struct Files<D: Device> {
 }
 
 impl<D: Device> Files<D> {
-    ghost use Rattle.f11_files.specs.Open.{device_in, has_failed, is_honest, store_in};
+    ghost use Rattle.f11_files.specs.Open.{counts_in, device_in, has_failed, is_honest, store_in};
     ghost use Rattle.f11_files.specs.Operations.{IsSpaceOf};
 
     /// Gives the device up, as it is. No transfer is made.
@@ -53,7 +54,8 @@ impl<D: Device> Files<D> {
 
     /// How many blocks are free, how many slots from 6 on are, and how many slots there are. No transfer is made.
     pub fn space(&self) -> (u32, u32, u32)
-        ensures { is_honest self.now → has_failed self.now ≡ false
+        ensures told { result ≡ counts_in self.now }
+        ensures space { is_honest self.now → has_failed self.now ≡ false
             → IsSpaceOf (store_in self.now) result.0 result.1 result.2 }
     {
         (

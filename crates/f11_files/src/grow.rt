@@ -7,7 +7,7 @@ ghost use Rattle.f11_files.specs.FileLaws.{room_in};
 ghost use Rattle.f11_files.specs.GrowIndex.{AddsSlots, AppendingSlots, AppendsSlots, GrowingIndex, GrowingIndexBy, GrowsIndexBy};
 ghost use Rattle.f11_files.specs.IndexPieces.{MayGrowIndex};
 ghost use Rattle.f11_files.specs.Structure.{bitmap_in, home_of, store_on, IsFor, StaysFor};
-ghost use Rattle.f11_files.specs.Tail.{HoldsLast, MayBeGiven};
+ghost use Rattle.f11_files.specs.Tail.{HoldsLast, MayBeGiven, ownership_of};
 ghost use Rattle.f11_files.specs.Take.{NoneBelow};
 ghost use Rattle.f11_index.specs.Kept.{room};
 ghost use Rattle.f11_store.specs.File.{need};
@@ -167,8 +167,8 @@ impl Structure {
         requires reserved { n ≤ room self.old.index }
         requires may { IsTrue (D.disk device.old).honest
             → MayGrowIndex (store_on self.old (D.disk device.old)) n }
-        ensures grown { OnOk result (GrowsIndexBy self.old n (D.disk device.old)
-            (D.disk device.new)) }
+        ensures grown { OnOk result (GrowsIndexBy self.old (ownership_of tail.old) n
+            (D.disk device.old) (D.disk device.new)) }
         ensures refused { let s = store_on self.old (D.disk device.old) in
             IfErr result (λ refusal. Breaks
             (GrowingIndex self.old n (D.disk device.old))

@@ -1,10 +1,10 @@
 //! More slots for the index file.
-ghost use Rattle.std.specs.Prelude.{◌≡◌, ◌≤◌, ◌<◌, false, IfErr, IfOk};
-ghost use Rattle.f11_files.specs.Answers.{is_grave, is_refused, FailsToRead};
+ghost use Rattle.std.specs.Prelude.{◌≡◌, ◌≤◌, ◌<◌, false, IfErr, IfOk, true};
+ghost use Rattle.f11_files.specs.Answers.{is_grave, is_light, is_refused, FailsToRead};
 ghost use Rattle.f11_files.specs.GrowIndex.{index_id, FailsToGrow, FindsIndexRoom, GrowsIndexFile, IsSlotsAfter};
 ghost use Rattle.f11_files.specs.Operations.{grow_causes};
 ghost use Rattle.f11_files.specs.StoreOf.{slot_limit};
-ghost use Rattle.f11_files.specs.Structure.{home_of, store_on, IsFor, StaysFor};
+ghost use Rattle.f11_files.specs.Structure.{counts_of, home_of, store_on, IsFor, StaysFor};
 ghost use Rattle.f11_store.specs.Cost.{header_count};
 ghost use Rattle.f11_store.specs.Store.{index_file};
 
@@ -95,6 +95,8 @@ impl Structure {
             (D.disk device.old) (D.disk device.new)) }
         ensures stays { StaysFor (is_refused is_grave result) self.old self.new
             (D.disk device.new) }
+        ensures counts { is_refused is_light result ≡ true → counts_of self.new ≡ counts_of
+            self.old }
     {
         let mut first = [0; BLOCK_SIZE];
         let mut last = [0; BLOCK_SIZE];
@@ -125,7 +127,8 @@ impl<D: Device> Files<D> {
     /// `VolumeFailed` where an earlier call answered `DeviceFault` or `Damaged`, `IndexLimit` where there would be more slots than there
     /// may be (H.FMAX, the bits of the index bitmap, 65,535), `TooManySegments` where the index file would have over 256 headers,
     /// `DeviceFull` where fewer blocks are free, `NoHeader` where fewer headers are free than it may need, `NoMemory` for want of memory,
-    /// `DeviceFault` where a transfer failed, `Damaged` where a header or a link isn't as it should be.
+    /// `DeviceFault` where a transfer failed, `Damaged` where a header or a link isn't as it should be, or no block or header is found
+    /// free though one should be: on no honest device.
     pub fn grow_index(&mut self, n: u32) -> Result<u32, Refusal>
         requires some { 0 < n }
         ensures answers { Answers result self.old self.new }

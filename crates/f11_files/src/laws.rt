@@ -156,5 +156,7 @@ pub fn fresh_volumes()
 /// Which blocks headers name, and which are free.
 pub fn allocation()
     ensures cells { allocation.CellsAreNamed }
+    ensures files { allocation.FileBlocksAreNamed }
+    ensures gains { allocation.GainsAdd }
     ensures free { allocation.FreeBlocksAreStored }
 {}

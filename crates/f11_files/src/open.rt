@@ -102,8 +102,9 @@ impl<D: Device> Files<D> {
     ghost use Rattle.f11_files.specs.Opened.{Opens, FailsToOpen};
     ghost use Rattle.f11_vfy.specs.Accepted.{device_of};
 
-    /// Opens an accepted volume. It reads the candidates for the home block up to the one found, the frame and the storage bitmap, and
-    /// takes memory for a bit and an LBN a slot.
+    /// Opens an accepted volume. It reads the candidates for the home block up to the one found, the frame, for which it looks for the
+    /// home block again, and the storage bitmap. It takes memory for a bit and an LBN a slot, and for the first blocks of the storage
+    /// bitmap file.
     ///
     /// # Errors
     ///

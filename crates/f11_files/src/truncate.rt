@@ -1,9 +1,9 @@
 //! A file that is cut to its first blocks.
-ghost use Rattle.std.specs.Prelude.{◌≡◌, ◌≤◌, false, IfErr, IfOk, IsTrue};
-ghost use Rattle.f11_files.specs.Answers.{FailsToRead, is_grave, is_refused};
+ghost use Rattle.std.specs.Prelude.{◌≡◌, ◌≤◌, false, IfErr, IfOk, IsTrue, true};
+ghost use Rattle.f11_files.specs.Answers.{is_grave, is_light, is_refused, FailsToRead};
 ghost use Rattle.f11_files.specs.Cuts.{Cuts, CutsOff, FailsToCut, FindsLastKept};
 ghost use Rattle.f11_files.specs.Operations.{length_causes};
-ghost use Rattle.f11_files.specs.Structure.{home_of, index_in, store_on, IsFor, StaysFor};
+ghost use Rattle.f11_files.specs.Structure.{counts_of, home_of, index_in, store_on, IsFor, StaysFor};
 ghost use Rattle.f11_header.specs.Header.{holds_header};
 ghost use Rattle.f11_store.specs.Cost.{header_count};
 ghost use Rattle.f11_store.specs.Store.{file_named};
@@ -88,6 +88,8 @@ impl Structure {
             (D.disk device.old) (D.disk device.new)) }
         ensures stays { StaysFor (is_refused is_grave result) self.old self.new
             (D.disk device.new) }
+        ensures counts { is_refused is_light result ≡ true → counts_of self.new ≡ counts_of
+            self.old }
     {
         let mut block = [0; BLOCK_SIZE];
         let (n, keep) = self.last_kept(device, f, to, &mut block)?;

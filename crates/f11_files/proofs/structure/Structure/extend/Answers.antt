@@ -26,6 +26,6 @@ returns-in_err-extend_by-clause-refused g c =
 pub returns-clause-extended : goal.returns-clause-extended
 returns-clause-extended g c = (
   length-after c.args.self.now c.args.f c.args.n _ _ _ _ _ c.requires.is_for c.requires.own c.in_ok-end.ensures.room,
-  extends-file c.args.self.now c.args.f c.args.n _ _ _ _ _ c.requires.is_for c.requires.own c.in_ok-end.ensures.room _ _ c.in-Ok.ensures.clears _
-      (rw c.tail_of-tail.ensures.tail.file_is at c.in_ok-extend_by.ensures.extended),
+  extends-file c.args.self.now c.args.f c.args.n _ _ _ _ _ c.requires.is_for c.requires.own c.in_ok-end.ensures.room _ _ c.in-Ok.ensures.clears
+      _ c.tail_of-tail.ensures.tail _ (rw c.tail_of-tail.ensures.tail.file_is at c.in_ok-extend_by.ensures.extended),
 )

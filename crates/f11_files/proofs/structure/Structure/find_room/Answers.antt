@@ -29,7 +29,7 @@ returns-in_err-judge-clause-refused g c =
     let goes = last-behind _ _ _ _ _ (reads-first _ _ _ _ _ found) _ _ _ c.in-Ok.ensures.reads in
     handed (λ refusal. FailsToRead false (extend_causes (store_on s old) c.args.f c.args.n) (header_count (file_named (store_on s old) c.args.f)) refusal old _) c.from_residual-in_err-judge.result _ c.from_residual-in_err-judge.ensures.1
     (lacks-room s c.args.f _ _ c.requires.is_for found.holds _ _ _ goes _ _ _ (slots (index_in s)) c.args.n c.room_of.ensures
-    (λ honest. space-is s _ c.requires.is_for honest _ _ _ c.free-free.ensures c.free_headers-free_headers.ensures refl) _ c.in_err-judge.ensures.refused)
+    (λ honest. space-is s _ c.requires.is_for honest _ _ _ c.free-free.ensures.free c.free_headers-free_headers.ensures refl) _ c.in_err-judge.ensures.refused)
 
 pub returns-clause-room : goal.returns-clause-room
 returns-clause-room g c =
@@ -37,4 +37,4 @@ returns-clause-room g c =
     let found = c.in_ok-read_first.ensures.found in
     let goes = last-behind _ _ _ _ _ (reads-first _ _ _ _ _ found) _ _ _ c.in-Ok.ensures.reads in
     finds-room s c.args.f _ _ c.requires.is_for found.holds _ _ _ goes _ _ _ (slots (index_in s)) c.args.n c.room_of.ensures
-    (λ honest. space-is s _ c.requires.is_for honest _ _ _ c.free-free.ensures c.free_headers-free_headers.ensures refl) c.in_ok-judge.ensures.room
+    (λ honest. space-is s _ c.requires.is_for honest _ _ _ c.free-free.ensures.free c.free_headers-free_headers.ensures refl) c.in_ok-judge.ensures.room

@@ -60,5 +60,6 @@ returns-clause-grown g c = (
       _ _ (rw c.index_id.ensures at c.in-Ok-clear_mark.ensures.clears) c.grow_by.new.self _ _ c.in_ok-grow_by.ensures.grown (rw c.in_ok-grow_by.was at c.grow_by.ensures.stays) c.slots.ensures,
   grows-file (record c.args.self.now { index = c.reserve.new.self }) c.args.n _ _ _ (g.D.Device.disk c.args.device.now) (g.D.Device.disk c.find_index_room.new.device) (reserved-for c.args.self.now c.reserve.new.self c.reserve.ensures.kept _ c.requires.is_for)
       (reserved-finds c.args.self.now c.reserve.new.self c.reserve.ensures.kept c.args.n _ _ _ _ _ c.in_ok-end.ensures.room)
-      _ _ (rw c.index_id.ensures at c.in-Ok-clear_mark.ensures.clears) _ c.in_ok-grow_by.ensures.grown,
+      _ _ (rw c.index_id.ensures at c.in-Ok-clear_mark.ensures.clears) _ (rw c.index_id-2.ensures at c.tail_of-tail.ensures.tail) _
+      c.in_ok-grow_by.ensures.grown,
 )
