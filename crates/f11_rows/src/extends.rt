@@ -1,5 +1,8 @@
 //! Files of a Files-11 volume that are extended, and the index file.
-ghost use Rattle.std.specs.Prelude.{◌<◌};
+ghost use Rattle.std.specs.Prelude.{◌<◌, ◌+◌, OnOk};
+ghost use Rattle.f11_files.specs.Allocation.{GainsBlocks};
+ghost use Rattle.f11_files.specs.Open.{disk_in, home_in, is_honest, IsIdFrom};
+ghost use Rattle.f11_vfy.specs.Volume.{volume_of};
 
 use crate::files::{is_accepted, opened};
 use crate::fixtures::{
@@ -22,6 +25,23 @@ fn fresh(alloc: Global) -> Result<Files<Memory>, Fail> {
 /// Makes a file without blocks.
 fn made<D: Device>(files: &mut Files<D>) -> Result<FileId, Refusal> {
     files.create(SYSTEM, 0, &[0; 46], &[0; 32])
+}
+
+/// Extends a file, and then once more. It has the lowest free blocks then, as if it had been extended at once.
+fn extended_twice<D: Device>(
+    files: &mut Files<D>,
+    f: FileId,
+    n: u32,
+    more: u32,
+) -> Result<u32, Refusal>
+    requires id { IsIdFrom 4 f }
+    requires some { (0 < n) × (0 < more) }
+    ensures gains { is_honest files.old → OnOk result (GainsBlocks f.number (n + more)
+        (volume_of (disk_in files.old).image (home_in files.old))
+        (volume_of (disk_in files.new).image (home_in files.new))) }
+{
+    files.extend(f, n)?;
+    files.extend(f, more)
 }
 
 /// Extends two files by a block each in turn, so many times, and says whether each answer was right.
@@ -99,10 +119,10 @@ fn a_long_run_has_two_pointers(rt: HostRuntime) -> Result<(), Fail> {
 #[test]
 fn a_run_joins_the_last_pointer(rt: HostRuntime) -> Result<(), Fail> {
     let mut files = fresh(rt.alloc())?;
-    assert_eq!(rt; files.extend(file(4, 4), 1), Ok(2));
+    assert_eq!(rt; extended_twice(&mut files, file(4, 4), 1, 1), Ok(3));
     let mut device = files.abandon();
-    // the directory has block 21, and 22 now: two words are in use still
-    assert!(rt; has_words(&mut device, 6, &[(100, 0xcc02), (102, 0x0100), (104, 21)])?);
+    // the directory has block 21, and 22 and 23 now: two words are in use still
+    assert!(rt; has_words(&mut device, 6, &[(100, 0xcc02), (102, 0x0200), (104, 21)])?);
     assert!(rt; is_accepted(rt.alloc(), device));
     Ok(())
 }
