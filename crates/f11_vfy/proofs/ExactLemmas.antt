@@ -222,7 +222,7 @@ module _ (v : Volume) (r : Reading) (is : ShowsVolume v r) where
     faults-complete code a b (named_twice lbn named) =
         let two = twice-named v.table is.fit lbn named in
         let inside = is.surveys.shows.inside lbn (omega (arith, two)) in
-        inl (inl (inl (inl (inl (inr (record { number = lbn; below = omega (arith, inside, whole.is_survey.once, whole.is_survey.twice); holds = is.surveys.shows.twice lbn ∙ le-leb 2 _ two; is = refl }))))))
+        inl (inl (inl (inl (inl (inr (record { number = lbn; below = omega (arith, inside, r.survey.tally.room); holds = is.surveys.shows.twice lbn ∙ le-leb 2 _ two; is = refl }))))))
     faults-complete code a b (named_free lbn named free) =
         inl (inl (inl (inl (inr (record {
           number = lbn;
@@ -234,7 +234,7 @@ module _ (v : Volume) (r : Reading) (is : ShowsVolume v r) where
     faults-complete code a b (linked_twice n one other apart in_one in_other next_one next_other) =
         inl (inl (inr (record {
           number = n;
-          below = omega (arith, high-of n next_one.to.in_use, whole.sized.twice, count);
+          below = omega (arith, high-of n next_one.to.in_use, whole.sized.linked, r.chains.linked.room, count);
           holds = (is.chains.twice n).1 (record { one = one; other = other; apart = apart; one_in_file = in_one; other_in_file = in_other; next_of_one = next_one; next_of_other = next_other });
           is = refl;
         })))

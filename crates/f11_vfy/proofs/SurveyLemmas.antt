@@ -39,10 +39,10 @@ unfolding times_named
 times-first t l = sum_to-none (λ i. times_by t (i + 1) l)
 
 -- no header yet
-pub survey-new : (s : Survey) → IsNewSurvey s → IsSurvey 0 s
-survey-new s new = record { once = new.once; twice = new.twice; count = ap length new.no_slots }
+pub survey-new : (size : ℕ) (s : Survey) → IsNewSurvey size s → IsSurvey size 0 s
+survey-new size s new = record { room = omega (arith, new.room); count = ap length new.no_slots }
 
-pub surveys-new : (t : Table) (size : ℕ) (s : Survey) → ((n : ℕ) → IsLive t n → 1 ≤ n) → IsNewSurvey s → Surveys t size 0 s
+pub surveys-new : (t : Table) (size : ℕ) (s : Survey) → ((n : ℕ) → IsLive t n → 1 ≤ n) → IsNewSurvey size s → Surveys t size 0 s
 surveys-new t size s low new = record {
   shows = shows_same s.tally (λ l. 0) (times_named t 0) (λ l. sym (times-first t l)) new.shows;
   outside = subst (Finds (OutsideUpTo t size 0) []) (sym new.none_outside) (finds-none _ [] (λ code a i r. omega (arith, r.within, low a r.pointer.live)));
@@ -57,10 +57,9 @@ live-or-not Bad = inr (λ e. cc)
 
 -- one more
 module _ (k : ℕ) (state : State) (block : List ℕ) (size : ℕ) (old new : Survey) (takes : TakesSlot (k + 1) state block size old new) where
-  pub survey-more : IsSurvey k old → IsSurvey (k + 1) new
+  pub survey-more : IsSurvey size k old → IsSurvey size (k + 1) new
   survey-more is = record {
-    once = takes.once ∙ is.once;
-    twice = takes.twice ∙ is.twice;
+    room = omega (arith, takes.room, is.room);
     count = ap length takes.slots ∙ length-append old.slots.items (takes.slot ∷ []) ∙ ap (λ n. n + 1) is.count;
   }
 

@@ -52,7 +52,7 @@ pub record IsLinkedTwice (t : Table) (m : ℕ) : Type 0 where
 pub record IsSized (chains : Chains) (n : ℕ) : Type 0 where
   pub nexts : length chains.nexts.items ≡ n
   pub in_file : limit_of chains.in_file ≡ n + 1
-  pub twice : limit_of chains.linked.twice ≡ n + 1
+  pub linked : limit_of chains.linked.once ≡ n + 1
 
 -- what is known of a table's files
 pub record ShowsChains (t : Table) (chains : Chains) : Type 0 where

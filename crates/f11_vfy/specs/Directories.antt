@@ -93,7 +93,7 @@ pub record TakesHeaders (index : Index) (slots : List Slot) (nexts : List ℕ) (
 abbrev pub record_blocks : File → ℕ
 record_blocks f = (entry_count f + 31) / 32
 
--- Each header of a directory is read once, 256 at most, and each block that holds a record below the end.
+-- At most 256 headers of a directory are read, and the blocks that hold records below the end.
 abbrev pub most_reads : Image → Table → ℕ → ℕ
 most_reads image t d = 256 + record_blocks (file_of image t d)
 

@@ -20,10 +20,6 @@ use Rattle.f11_vfy.specs.declared.slot.State.{State}
 use Rattle.f11_vfy.specs.declared.slot.State.TheVariants.{Live}
 use Rattle.f11_vfy.specs.declared.survey.Survey.{Survey}
 
--- the blocks that a pointer can name are below this one: its LBN is below 2^24, and its count at most 256
-abbrev pub reach : ℕ
-reach = 16777471
-
 -- a block of pointer i of a header isn't in a volume of so many
 pub record IsOutside (b : List ℕ) (size i : ℕ) : Type 0 where
   pub run : ℕ × ℕ
@@ -63,8 +59,7 @@ pub record ReadsSlot (index : Index) (n : ℕ) (state : State) (block : List ℕ
 
 -- A slot in this state was taken into a survey, and its header where that is valid.
 pub record TakesSlot (n : ℕ) (state : State) (block : List ℕ) (size : ℕ) (old new : Survey) : Type 0 where
-  pub once : limit_of new.tally.once ≡ limit_of old.tally.once
-  pub twice : limit_of new.tally.twice ≡ limit_of old.tally.twice
+  pub room : limit_of old.tally.once ≤ limit_of new.tally.once
   pub slot : Slot
   pub slots : new.slots.items ≡ old.slots.items ++ slot ∷ []
   pub state_is : slot.state ≡ state
@@ -74,10 +69,9 @@ pub record TakesSlot (n : ℕ) (state : State) (block : List ℕ) (size : ℕ) (
   pub tally_stays : state ≢ Live → new.tally ≡ old.tally
   pub outside_stays : state ≢ Live → new.outside ≡ old.outside
 
--- what a survey of headers 1 to n has, whatever they say
-pub record IsSurvey (n : ℕ) (s : Survey) : Type 0 where
-  pub once : limit_of s.tally.once ≡ reach
-  pub twice : limit_of s.tally.twice ≡ reach
+-- what a survey of headers 1 to n has, whatever they say: room for a volume of so many blocks, and a place for each slot
+pub record IsSurvey (size n : ℕ) (s : Survey) : Type 0 where
+  pub room : size ≤ limit_of s.tally.once
   pub count : length s.slots.items ≡ n
 
 -- a survey of headers 1 to n of a table
@@ -88,14 +82,13 @@ pub record Surveys (t : Table) (size n : ℕ) (s : Survey) : Type 0 where
 
 -- A disk's headers were surveyed, each that is in use read once.
 pub record SurveysDisk (index : Index) (size : ℕ) (s : Survey) (old new : Disk) : Type 0 where
-  pub is_survey : IsSurvey (slots index) s
+  pub is_survey : IsSurvey size (slots index) s
   pub surveys : IsTrue old.honest → Surveys (table_in old.image index) size (slots index) s
   pub looked : Looked old new (used_slots index) 0
 
 -- a survey of no header
-pub record IsNewSurvey (s : Survey) : Type 0 where
-  pub once : limit_of s.tally.once ≡ reach
-  pub twice : limit_of s.tally.twice ≡ reach
+pub record IsNewSurvey (size : ℕ) (s : Survey) : Type 0 where
+  pub room : limit_of s.tally.once ≡ size
   pub shows : Shows s.tally (λ l. 0)
   pub none_outside : s.outside ≡ []
   pub no_slots : s.slots.items ≡ []

@@ -1,5 +1,5 @@
 //! Sets of numbers below a limit, a bit each.
-ghost use Rattle.std.specs.Prelude.{◌≡◌, ℕ, ◌+◌, ◌*◌, ◌/◌, ◌%◌, ◌<◌, ◌≤◌, ◌||◌, ◌==◌, false, IfOk, vec_len};
+ghost use Rattle.std.specs.Prelude.{◌≡◌, ℕ, ◌+◌, ◌*◌, ◌/◌, ◌%◌, ◌<◌, ◌≤◌, ◌||◌, ◌==◌, max, false, IfOk, OnOk, OnErr, vec_len};
 ghost use Rattle.std.specs.Int.{bit_at};
 
 use f11_bytes::NoMemory;
@@ -11,7 +11,7 @@ pub struct Bits {
     /// Number `k` is bit `k % 64` of word `k / 64`.
     words: Vec<u64>,
     limit: u32,
-    ghost room: { limit ≤ 64 * vec_len words },
+    ghost room: { vec_len words ≡ limit / 64 + 1 },
 }
 
 impl Bits {
@@ -53,6 +53,23 @@ impl Bits {
     {
         let i = k as usize / 64;
         self.words[i] = self.words[i] | 1u64 << (k % 64);
+    }
+
+    /// The limit becomes this one, where it is lower.
+    ///
+    /// # Errors
+    ///
+    /// `NoMemory` where there is no memory for an eighth of so many bytes.
+    pub(crate) fn widen(&mut self, limit: u32) -> Result<(), NoMemory>
+        ensures same { OnOk result ((k : ℕ) → has self.new k ≡ has self.old k) }
+        ensures limit { OnOk result (limit_of self.new ≡ max (limit_of self.old) limit) }
+        ensures failed { OnErr result (limit_of self.new ≡ limit_of self.old) }
+    {
+        if self.limit < limit {
+            self.words.resize(limit as usize / 64 + 1, 0u64)?;
+            self.limit = limit;
+        }
+        Ok(())
     }
 
     /// Word `i`, which begins below the limit: the bits of the numbers from `64 * i` on, 64 of them.

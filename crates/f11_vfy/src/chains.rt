@@ -138,7 +138,7 @@ fn tally_nexts(alloc: Global, in_file: &Bits, nexts: &[u16]) -> Result<Tally, No
     requires few { length nexts.now < 65536 }
     requires limit { limit_of in_file.now ≡ length nexts.now + 1 }
     requires range { (k : ℕ) → slice_index nexts.now k ≤ length nexts.now }
-    ensures limit { IfOk result (λ tally. limit_of tally.twice ≡ length nexts.now + 1) }
+    ensures limit { IfOk result (λ tally. limit_of tally.once ≡ length nexts.now + 1) }
     ensures shows { IfOk result (λ tally.
         Shows tally (λ m. sum_to (λ k. points_at in_file.now nexts.now k m) (length nexts.now))) }
 {

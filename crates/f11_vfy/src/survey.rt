@@ -16,10 +16,7 @@ use f11_findings::Findings;
 use f11_index::IndexFile;
 use std::alloc::Global;
 
-/// The blocks that a pointer can name are below this one: its LBN is below 2^24, and its count at most 256.
-const REACH: u32 = (1 << 24) + 255;
-
-/// What one pass over a volume's headers keeps: two bits for each block that a pointer can name, and some bytes a slot.
+/// What one pass over a volume's headers keeps: two bits a block, and some bytes a slot.
 #[derive(Drop)]
 pub struct Survey {
     /// How often each block is named.
@@ -33,14 +30,14 @@ pub struct Survey {
 impl Survey {
     ghost use Rattle.f11_vfy.specs.Bits.{limit_of};
     ghost use Rattle.f11_vfy.specs.declared.slot.State.TheVariants.{Live};
-    ghost use Rattle.f11_vfy.specs.Survey.{reach, IsNewSurvey, TakesSlot};
+    ghost use Rattle.f11_vfy.specs.Survey.{IsNewSurvey, TakesSlot};
 
-    /// Nothing was read yet. There is room for so many slots.
-    fn new(alloc: Global, slots: u32) -> Result<Survey, NoMemory>
-        ensures { IfOk result (λ survey. IsNewSurvey survey) }
+    /// Nothing was read yet. There is room for so many slots and blocks.
+    fn new(alloc: Global, slots: u32, blocks: u32) -> Result<Survey, NoMemory>
+        ensures { IfOk result (λ survey. IsNewSurvey blocks survey) }
     {
         let mut survey = Survey {
-            tally: Tally::new(alloc, REACH)?,
+            tally: Tally::new(alloc, blocks)?,
             outside: Findings::new(alloc),
             slots: Vec::new(alloc),
         };
@@ -51,8 +48,7 @@ impl Survey {
     /// Takes slot `n`, in this state, and its header where that is valid.
     fn take(&mut self, n: u16, state: State, block: &Block, size: u32) -> Result<(), NoMemory>
         requires valid { state ≡ Live → IsHeader block.now n }
-        requires once { limit_of self.old.tally.once ≡ reach }
-        requires twice { limit_of self.old.tally.twice ≡ reach }
+        requires room { size ≤ limit_of self.old.tally.once }
         ensures { OnOk result (TakesSlot n state block.now size self.old self.new) }
     {
         self.slots.push(keep(state, block))?;
@@ -82,7 +78,7 @@ pub fn survey_headers<D: Device>(
     ensures no_memory { IsErrOf result ReadFault.NoMemory
         → Looked (D.disk device.old) (D.disk device.new) (used_slots (index_kept index.now)) 0 }
 {
-    let mut survey = Survey::new(alloc, index.slots())?;
+    let mut survey = Survey::new(alloc, index.slots(), size)?;
     let mut block = [0; BLOCK_SIZE];
     for k in 0..index.slots() {
         let n = (k + 1) as u16;

@@ -1,5 +1,5 @@
 //! What came once at least, and what came twice.
-ghost use Rattle.std.specs.Prelude.{◌≡◌, ℕ, ◌+◌, ◌-◌, ◌*◌, ◌^◌, ◌≤◌, ◌<◌, true, IfOk};
+ghost use Rattle.std.specs.Prelude.{◌≡◌, ℕ, ◌+◌, ◌-◌, ◌*◌, ◌^◌, ◌≤◌, ◌<◌, max, true, IfOk, OnOk};
 
 use crate::bits::Bits;
 use f11_bytes::NoMemory;
@@ -12,6 +12,7 @@ pub struct Tally {
     pub once: Bits,
     /// Those that came twice at least.
     pub twice: Bits,
+    ghost room: { once.limit ≤ twice.limit },
 }
 
 impl Tally {
@@ -25,22 +26,33 @@ impl Tally {
     /// `NoMemory` where there is no memory for two bits a number.
     pub fn new(alloc: Global, limit: u32) -> Result<Tally, NoMemory>
         ensures shows { IfOk result (λ tally. Shows tally (λ _. 0)) }
-        ensures once { IfOk result (λ tally. limit_of tally.once ≡ limit) }
-        ensures twice { IfOk result (λ tally. limit_of tally.twice ≡ limit) }
+        ensures limit { IfOk result (λ tally. limit_of tally.once ≡ limit) }
     {
         let once = Bits::new(alloc, limit)?;
         let twice = Bits::new(alloc, limit)?;
         Ok(Tally { once, twice })
     }
 
+    /// Numbers below this limit may come too.
+    ///
+    /// # Errors
+    ///
+    /// `NoMemory` where there is no memory for two bits a number.
+    pub fn widen(&mut self, limit: u32) -> Result<(), NoMemory>
+        ensures shows { OnOk result ((c : ℕ → ℕ) → Shows self.old c → Shows self.new c) }
+        ensures limit { OnOk result (limit_of self.new.once ≡ max (limit_of self.old.once) limit) }
+    {
+        self.twice.widen(limit)?;
+        self.once.widen(limit)?;
+        Ok(())
+    }
+
     /// Number `k` came.
     pub fn mark(&mut self, k: u32)
-        requires once { k < limit_of self.old.once }
-        requires twice { k < limit_of self.old.twice }
+        requires { k < limit_of self.old.once }
         ensures shows { (c : ℕ → ℕ) → Shows self.old c
             → Shows self.new (λ l. c l + within k (k + 1) l) }
-        ensures once { limit_of self.new.once ≡ limit_of self.old.once }
-        ensures twice { limit_of self.new.twice ≡ limit_of self.old.twice }
+        ensures limit { limit_of self.new.once ≡ limit_of self.old.once }
     {
         if self.once.contains(k) {
             self.twice.insert(k);
@@ -52,12 +64,10 @@ impl Tally {
     /// The numbers from `first` on came, below `end`: 64 of them are marked at a time.
     pub fn mark_run(&mut self, first: u32, end: u32)
         requires order { first ≤ end }
-        requires once { end ≤ limit_of self.old.once }
-        requires twice { end ≤ limit_of self.old.twice }
+        requires within { end ≤ limit_of self.old.once }
         ensures shows { (c : ℕ → ℕ) → Shows self.old c
             → Shows self.new (λ l. c l + within first end l) }
-        ensures once { limit_of self.new.once ≡ limit_of self.old.once }
-        ensures twice { limit_of self.new.twice ≡ limit_of self.old.twice }
+        ensures limit { limit_of self.new.once ≡ limit_of self.old.once }
     {
         for i in first / 64..end.div_ceil(64) {
             let low = first.saturating_sub(64 * i);
@@ -68,13 +78,11 @@ impl Tally {
 
     /// The numbers of word `i` came whose bits in the mask are 1.
     fn mark_word(&mut self, i: u32, mask: u64)
-        requires once { 64 * i < limit_of self.old.once }
-        requires twice { 64 * i < limit_of self.old.twice }
+        requires word { 64 * i < limit_of self.old.once }
         requires inside { (l : ℕ) → in_word mask i l ≡ true → l < limit_of self.old.once }
         ensures shows { (c : ℕ → ℕ) → Shows self.old c
             → Shows self.new (λ l. c l + one_if (in_word mask i l)) }
-        ensures once { limit_of self.new.once ≡ limit_of self.old.once }
-        ensures twice { limit_of self.new.twice ≡ limit_of self.old.twice }
+        ensures limit { limit_of self.new.once ≡ limit_of self.old.once }
     {
         let before = self.once.word(i);
         self.twice.add_word(i, before & mask);

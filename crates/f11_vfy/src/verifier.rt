@@ -43,18 +43,20 @@ pub enum VfyError<D: Device> {
 /// block, its index file, the first files, the storage bitmap file, the control block or the bits past the slots aren't as they should
 /// be, that is the only fault and there are no notes.
 ///
-/// It writes nothing. It reads each candidate for the home block up to the one found; each block of the index bitmap, each header in use
-/// and each block of the storage bitmap once, and the headers of files 1 to 4 once more; then for each directory each of its headers
-/// once, 256 at most and none behind its end, and each of its blocks once that holds a record before the end. A block past the device's
-/// end counts as zeros, and neither is read nor takes a step.
+/// It writes nothing. For the frame it reads each candidate for the home block up to the one found, the index bitmap, the headers of file
+/// 1, those of file 3 where a candidate lies before the home block, headers 2, 3 and 4, those of file 2, and the control block; then each
+/// block of the storage bitmap that has a bit of a block of the volume, and each header in use, once; then for each directory each of its
+/// headers once, 256 at most and none behind its end, and each of its blocks once that holds a record before the end. A block past the
+/// device's end counts as zeros, and neither is read nor takes a step. The bound that is proved, where the device is honest, has 788 reads
+/// for the frame besides the candidates, and 256 headers for each directory.
 ///
 /// So the time is at most that of these reads, and of a step for each pointer of a header that was read and for each record: n log n
 /// steps for n records of a directory. A header to which several directories lead, which is a fault, is read for each of them, with the
 /// blocks that it names: at most 256 headers a directory.
 ///
-/// It takes two bits for each block that a retrieval pointer can name (4 MiB in all), two bits for each block of the volume, some 20
-/// bytes a slot, 12 bytes for each fault and each note, and for one directory at a time the names of its records, 10 bytes each and what
-/// a tree of them takes.
+/// It takes four bits for each block of the volume, and where a retrieval pointer names a block outside, two bits for each that a pointer
+/// can name (4 MiB in all); some 20 bytes a slot, 12 bytes for each fault and each note, and for one directory at a time the names of its
+/// records, 10 bytes each and what a tree of them takes.
 ///
 /// # Errors
 ///

@@ -10,15 +10,13 @@ use Rattle.f11_vfy.proofs.chains.tally_nexts.Goals.{then-links, else-links}
 
 pub loop-k-init : goal.loop-k-init
 loop-k-init c = record {
-  once = c.in_ok-tally.ensures.once;
-  twice = c.in_ok-tally.ensures.twice;
+  limit = c.in_ok-tally.ensures.limit;
   shows = shows_same _ _ _ (λ m. sym (sum_to-none (λ k. points_at c.args.in_file.now c.args.nexts.now k m))) c.in_ok-tally.ensures.shows;
 }
 
 pub loop-k-preserved : goal.loop-k-preserved
 loop-k-preserved c = record {
-  once = elim c.if-links.branch [ then-links w ↦ ap (λ t. limit_of t.once) w.tally-is ∙ w.mark.ensures.once ∙ c.loop-k.invariant.once | else-links w ↦ ap (λ t. limit_of t.once) w.tally-is ∙ c.loop-k.invariant.once ];
-  twice = elim c.if-links.branch [ then-links w ↦ ap (λ t. limit_of t.twice) w.tally-is ∙ w.mark.ensures.twice ∙ c.loop-k.invariant.twice | else-links w ↦ ap (λ t. limit_of t.twice) w.tally-is ∙ c.loop-k.invariant.twice ];
+  limit = elim c.if-links.branch [ then-links w ↦ ap (λ t. limit_of t.once) w.tally-is ∙ w.mark.ensures.limit ∙ c.loop-k.invariant.limit | else-links w ↦ ap (λ t. limit_of t.once) w.tally-is ∙ c.loop-k.invariant.limit ];
   shows = elim c.if-links.branch [
     | then-links w ↦ subst (λ t. Shows t (λ m. sum_to (λ k. points_at c.args.in_file.now c.args.nexts.now k m) (c.loop-k.k + 1))) (sym w.tally-is)
         (shows_same _ _ _ (counted_yes c.args.in_file.now c.args.nexts.now c.loop-k.k (sym c.links.ensures ∙ w.if-links.true))

@@ -6,7 +6,6 @@ use Rattle.f11_vfy.proofs.chains.tally_nexts.Given as goal
 
 abbrev pub invariant-loop-k : goal.invariant-loop-k
 invariant-loop-k l = record {
-  once : limit_of l.tally.once ≡ length l.nexts + 1;
-  twice : limit_of l.tally.twice ≡ length l.nexts + 1;
+  limit : limit_of l.tally.once ≡ length l.nexts + 1;
   shows : Shows l.tally (λ m. sum_to (λ k. points_at l.in_file l.nexts k m) l.k);
 }

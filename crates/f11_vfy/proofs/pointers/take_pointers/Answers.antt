@@ -1,4 +1,4 @@
-use Rattle.std.proofs.Common.{◌≤◌, ◌∙◌, length, refl, arith}
+use Rattle.std.proofs.Common.{◌≤◌, length, arith}
 use Rattle.f11_header.specs.Fields.{map_area}
 use Rattle.f11_map.specs.MapArea.{runs_of}
 use Rattle.f11_vfy.proofs.PointerLemmas.{named-none, named-more, named-all, outside-none, outside-more, outside-all}
@@ -6,8 +6,7 @@ use Rattle.f11_vfy.proofs.pointers.take_pointers.Goals as goal
 
 pub loop-i-init : goal.loop-i-init
 loop-i-init c = record {
-  once = refl;
-  twice = refl;
+  room = omega arith;
   named = λ f shows. named-none (runs_of (map_area c.args.block.now)) _ f shows;
   outside = outside-none c.args.block.now c.args.n c.args.size _;
 }
@@ -16,9 +15,8 @@ pub loop-i-preserved : goal.loop-i-preserved
 loop-i-preserved c =
     let at = rw c.map-map.ensures at c.run-lbn.ensures.run in
     record {
-      once = c.mark_run.ensures.once ∙ c.loop-i.invariant.once;
-      twice = c.mark_run.ensures.twice ∙ c.loop-i.invariant.twice;
-      named = λ f shows. named-more (runs_of (map_area c.args.block.now)) c.loop-i.i c.run-lbn.result _ f at (c.mark_run.ensures.shows _ (c.loop-i.invariant.named f shows));
+      room = omega (arith, c.loop-i.invariant.room, c.in_ok-make_room.ensures.room, c.mark_run.ensures.limit);
+      named = λ f shows. named-more (runs_of (map_area c.args.block.now)) c.loop-i.i c.run-lbn.result _ f at (c.mark_run.ensures.shows _ (c.in_ok-make_room.ensures.shows _ (c.loop-i.invariant.named f shows)));
       outside = outside-more c.args.block.now c.args.n c.args.size c.loop-i.i c.run-lbn.result _ _ _ at c.loop-i.invariant.outside (rw c.from.ensures at c.in_ok-add_if.ensures.adds);
     }
 

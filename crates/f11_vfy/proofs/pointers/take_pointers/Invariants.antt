@@ -1,4 +1,4 @@
-use Rattle.std.proofs.Common.{◌≡◌, ◌+◌, ◌<◌, ℕ, take}
+use Rattle.std.proofs.Common.{◌≤◌, ◌+◌, ◌<◌, ℕ, take}
 use Rattle.f11_header.specs.Fields.{map_area}
 use Rattle.f11_map.specs.MapArea.{runs_of, blocks_in}
 use Rattle.f11_vfy.specs.Bits.{limit_of}
@@ -10,8 +10,7 @@ use Rattle.f11_vfy.proofs.pointers.take_pointers.Given as goal
 -- the pointers so far are taken
 abbrev pub invariant-loop-i : goal.invariant-loop-i
 invariant-loop-i l = record {
-  once : limit_of l.tally.once ≡ limit_of l.initial.tally.once;
-  twice : limit_of l.tally.twice ≡ limit_of l.initial.tally.twice;
+  room : limit_of l.initial.tally.once ≤ limit_of l.tally.once;
   named : (c : ℕ → ℕ) → Shows l.initial.tally c → Shows l.tally (λ x. c x + times_among (blocks_in (take l.i (runs_of (map_area l.block)))) x);
   outside : Finds (λ code a i. OutsideOf l.block l.n l.size code a i × (i < l.i)) l.initial.outside l.outside;
 }

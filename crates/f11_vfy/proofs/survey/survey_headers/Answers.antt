@@ -11,7 +11,7 @@ use Rattle.f11_vfy.proofs.survey.survey_headers.Goals as goal
 
 pub loop-k-init : goal.loop-k-init
 loop-k-init g c = record {
-  is_survey = survey-new _ c.in_ok-survey.ensures;
+  is_survey = survey-new c.args.size _ c.in_ok-survey.ensures;
   surveys = λ honest. surveys-new _ c.args.size _ (live-low (index_kept c.args.index.now) (g.D.Device.disk c.args.device.now)) c.in_ok-survey.ensures;
   looked = looked_within (looked_none _) (omega arith);
 }
@@ -45,7 +45,7 @@ returns-clause-surveys g c =
     let index = index_kept c.args.index.now in
     let all : c.loop-k.k ≡ slots index = omega (arith, c.loop-k-test.false, c.loop-k.auto.k-end, c.slots-k-end.ensures) in
     record {
-      is_survey = subst (λ n. IsSurvey n c.loop-k.survey) all c.loop-k.invariant.is_survey;
+      is_survey = subst (λ n. IsSurvey c.args.size n c.loop-k.survey) all c.loop-k.invariant.is_survey;
       surveys = λ honest. subst (λ n. Surveys (table_in (g.D.Device.disk c.args.device.now).image index) c.args.size n c.loop-k.survey) all (c.loop-k.invariant.surveys honest);
       looked = subst (λ n. Looked (g.D.Device.disk c.args.device.now) (g.D.Device.disk c.loop-k.device) (used_of index n) 0) all c.loop-k.invariant.looked;
     }

@@ -11,7 +11,7 @@ invariant-loop-k g l =
     let old = g.D.Device.disk l.fn.device in
     let now = g.D.Device.disk l.device in
     record {
-      is_survey : IsSurvey l.k l.survey;
+      is_survey : IsSurvey l.size l.k l.survey;
       surveys : IsTrue old.honest → Surveys (table_in old.image (index_kept l.index)) l.size l.k l.survey;
       looked : Looked old now (used_of (index_kept l.index) l.k) 0;
     }

@@ -5,8 +5,7 @@ use Rattle.f11_vfy.proofs.tally.Tally.mark_run.Goals as goal
 
 pub loop-i-init : goal.loop-i-init
 loop-i-init c = record {
-  once = refl;
-  twice = refl;
+  limit = refl;
   shows = λ f s. shows_same _ f _ (λ x. run-none c.args.first c.args.end (f x) x) s;
 }
 
@@ -14,12 +13,11 @@ pub mark_word-requires-clause-inside : goal.mark_word-requires-clause-inside
 mark_word-requires-clause-inside c = λ l is.
     let inside = run-inside c.args.first c.args.end c.loop-i.i _ _ c.mask.result l c.requires.order c.loop-i.auto.i (omega (arith, c.loop-i-test.true, c.div_ceil-i-end.ensures))
     c.saturating_sub-low.ensures c.min-high.ensures c.mask.ensures is in
-    omega (arith, inside, c.requires.once, c.loop-i.invariant.once)
+    omega (arith, inside, c.requires.within, c.loop-i.invariant.limit)
 
 pub loop-i-preserved : goal.loop-i-preserved
 loop-i-preserved c = record {
-  once = c.mark_word.ensures.once ∙ c.loop-i.invariant.once;
-  twice = c.mark_word.ensures.twice ∙ c.loop-i.invariant.twice;
+  limit = c.mark_word.ensures.limit ∙ c.loop-i.invariant.limit;
   shows = λ f s. shows_same _ _ _
       (λ l. run-more c.args.first c.args.end c.loop-i.i _ _ c.mask.result (f l) l c.requires.order c.loop-i.auto.i (omega (arith, c.loop-i-test.true, c.div_ceil-i-end.ensures))
       c.saturating_sub-low.ensures c.min-high.ensures c.mask.ensures) (c.mark_word.ensures.shows _ (c.loop-i.invariant.shows f s));

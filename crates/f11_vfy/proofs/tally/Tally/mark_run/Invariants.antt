@@ -6,7 +6,6 @@ use Rattle.f11_vfy.proofs.tally.Tally.mark_run.Given as goal
 -- the numbers of the words so far are marked
 abbrev pub invariant-loop-i : goal.invariant-loop-i
 invariant-loop-i l = record {
-  once : limit_of l.self.once ≡ limit_of l.initial.self.once;
-  twice : limit_of l.self.twice ≡ limit_of l.initial.self.twice;
+  limit : limit_of l.self.once ≡ limit_of l.initial.self.once;
   shows : (c : ℕ → ℕ) → Shows l.initial.self c → Shows l.self (λ x. c x + within l.first (max l.first (min (64 * l.i) l.end)) x);
 }
