@@ -158,8 +158,8 @@ module _ (s : Structure) (n lbn : ℕ) (block dead : List ℕ) (old : Disk) (for
         header = λ m away used. two.slot.others.header m away (one.slot.others.in_use m away ∙ used) ∙ one.slot.others.header m away used;
       }
 
-      dead-still : IsDead ((table_of cleared home).header n)
-      dead-still = ap (λ (v : Table). file_number (v.header n)) two.index_file.table ∙ dead-now
+      dead-still : (table_of cleared home).header n ≡ dead_header block
+      dead-still = ap (λ (v : Table). v.header n) two.index_file.table ∙ one.index_file.header ∙ is_dead
 
       blocks-now : KeepsOtherBlocks n t (table_of cleared home)
       blocks-now =
@@ -244,7 +244,7 @@ module _ (s : Structure) (n lbn : ℕ) (block dead : List ℕ) (old : Disk) (for
       buries = record {
         others = λ honest. subst (λ (i : Image). KeepsOtherSlots n t (table_of i home)) (sym image-new) (others-now honest (index_kept after) cleared_is.bit);
         unused = λ honest. ap (λ (i : Image). (table_of i home).in_use n) image-new ∙ unused-now honest (index_kept after) cleared_is.bit;
-        dead = λ honest. ap (λ (i : Image). file_number ((table_of i home).header n)) image-new ∙ dead-still honest (index_kept after) cleared_is.bit;
+        dead = λ honest. ap (λ (i : Image). (table_of i home).header n) image-new ∙ dead-still honest (index_kept after) cleared_is.bit;
         blocks = λ honest. subst (λ (i : Image). KeepsOtherBlocks n t (table_of i home)) (sym image-new) (blocks-now honest (index_kept after) cleared_is.bit);
         size = λ honest. ap (λ (i : Image). (volume_of i home).size) image-new ∙ size-now honest (index_kept after) cleared_is.bit;
         free = λ honest. ap (λ (i : Image). (volume_of i home).free) image-new ∙ free-now honest (index_kept after) cleared_is.bit;

@@ -2,7 +2,6 @@
 use Rattle.std.proofs.Common.{◌≡◌, ◌≢◌, ◌⊎◌, ◌+◌, ◌*◌, ◌&&◌, ◌||◌, ℕ, Bool, true, false, cond, not, IsTrue, List, ◌∷◌, None, eqb, length, inl, inr, refl, sym, ap, subst, ◌∙◌, arith}
 use Rattle.std.proofs.lemmas.Bool.{cases_eq, eq-eqb, ne_eqb}
 use Rattle.f11_dev.specs.Disk.{Disk}
-use Rattle.f11_header.specs.Fields.{file_number}
 use Rattle.f11_home.specs.Home.{HomeFields}
 use Rattle.f11_index.specs.HeaderBlock.{blocks_named}
 use Rattle.f11_index.specs.Table.{Table, table_of}
@@ -28,7 +27,7 @@ module _ (home at : HomeFields) (n : ℕ) (block : List ℕ) (old now new : Disk
       record {
         others = λ honest. subst (KeepsOtherSlots n (table_of old.image home)) (sym (gives.table (now_honest honest))) (buries.others honest);
         unused = λ honest. ap (λ (t : Table). t.in_use n) (gives.table (now_honest honest)) ∙ buries.unused honest;
-        dead = λ honest. ap (λ (t : Table). file_number (t.header n)) (gives.table (now_honest honest)) ∙ buries.dead honest;
+        dead = λ honest. ap (λ (t : Table). t.header n) (gives.table (now_honest honest)) ∙ buries.dead honest;
         blocks = λ honest. subst (KeepsOtherBlocks n (table_of old.image home)) (sym (gives.table (now_honest honest))) (buries.blocks honest);
         frees = λ honest. record {
           size = (gives.frees (now_honest honest)).size ∙ buries.size honest;

@@ -6,8 +6,8 @@ use Rattle.f11_dev.specs.Disk.{Disk}
 use Rattle.f11_dev.specs.Image.{Image, IsImage}
 use Rattle.f11_dev.specs.Looked.{Looked}
 use Rattle.f11_dev.proofs.WentLemmas.{went_looked, went_within}
-use Rattle.f11_header.specs.Fields.{file_number}
-use Rattle.f11_header.specs.Header.{holds_header, IsDead}
+use Rattle.f11_header.specs.Header.{holds_header}
+use Rattle.f11_header.specs.Writing.{dead_header}
 use Rattle.f11_home.specs.Home.{HomeFields}
 use Rattle.f11_index.specs.HeaderBlock.{segment_number, link_of, blocks_named}
 use Rattle.f11_index.specs.IndexFile.{index_of}
@@ -27,7 +27,7 @@ use Rattle.f11_vfy.specs.Contents.{pointer_count}
 use Rattle.f11_vfy.specs.Sound.{HasSoundVolume}
 use Rattle.f11_vfy.specs.Volume.{Volume, volume_of}
 use Rattle.f11_writes.specs.OtherSlots.{KeepsOtherSlots}
-use Rattle.f11_files.specs.Allocation.{FreesBlocks, LosesHeaders}
+use Rattle.f11_files.specs.Allocation.{FreesBlocks, Kills, LosesHeaders}
 use Rattle.f11_files.specs.Answers.{Writes, refusal_for}
 use Rattle.f11_files.specs.Drops.{FreesMore, Freeing, BreaksOff, MayDrop, DropsHeader, DropsBehind, HangsBehind, headers_behind, without_header, without_headers, with_more_free, drop_cost, tail_cost}
 use Rattle.f11_files.specs.FileLaws.{pointers_in}
@@ -132,7 +132,7 @@ module _ (s c : Structure) (from block : List ℕ) (old now : Disk) (d : Droppin
         let was : Volume = volume_of old.image h in
         let is : Volume = volume_of now.image h in
         loses-all hs was is (subst (λ (ns : List ℕ). LosesAlike hs ns was is) (behind-none u block last.no_link) (d.loses honest))
-        (λ n among. (all-killed.killed n among refl).dead)
+        (λ n among. (all-killed.killed n among refl).kills)
 
   pub dropped-all : (after : List ℕ) (new : Disk) → FindsLast block after now new → DropsBehind h from old new
   dropped-all after new last = subst (DropsBehind h from old) (sym last.disk_stays) (record {
@@ -285,14 +285,13 @@ module _ (s c : Structure) (from block : List ℕ) (old now : Disk) (d : Droppin
           subst (λ (i : Image). KeepsOtherBlocks n (table_of i h) v) reads.looked.image
           (subst (λ (k : HomeFields). KeepsOtherBlocks n (table_of read.image k) (table_of new.image k)) d.home (drops.blocks (read-honest honest)))
 
-      dead-now : IsTrue old.honest → IsDead (v.header n)
-      dead-now honest = ap (λ (k : HomeFields). file_number ((table_of new.image k).header n)) (sym d.home) ∙ drops.dead (read-honest honest)
+      killed-now : IsTrue old.honest → Kills n u v
+      killed-now honest = ap (λ (k : HomeFields). (table_of new.image k).header n) (sym d.home) ∙ drops.dead (read-honest honest) ∙ ap dead_header (header-is honest)
 
       kills-one : IsTrue old.honest → KillsAlike (n ∷ rest) rest u v
       kills-one honest =
           let place = in_use-place now.image h n (live honest).in_use in
-          let count = (others-stay honest).slots in
-          kills-first n rest u v (others-stay honest) (record { some = place.0; within = omega (arith, place.1, count); dead = dead-now honest })
+          kills-first n rest u v (others-stay honest) (record { some = place.0; within = place.1; kills = killed-now honest })
 
       kills-now : IsTrue old.honest → KillsAlike (headers_behind (table_of old.image h) from) (headers_behind v following) (table_of old.image h) v
       kills-now honest =

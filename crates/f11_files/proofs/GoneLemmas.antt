@@ -1,19 +1,20 @@
 -- A file that is deleted.
-use Rattle.std.proofs.Common.{◌≡◌, ◌≢◌, ◌+◌, ◌-◌, ◌*◌, ◌<◌, ◌≤◌, ℕ, Bool, true, false, cond, IsTrue, List, [], ◌∷◌, Option, Some, None, unwrap_or, length, refl, sym, ap, subst, ◌∙◌, arith}
-use Rattle.std.specs.List.{sum_by}
+use Rattle.std.proofs.Common.{◌≡◌, ◌≢◌, ◌+◌, ◌-◌, ◌*◌, ◌<◌, ◌≤◌, ℕ, suc, Bool, true, false, cond, IsTrue, List, [], ◌∷◌, Option, Some, None, unwrap_or, length, refl, sym, ap, subst, ◌∙◌, arith}
+use Rattle.std.specs.List.{slice_get, sum_by}
 use Rattle.std.proofs.lemmas.Bool.Decides.{nat_tests}
 use Rattle.std.proofs.lemmas.List.{length-append, length-map}
 use Rattle.std.proofs.lemmas.List.Sums.{sum_by-cons}
 use Rattle.f11_dev.specs.Disk.{Disk}
 use Rattle.f11_dev.specs.Image.{Image, IsImage}
 use Rattle.f11_dev.proofs.WentLemmas.{went_looked, went_weaker}
-use Rattle.f11_header.specs.Header.{IsDead}
+use Rattle.f11_header.specs.Writing.{dead_header}
 use Rattle.f11_home.specs.Home.{HomeFields}
 use Rattle.f11_index.specs.HeaderBlock.{segment_number, blocks_named}
 use Rattle.f11_index.specs.Headers.{headers_from, headers_of}
 use Rattle.f11_index.specs.IndexFile.{index_of}
 use Rattle.f11_index.specs.Table.{Table, table_of, IsLive, first}
-use Rattle.f11_index.proofs.HeadersLemmas.{link_number, live-some, headers_from-some}
+use Rattle.f11_index.proofs.ChainLemmas.{live_of-header}
+use Rattle.f11_index.proofs.HeadersLemmas.{link_number, live-some, headers_from-some, place-has}
 use Rattle.f11_index.proofs.SegmentLemmas.{table-bytes}
 use Rattle.f11_chain.specs.FileHeaders.{blocks_by, file_blocks}
 use Rattle.f11_store.specs.Causes.{Cause, first_of}
@@ -32,14 +33,14 @@ use Rattle.f11_vfy.proofs.FileLemmas.{image-files, reached-are, file-blocks-are}
 use Rattle.f11_writes.specs.Kept.{file_in}
 use Rattle.f11_writes.specs.OtherSlots.{KeepsOtherSlots}
 use Rattle.f11_writes.proofs.OtherSlotLemmas.{turned, header-was}
-use Rattle.f11_files.specs.Allocation.{FreesBlocks, LosesHeaders}
+use Rattle.f11_files.specs.Allocation.{FreesBlocks, Kills, LosesHeaders}
 use Rattle.f11_files.specs.Answers.{IsRight, Writes, FailsToWrite, Meanwhile, is_grave, is_cause}
 use Rattle.f11_files.specs.Deletes.{Deletes, FailsToDelete}
 use Rattle.f11_files.specs.Drops.{FreesMore, Freeing, BreaksOff, DropsHeader, DropsBehind, HangsBehind, KeepsBlocksBut, headers_behind, drop_cost, tail_cost, with_more_free, without_header, without_headers}
 use Rattle.f11_files.specs.FileLaws.{pointers_in}
 use Rattle.f11_files.specs.First.{FindsFile, HoldsFile}
 use Rattle.f11_files.specs.Operations.{file_causes}
-use Rattle.f11_files.specs.SlotLaws.{with_use}
+use Rattle.f11_files.specs.SlotLaws.{with_use, KeepsOtherBlocks}
 use Rattle.f11_files.specs.StoreOf.{store_of}
 use Rattle.f11_files.specs.Structure.{index_in, home_of, store_on, IsFor}
 use Rattle.f11_files.specs.declared.structure.Structure.{Structure}
@@ -49,7 +50,7 @@ use Rattle.f11_files.proofs.DropLemmas.{drop-store}
 use Rattle.f11_files.proofs.FreeingLemmas.{frees-none, frees-then, frees-blocks, freeing-more, writes-then, writes-within, breaks-then, breaks-within}
 use Rattle.f11_files.proofs.KillLemmas.{IsKilled, in_use-place, killed-both}
 use Rattle.f11_files.proofs.LocateLemmas.{whole, held-are}
-use Rattle.f11_files.proofs.LossLemmas.{LosesAlike, loses-then, loses-all, lost-all, loses-first}
+use Rattle.f11_files.proofs.LossLemmas.{LosesAlike, loses-then, loses-all, lost-all, loses-first, in-at}
 use Rattle.f11_files.proofs.NamedLemmas.{block-is, no-file-cause, held-named, seen-same, file-stored}
 use Rattle.f11_files.proofs.StoreLemmas.{file-at, seen-own}
 use Rattle.f11_files.proofs.TailLemmas.{hangs-from, hangs-are, hangs-blocks, hangs-pointers}
@@ -215,11 +216,20 @@ module _ (s : Structure) (f : FileId) (block : List ℕ) (old read : Disk) (for 
       loses-one = loses-first n hs (volume_of old.image h) (volume_of now.image h) others unused blocks-freed blocks-behind
 
       -- its header was killed
-      is-killed : IsKilled u n
+      is-killed : IsKilled n was u
       is-killed =
           let place = in_use-place old.image h n (whole s f block old for finds.holds honest).file.live.in_use in
-          let count = (drops.blocks read-honest).slots ∙ ap (λ (v : Table). v.slots) tables in
-          record { some = place.0; within = omega (arith, place.1, count); dead = drops.dead read-honest }
+          record { some = place.0; within = place.1; kills = drops.dead read-honest ∙ ap dead_header header-is }
+
+      others-stay : KeepsOtherBlocks n was u
+      others-stay = subst (λ (v : Table). KeepsOtherBlocks n v u) tables (drops.blocks read-honest)
+
+      -- each header behind it was in a slot of the table's
+      places : (m : ℕ) → is_in hs m ≡ true → (0 < m) × (m ≤ was.slots)
+      places m is =
+          let there = in-at hs m is in
+          let listed = ap (λ (l : List ℕ). slice_get l (suc there.0)) (headers-are s f block old for finds.holds honest) ∙ there.1 in
+          in_use-place old.image h m (live_of-header (place-has was n m (suc there.0) (whole s f block old for finds.holds honest) listed).of).in_use
 
       -- and then the others went
       module _ (new : Image) (loses : LosesHeaders (headers_behind u block) (volume_of now.image h) (volume_of new h))
@@ -227,10 +237,10 @@ module _ (s : Structure) (f : FileId) (block : List ℕ) (old read : Disk) (for 
         rest-lost : LosesHeaders hs (volume_of now.image h) (volume_of new h)
         rest-lost = subst (λ (ns : List ℕ). LosesHeaders ns (volume_of now.image h) (volume_of new h)) behind-is loses
 
-        all-killed : (m : ℕ) → is_in (n ∷ hs) m ≡ true → IsDead ((table_of new h).header m)
+        all-killed : (m : ℕ) → is_in (n ∷ hs) m ≡ true → Kills m was (table_of new h)
         unfolding volume_of
         all-killed =
-            killed-both n hs u (table_of new h) is-killed (subst (λ (ns : List ℕ). KeepsBlocksBut ns u (table_of new h)) behind-is stays) rest-lost.killed
+            killed-both n hs was u (table_of new h) others-stay is-killed (subst (λ (ns : List ℕ). KeepsBlocksBut ns u (table_of new h)) behind-is stays) places rest-lost.killed
 
         loses-file : LosesHeaders (headers_of was n) (volume_of old.image h) (volume_of new h)
         unfolding volume_of

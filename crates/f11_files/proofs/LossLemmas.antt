@@ -10,7 +10,7 @@ use Rattle.std.proofs.lemmas.List.Folds.{list_any-append}
 use Rattle.std.proofs.lemmas.Option.{none-some, same_Some, slice_get_within}
 use Rattle.f11_bits.specs.Bitmap.{Marks}
 use Rattle.f11_dev.specs.Image.{Image}
-use Rattle.f11_header.specs.Header.{IsDead}
+use Rattle.f11_header.specs.Writing.{dead_header}
 use Rattle.f11_home.specs.Home.{HomeFields}
 use Rattle.f11_map.proofs.MapLemmas.{slice_get-append_back}
 use Rattle.f11_index.specs.HeaderBlock.{segment_number, blocks_named}
@@ -32,7 +32,7 @@ use Rattle.f11_vfy.proofs.FileLemmas.{image-files, file-headers-are}
 use Rattle.f11_writes.specs.Kept.{file_in, KeepsButFree}
 use Rattle.f11_writes.specs.OtherSlots.{KeepsOtherSlots}
 use Rattle.f11_writes.proofs.OtherSlotLemmas.{live-was, stay-before, turned}
-use Rattle.f11_files.specs.Allocation.{named_by, BeginsWith, FreesBlocks, LosesHeaders, LosesBlocks}
+use Rattle.f11_files.specs.Allocation.{named_by, BeginsWith, FreesBlocks, Kills, LosesHeaders, LosesBlocks}
 use Rattle.f11_files.specs.StoreOf.{as_seen, is_first, store_of}
 use Rattle.f11_files.proofs.AllocationLemmas.{named-live, named-others, named-unused}
 use Rattle.f11_files.proofs.NamedLemmas.{file-stored, seen-same}
@@ -125,7 +125,7 @@ loses-then xs ys zs u v w one two = record {
 }
 
 -- all of them went
-pub loses-all : (xs : List ℕ) (v w : Volume) → LosesAlike xs [] v w → ((n : ℕ) → is_in xs n ≡ true → IsDead (w.table.header n)) → LosesHeaders xs v w
+pub loses-all : (xs : List ℕ) (v w : Volume) → LosesAlike xs [] v w → ((n : ℕ) → is_in xs n ≡ true → Kills n v.table w.table) → LosesHeaders xs v w
 loses-all xs v w loses killed = record { names = loses.names; killed = killed; free = all-freed (blocks_by v.table xs) v w loses.free }
 
 pub lost-all : (xs : List ℕ) (v w : Volume) → LosesHeaders xs v w → LosesAlike xs [] v w
@@ -164,7 +164,7 @@ loses-first n ns v w others unused frees blocks = record {
     both false false l = refl
 
 -- what is in a list stands at a place of it, and is in none behind it where none stands twice
-in-at : (xs : List ℕ) (n : ℕ) → is_in xs n ≡ true → (i : ℕ) × (slice_get xs i ≡ Some n)
+pub in-at : (xs : List ℕ) (n : ℕ) → is_in xs n ≡ true → (i : ℕ) × (slice_get xs i ≡ Some n)
 in-at [] n is = absurd (false≢true is)
 in-at (x ∷ xs) n is = elim (cases_eq x n) [
   | inl here ↦ (0, ap Some here)
@@ -352,6 +352,18 @@ module _ (f n keep to : ℕ) (v w x : Volume) (cut : CutsThere f n keep to v w) 
       ])
     ]
 
+    -- one that went was a header of the file, which the cut let be
+    was-header : (m : ℕ) → is_in hs m ≡ true → u.header m ≡ t.header m
+    was-header m is =
+        let there = in-at hs m is in
+        let place : length front + there.0 - length front ≡ there.0 = omega arith in
+        let at = slice_get-append_back front hs (length front + there.0) (length front) refl (omega arith) ∙ ap (slice_get hs) place ∙ there.1 in
+        let of = (place-has t f m (length front + there.0) cut.whole (ap (λ (l : List ℕ). slice_get l (length front + there.0)) list ∙ at)).of in
+        let none : length behind - length behind ≡ 0 = omega arith in
+        let own_place : slice_get front (length behind) ≡ Some n =
+        slice_get-append_back behind (n ∷ []) (length behind) (length behind) refl (omega arith) ∙ ap (slice_get (n ∷ [])) none in
+        cut.others.header m (λ same_one. false≢true (sym (listed-out (length behind) n own_place) ∙ ap (is_in hs) (sym same_one) ∙ is)) (live_of-header of).in_use
+
     -- a header of none of the file's
     away-from : (m : ℕ) → ¬ IsHeaderOf t f m → named_by now m ≡ named_by t m
     away-from m none = elim (cases_Bool (is_in hs m)) [
@@ -371,7 +383,7 @@ module _ (f n keep to : ℕ) (v w x : Volume) (cut : CutsThere f n keep to v w) 
       needed = elim cut.needed [ inl none ↦ inl none | inr some ↦ inr (let to_is = cut.to_is in omega (arith, some, to_is)) ];
       own = begins;
       gone = λ m is. goes m (ap (λ (l : List ℕ). is_in l m) (sym rest-left) ∙ is);
-      killed = λ m is. loses.killed m (ap (λ (l : List ℕ). is_in l m) (sym rest-left) ∙ is);
+      killed = λ m is. let gone = ap (λ (l : List ℕ). is_in l m) (sym rest-left) ∙ is in loses.killed m gone ∙ ap dead_header (was-header m gone);
       others = away-from;
       free =
           subst (λ (l : List ℕ). FreesBlocks l v x) (sym lost-blocks)

@@ -4,7 +4,7 @@ use Rattle.std.specs.Prelude.{◌≡◌, ◌≢◌, ◌⊎◌, ℕ, suc, ◌<◌
 use Rattle.std.specs.List.{range_with_len}
 use Rattle.f11_bytes.specs.Block.{zero_block}
 use Rattle.f11_header.specs.Fields.{owner, protection, characteristics, attributes}
-use Rattle.f11_header.specs.Header.{IsDead}
+use Rattle.f11_header.specs.Writing.{dead_header}
 use Rattle.f11_index.specs.HeaderBlock.{blocks_named}
 use Rattle.f11_index.specs.Headers.{headers_of, is_live}
 use Rattle.f11_index.specs.Table.{Table, IsFile, IsLive, IsHeaderOf}
@@ -118,10 +118,14 @@ pub record FreesBlocks (lbns : List ℕ) (old new : Volume) : Type 0 where
   pub size : new.size ≡ old.size
   pub free : (lbn : ℕ) → new.free lbn ≡ (old.free lbn || is_in lbns lbn)
 
+-- Header n was killed: its file number and its check word are 0, and the rest of its block is as it was.
+abbrev pub Kills : ℕ → Table → Table → Type 0
+Kills n old new = new.header n ≡ dead_header (old.header n)
+
 -- These headers were killed, and the blocks that they named are free: each other header names what it named.
 pub record LosesHeaders (headers : List ℕ) (old new : Volume) : Type 0 where
   pub names : (n : ℕ) → named_by new.table n ≡ (if is_in headers n then [] else named_by old.table n)
-  pub killed : (n : ℕ) → is_in headers n ≡ true → IsDead (new.table.header n)
+  pub killed : (n : ℕ) → is_in headers n ≡ true → Kills n old.table new.table
   pub free : FreesBlocks (blocks_by old.table headers) old new
 
 -- File f has the first of its blocks alone, so many, and the others are free. It has its first header, and those after it before which it has
@@ -133,6 +137,6 @@ pub record LosesBlocks (f to : ℕ) (old new : Volume) : Type 0 where
   pub needed : (more ≡ 0) ⊎ (length (blocks_by old.table (take more (headers_of old.table f))) < to)
   pub own : (n : ℕ) → BeginsWith (named_by old.table n) (named_by new.table n)
   pub gone : (n : ℕ) → is_in (drop (suc more) (headers_of old.table f)) n ≡ true → named_by new.table n ≡ []
-  pub killed : (n : ℕ) → is_in (drop (suc more) (headers_of old.table f)) n ≡ true → IsDead (new.table.header n)
+  pub killed : (n : ℕ) → is_in (drop (suc more) (headers_of old.table f)) n ≡ true → Kills n old.table new.table
   pub others : (n : ℕ) → ¬ IsHeaderOf old.table f n → named_by new.table n ≡ named_by old.table n
   pub free : FreesBlocks (drop to (file_blocks old.table f)) old new

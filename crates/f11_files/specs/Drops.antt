@@ -4,7 +4,7 @@ use Rattle.std.specs.List.{slice_get}
 use Rattle.f11_bits.specs.Bitmap.{Marks}
 use Rattle.f11_dev.specs.Disk.{Disk}
 use Rattle.f11_dev.specs.Image.{Image}
-use Rattle.f11_header.specs.Header.{IsDead}
+use Rattle.f11_header.specs.Writing.{dead_header}
 use Rattle.f11_home.specs.Home.{HomeFields}
 use Rattle.f11_index.specs.HeaderBlock.{segment_number, link_of, blocks_named}
 use Rattle.f11_index.specs.Headers.{headers_from, IsInFile}
@@ -83,7 +83,7 @@ pub record MayDrop (t : Table) (n : ℕ) : Type 0 where
 pub record Buries (home : HomeFields) (n : ℕ) (block : List ℕ) (old new : Disk) : Type 0 where
   pub others : IsTrue old.honest → KeepsOtherSlots n (table_of old.image home) (table_of new.image home)
   pub unused : IsTrue old.honest → (table_of new.image home).in_use n ≡ false
-  pub dead : IsTrue old.honest → IsDead ((table_of new.image home).header n)
+  pub dead : IsTrue old.honest → (table_of new.image home).header n ≡ dead_header block
   pub blocks : IsTrue old.honest → KeepsOtherBlocks n (table_of old.image home) (table_of new.image home)
   pub size : IsTrue old.honest → (volume_of new.image home).size ≡ (volume_of old.image home).size
   pub free : IsTrue old.honest → SameFree home old.image new.image
@@ -103,7 +103,7 @@ drop_cost block = 2 + 4 * pointers_in block
 pub record DropsHeader (home : HomeFields) (n : ℕ) (block : List ℕ) (old new : Disk) : Type 0 where
   pub others : IsTrue old.honest → KeepsOtherSlots n (table_of old.image home) (table_of new.image home)
   pub unused : IsTrue old.honest → (table_of new.image home).in_use n ≡ false
-  pub dead : IsTrue old.honest → IsDead ((table_of new.image home).header n)
+  pub dead : IsTrue old.honest → (table_of new.image home).header n ≡ dead_header block
   pub blocks : IsTrue old.honest → KeepsOtherBlocks n (table_of old.image home) (table_of new.image home)
   pub frees : IsTrue old.honest → FreesBlocks (blocks_named block) (volume_of old.image home) (volume_of new.image home)
   pub store : IsTrue old.honest → store_of new.image home ≡ without_header (store_of old.image home) n (length (blocks_named block))
