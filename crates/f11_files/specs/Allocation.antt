@@ -92,7 +92,7 @@ pub record GainsBlocksAs (f : ℕ) (ownership : Uic × ℕ) (n : ℕ) (old new :
   pub names : NamesMore f ownership (take n (free_list old)) old.table new.table
   pub free : free_list new ≡ drop n (free_list old)
 
--- it is what its first header says
+-- File f has the n lowest free blocks more, and its first header says whose the added ones are.
 abbrev pub GainsBlocks : ℕ → ℕ → Volume → Volume → Type 0
 GainsBlocks f n old new = GainsBlocksAs f (ownership_in (old.table.header f)) n old new
 
@@ -109,7 +109,7 @@ pub record GainsSlotsAs (ownership : Uic × ℕ) (n : ℕ) (old new : Volume) : 
   pub blocks : GainsBlocksAs 1 ownership n old new
   pub slots : AddsZeroSlots old.table new.table
 
--- it is what its first header says
+-- The index file has n slots more, and its first header says whose the added headers are.
 abbrev pub GainsSlots : ℕ → Volume → Volume → Type 0
 GainsSlots n old new = GainsSlotsAs (ownership_in (old.table.header 1)) n old new
 

@@ -88,7 +88,8 @@ pub record IsUnderWay (work : Work) (home : HomeFields) (old image : Image) : Ty
 abbrev pub Meanwhile : Work → HomeFields → Disk → Image → Type 0
 Meanwhile work home old image = IsTrue old.honest → IsUnderWay work home old.image image
 
--- A call that writes was served: there was no cause against it, of the store before it makes this, and blocks are named and free so.
+-- A call that writes was served: there was no cause against it; the store after it is as `Makes` says, and which blocks are named and free is as
+-- `Allots` says.
 pub record Does
     (causes : List Cause) (work : Work) (most : ℕ) (Makes : Store → Type 0) (Allots : Volume → Volume → Type 0) (home : HomeFields) (old new : Disk) : Type 0
   where
@@ -97,7 +98,7 @@ pub record Does
     pub allots : IsTrue old.honest → Allots (volume_of old.image home) (volume_of new.image home)
     pub writes : Writes (Meanwhile work home old) most old new 0
 
--- A call that writes was refused: unless it failed the volume, no block was written, nor was one where there was a cause against it.
+-- A call that writes was refused: unless it failed the volume, no block was written; where there was a cause against it, no work was under way.
 pub record FailsToWrite (failed : Bool) (causes : List Cause) (most : ℕ) (work : Work) (home : HomeFields) (refusal : Refusal) (old new : Disk) : Type 0 where
   pub right : IsRight failed old.honest causes refusal
   pub writes : Writes (Meanwhile (work_if (first_of causes) work) home old) most old new (faults_of refusal)

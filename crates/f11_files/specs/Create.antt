@@ -17,7 +17,7 @@ use Rattle.f11_files.specs.StoreOf.{store_of}
 abbrev pub new_work : Store → Uic → ℕ → List ℕ → List ℕ → Work
 new_work s owner protection ident attr = create_work (least_free s) (file_created s (least_free s) owner protection ident attr)
 
--- It was made, and this is its identification. Its slot's block was read, its header was written, and then its bit.
+-- It was made in three transfers, and this is its identification.
 pub record Creates (home : HomeFields) (owner : Uic) (protection : ℕ) (ident attr : List ℕ) (f : FileId) (old new : Disk) : Type 0 where
   pub does : Does (create_causes (store_of old.image home)) (new_work (store_of old.image home) owner protection ident attr) 3
       (λ t. t ≡ after_create (store_of old.image home) owner protection ident attr) KeepsBlocks home old new

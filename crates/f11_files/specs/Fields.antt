@@ -12,7 +12,7 @@ use Rattle.f11_files.specs.Answers.{Does, FailsToWrite}
 use Rattle.f11_files.specs.Operations.{file_causes}
 use Rattle.f11_files.specs.StoreOf.{store_of}
 
--- A file was changed so, and all else is as it was: its first header was read and written.
+-- A file was changed so, and all else is as it was, in two transfers.
 abbrev pub Alters : (File → File) → HomeFields → FileId → Disk → Disk → Type 0
 Alters change home f old new =
     let s = store_of old.image home in

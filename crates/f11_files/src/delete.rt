@@ -40,8 +40,8 @@ impl<D: Device> Files<D> {
     ghost use Rattle.f11_files.specs.Open.{disk_in, has_failed, home_in, Answers, IsIdFrom};
 
     /// Deletes a file, one that is marked for delete too. For each of its headers, in order, three things are written: the header, killed;
-    /// the bit of its slot, so that it isn't in use; and the bits of its blocks, so that they are free. So each header is read once and
-    /// killed before any of its blocks is given back.
+    /// the bit of its slot, so that it isn't in use; and the bits of its blocks, so that they are free. So each header is killed
+    /// before any of its blocks is given back.
     ///
     /// # Errors
     ///

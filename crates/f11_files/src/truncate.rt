@@ -110,7 +110,7 @@ impl<D: Device> Files<D> {
 
     /// Cuts a file to its first `to` blocks, and answers how many it has then. The header that names the last of them, or the first one
     /// where none stays, is written with those blocks and no link; then its other blocks are marked free; and then each header behind
-    /// it goes as where a file is deleted. Each header is read once. Where it is refused, but for `DeviceFault` and `Damaged`, nothing is
+    /// it goes as where a file is deleted. Where it is refused, but for `DeviceFault` and `Damaged`, nothing is
     /// written.
     ///
     /// # Errors

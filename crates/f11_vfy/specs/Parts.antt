@@ -12,4 +12,3 @@ pub record IsReading (s : Survey) (c : Chains) (free : Bits) : Type 0 where
   pub is_survey : IsSurvey (limit_of free) (length s.slots.items) s
   pub few : length s.slots.items < 65536
   pub sized : IsSized c (length s.slots.items)
-

@@ -19,7 +19,7 @@ pub enum InitError<D: Device> {
 }
 
 /// Makes a fresh volume of all blocks of the device (profile: its layout). It writes each block of the layout once, in
-/// ascending order, and no other, and takes no memory.
+/// ascending order, and no other, and takes no memory. That order is no clause of its contract.
 ///
 /// # Errors
 ///
