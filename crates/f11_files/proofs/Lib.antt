@@ -71,3 +71,5 @@ pub mod GrowByLemmas
 pub mod IndexFileLemmas
 pub mod IndexRoomLemmas
 pub mod GrowIndexLemmas
+pub mod ConfinesLemmas
+pub mod PartsLemmas

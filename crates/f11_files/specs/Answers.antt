@@ -1,6 +1,7 @@
 -- What the answer of a call on files tells, whatever the call (profile).
-use Rattle.std.specs.Prelude.{◌≡◌, ◌≢◌, ℕ, ◌≤◌, ◌==◌, ◌&&◌, Bool, true, false, nat_lt, IsTrue, if◌then◌else◌, List, Some, None, Result, Ok, Err}
+use Rattle.std.specs.Prelude.{◌≡◌, ◌≢◌, ℕ, ◌≤◌, ◌==◌, ◌&&◌, Bool, true, false, nat_lt, IsTrue, if◌then◌else◌, List, [], Some, None, Result, Ok, Err}
 use Rattle.std.specs.List.{list_any}
+use Rattle.f11_chain.specs.FileHeaders.{file_blocks}
 use Rattle.f11_chain.specs.declared.fault.ChainFault.{ChainFault}
 use Rattle.f11_chain.specs.declared.fault.ChainFault.TheVariants as fault
 use Rattle.f11_dev.specs.Disk.{Disk}
@@ -8,14 +9,20 @@ use Rattle.f11_dev.specs.Image.{Image}
 use Rattle.f11_dev.specs.Looked.{Looked}
 use Rattle.f11_dev.specs.Went.{Went}
 use Rattle.f11_home.specs.Home.{HomeFields}
+use Rattle.f11_index.specs.IndexFile.{index_of}
+use Rattle.f11_index.specs.Table.{table_of}
 use Rattle.f11_store.specs.Causes.{Cause, first_of}
 use Rattle.f11_store.specs.Lags.{Work, LagsBy, work_if}
 use Rattle.f11_store.specs.Refusal.{refusal_number}
 use Rattle.f11_store.specs.Store.{Store}
+use Rattle.f11_store.specs.declared.files.FileId.{FileId}
 use Rattle.f11_store.specs.declared.refusals.Refusal.{Refusal}
 use Rattle.f11_store.specs.declared.refusals.Refusal.TheVariants.{VolumeFailed, EndOfFile, DeviceFault, Damaged}
 use Rattle.f11_vfy.specs.Sound.{HasSoundVolume}
+use Rattle.f11_vfy.specs.Space.{storage_bitmap}
 use Rattle.f11_vfy.specs.Volume.{Volume, volume_of}
+use Rattle.f11_files.specs.Allocation.{free_list}
+use Rattle.f11_files.specs.Confines.{Confines}
 use Rattle.f11_files.specs.StoreOf.{store_of}
 
 -- DeviceFault and Damaged fail the volume
@@ -103,6 +110,23 @@ pub record FailsToWrite (failed : Bool) (causes : List Cause) (most : ℕ) (work
   pub right : IsRight failed old.honest causes refusal
   pub writes : Writes (Meanwhile (work_if (first_of causes) work) home old) most old new (faults_of refusal)
   pub unchanged : is_grave refusal ≡ false → Reads most old new 0
+
+-- Where the disk is honest, no block was written but headers, the index bitmap, the storage bitmap, and these: each image that stood meanwhile
+-- spares all others.
+abbrev pub WritesOnly : List ℕ → HomeFields → Disk → Disk → Type 0
+WritesOnly others home old new = IsTrue old.honest → Confines (index_of old.image home) (storage_bitmap old.image home) others old new
+
+-- none but those
+abbrev pub WritesNoOther : HomeFields → Disk → Disk → Type 0
+WritesNoOther home old new = WritesOnly [] home old new
+
+-- none but those, and blocks of file f
+abbrev pub WritesBlocksOf : FileId → HomeFields → Disk → Disk → Type 0
+WritesBlocksOf f home old new = WritesOnly (file_blocks (table_of old.image home) f.number) home old new
+
+-- none but those, and blocks that were free
+abbrev pub WritesFreeBlocks : HomeFields → Disk → Disk → Type 0
+WritesFreeBlocks home old new = WritesOnly (free_list (volume_of old.image home)) home old new
 
 -- what a fault of a walk along a file's headers is to those who ask
 abbrev pub refusal_for : ChainFault → Refusal

@@ -2,6 +2,7 @@ pub mod StoreOf
 pub mod StoreLaws
 pub mod SlotLaws
 pub mod FileLaws
+pub mod Confines
 pub mod Structure
 pub mod Open
 pub mod Allocation

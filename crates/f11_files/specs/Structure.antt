@@ -1,5 +1,5 @@
 -- What is kept of an open volume, and when it is that of a disk.
-use Rattle.std.specs.Prelude.{◌≡◌, ℕ, ◌≤◌, Bool, false, IsTrue, length}
+use Rattle.std.specs.Prelude.{◌≡◌, ℕ, ◌≤◌, Bool, false, IsTrue, List, [], length}
 use Rattle.f11_bits.specs.Bitmap.{Bitmap, free_blocks, LiesWithin as BitmapLiesWithin}
 use Rattle.f11_bits.specs.Storage.{bitmap_of, count_of}
 use Rattle.f11_dev.specs.Disk.{Disk}
@@ -7,9 +7,11 @@ use Rattle.f11_dev.specs.Image.{Image}
 use Rattle.f11_home.specs.Home.{HomeFields, IsHomeOf}
 use Rattle.f11_index.specs.IndexFile.{Index, index_of, free_slots, slots}
 use Rattle.f11_index.specs.Kept.{index_kept, LiesWithin}
+use Rattle.f11_store.specs.Changes.{is_in}
 use Rattle.f11_store.specs.Store.{Store}
 use Rattle.f11_vfy.specs.Sound.{HasSoundVolume}
 use Rattle.f11_vfy.specs.Space.{storage_bitmap}
+use Rattle.f11_files.specs.Confines.{Confines, IsNoPart, AreAlike}
 use Rattle.f11_files.specs.StoreOf.{store_of}
 use Rattle.f11_files.specs.declared.structure.Structure.{Structure}
 
@@ -60,3 +62,20 @@ pub record StaysFor (failed : Bool) (old new : Structure) (disk : Disk) : Type 0
   pub lies : failed ≡ false → Lies new (length disk.image)
   pub sound : IsTrue disk.honest → HasSoundVolume disk.image (home_of new)
   pub keeps : failed ≡ false → IsTrue disk.honest → Keeps new disk.image
+
+-- Calls wrote no block but those of its parts, and these.
+abbrev pub ConfinesTo : Structure → List ℕ → Disk → Disk → Type 0
+ConfinesTo s others old new = Confines (index_in s) (bitmap_in s) others old new
+
+-- They wrote its parts alone.
+abbrev pub WritesOnlyParts : Structure → Disk → Disk → Type 0
+WritesOnlyParts s old new = ConfinesTo s [] old new
+
+-- A block that is none of its parts, nor of these, is none afterwards.
+abbrev pub StandsWithin : Structure → List ℕ → Structure → Type 0
+StandsWithin s others after =
+    (lbn : ℕ) → IsNoPart (index_in s) (bitmap_in s) lbn → is_in others lbn ≡ false → IsNoPart (index_in after) (bitmap_in after) lbn
+
+-- Its parts are where they were.
+abbrev pub StandsAlike : Structure → Structure → Type 0
+StandsAlike s after = AreAlike (index_in s) (index_in after) (bitmap_in s) (bitmap_in after)

@@ -1,9 +1,11 @@
 //! The blocks of a file.
-ghost use Rattle.std.specs.Prelude.{◌≡◌, ◌+◌, ◌<◌, ◌≤◌, false, IfErr, OnOk, OnErr};
-ghost use Rattle.f11_files.specs.Answers.{FailsToRead, is_grave, is_refused};
+ghost use Rattle.std.specs.Prelude.{◌≡◌, ◌+◌, ◌<◌, ◌≤◌, false, IfErr, OnOk, OnErr, IsTrue};
+ghost use Rattle.f11_files.specs.Answers.{FailsToRead, is_grave, is_refused, WritesBlocksOf};
 ghost use Rattle.f11_files.specs.Blocks.{ReadsBlock, StoresBlock, FailsToStore};
 ghost use Rattle.f11_files.specs.Operations.{length_causes};
-ghost use Rattle.f11_files.specs.Structure.{home_of, store_on, IsFor, StaysFor};
+ghost use Rattle.f11_files.specs.Structure.{home_of, store_on, IsFor, StaysFor, ConfinesTo};
+ghost use Rattle.f11_chain.specs.FileHeaders.{file_blocks};
+ghost use Rattle.f11_index.specs.Table.{table_of};
 ghost use Rattle.f11_store.specs.Cost.{header_count};
 ghost use Rattle.f11_store.specs.Store.{file_named};
 
@@ -66,6 +68,9 @@ impl Structure {
             block.now refusal (D.disk device.old) (D.disk device.new)) }
         ensures stays { StaysFor (is_refused is_grave result) self.now self.now
             (D.disk device.new) }
+        ensures confined { IsTrue (D.disk device.old).honest → ConfinesTo self.now
+            (file_blocks (table_of (D.disk device.old).image (home_of self.now)) f.number)
+            (D.disk device.old) (D.disk device.new) }
     {
         let lbn = self.locate(device, f, vbn)?;
         match device.write(lbn, block) {
@@ -120,6 +125,7 @@ impl<D: Device> Files<D> {
             (disk_in self.old) (disk_in self.new)) }
         ensures refused { IfErr result (λ refusal. FailsToStore (has_failed self.old)
             (home_in self.old) f vbn block.now refusal (disk_in self.old) (disk_in self.new)) }
+        ensures confined { WritesBlocksOf f (home_in self.old) (disk_in self.old) (disk_in self.new) }
     {
         if self.failed {
             return Err(Refusal::VolumeFailed);

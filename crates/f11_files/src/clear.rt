@@ -3,7 +3,7 @@ ghost use Rattle.std.specs.Prelude.{◌≡◌, ◌⊎◌, ◌≤◌, OnOk, OnErr
 ghost use Rattle.f11_dev.specs.Went.{Went};
 ghost use Rattle.f11_files.specs.Clear.{Clearing, ClearsMark};
 ghost use Rattle.f11_files.specs.First.{HoldsFile};
-ghost use Rattle.f11_files.specs.Structure.{index_in, IsFor};
+ghost use Rattle.f11_files.specs.Structure.{index_in, IsFor, WritesOnlyParts};
 
 use crate::fields::clear_contiguous;
 use crate::structure::Structure;
@@ -30,6 +30,7 @@ impl Structure {
             (ClearsMark self.now f first.old first.new (D.disk device.old) (D.disk device.new)) }
         ensures failed { OnErr result (Went (Clearing self.now f (D.disk device.old))
             (D.disk device.old) (D.disk device.new) 1 1) }
+        ensures confined { WritesOnlyParts self.now (D.disk device.old) (D.disk device.new) }
     {
         if !clear_contiguous(first, f) {
             return Ok(());

@@ -1,8 +1,8 @@
 //! A file that is deleted.
 ghost use Rattle.std.specs.Prelude.{◌≡◌, ◌≤◌, false, IfErr, OnOk, true};
-ghost use Rattle.f11_files.specs.Answers.{is_grave, is_light, is_refused};
+ghost use Rattle.f11_files.specs.Answers.{is_grave, is_light, is_refused, WritesNoOther};
 ghost use Rattle.f11_files.specs.Deletes.{Deletes, FailsToDelete};
-ghost use Rattle.f11_files.specs.Structure.{counts_of, home_of, IsFor, StaysFor};
+ghost use Rattle.f11_files.specs.Structure.{counts_of, home_of, IsFor, StaysFor, WritesOnlyParts};
 
 use crate::answer::is_grave;
 use crate::files::Files;
@@ -28,6 +28,7 @@ impl Structure {
             (D.disk device.new) }
         ensures counts { is_refused is_light result ≡ true → counts_of self.new ≡ counts_of
             self.old }
+        ensures confined { WritesOnlyParts self.old (D.disk device.old) (D.disk device.new) }
     {
         let mut block = [0; BLOCK_SIZE];
         self.read_first(device, f, &mut block)?;
@@ -54,6 +55,7 @@ impl<D: Device> Files<D> {
             (Deletes (home_in self.old) f (disk_in self.old) (disk_in self.new)) }
         ensures refused { IfErr result (λ refusal. FailsToDelete (has_failed self.old)
             (home_in self.old) f refusal (disk_in self.old) (disk_in self.new)) }
+        ensures confined { WritesNoOther (home_in self.old) (disk_in self.old) (disk_in self.new) }
     {
         if self.failed {
             return Err(Refusal::VolumeFailed);

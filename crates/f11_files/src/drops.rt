@@ -4,7 +4,7 @@ ghost use Rattle.f11_chain.specs.Calls.{HoldsHeader};
 ghost use Rattle.f11_files.specs.Answers.{is_grave, is_refused};
 ghost use Rattle.f11_files.specs.Drops.{AreAllSpare, BreaksOff, Buries, DropsBehind, DropsHeader, GivesBlocks, GivesRun, HangsBehind, MayDrop, drop_cost, headers_behind, tail_cost};
 ghost use Rattle.f11_files.specs.FileLaws.{pointers_in};
-ghost use Rattle.f11_files.specs.Structure.{home_of, index_in, store_on, IsFor, StaysFor};
+ghost use Rattle.f11_files.specs.Structure.{home_of, index_in, store_on, IsFor, StandsAlike, StaysFor, WritesOnlyParts};
 ghost use Rattle.f11_header.specs.Header.{holds_header};
 ghost use Rattle.f11_index.specs.HeaderBlock.{blocks_named};
 ghost use Rattle.f11_index.specs.Table.{table_of};
@@ -43,6 +43,8 @@ impl Structure {
             (D.disk device.new)) }
         ensures stays { StaysFor (is_refused is_grave result) self.old self.new
             (D.disk device.new) }
+        ensures confined { WritesOnlyParts self.old (D.disk device.old) (D.disk device.new) }
+        ensures places { OnOk result (StandsAlike self.old self.new) }
     {
         if count == 0 {
             return Ok(());
@@ -80,6 +82,8 @@ impl Structure {
             (D.disk device.old) (D.disk device.new)) }
         ensures stays { StaysFor (is_refused is_grave result) self.old self.new
             (D.disk device.new) }
+        ensures confined { WritesOnlyParts self.old (D.disk device.old) (D.disk device.new) }
+        ensures places { OnOk result (StandsAlike self.old self.new) }
     {
         let map = in_hand::map(block);
         let mut left = keep;
@@ -109,6 +113,8 @@ impl Structure {
             (D.disk device.old) (D.disk device.new)) }
         ensures stays { StaysFor (is_refused is_grave result) self.old self.new
             (D.disk device.new) }
+        ensures confined { WritesOnlyParts self.old (D.disk device.old) (D.disk device.new) }
+        ensures places { OnOk result (StandsAlike self.old self.new) }
     {
         let mut dead = *block;
         kill(&mut dead);
@@ -144,6 +150,8 @@ impl Structure {
             (D.disk device.old) (D.disk device.new)) }
         ensures stays { StaysFor (is_refused is_grave result) self.old self.new
             (D.disk device.new) }
+        ensures confined { WritesOnlyParts self.old (D.disk device.old) (D.disk device.new) }
+        ensures places { OnOk result (StandsAlike self.old self.new) }
     {
         self.bury(device, n, block)?;
         self.give_from(device, block, 0)
@@ -173,6 +181,8 @@ impl Structure {
             refusal (D.disk device.old) (D.disk device.new)) }
         ensures stays { StaysFor (is_refused is_grave result) self.old self.new
             (D.disk device.new) }
+        ensures confined { WritesOnlyParts self.old (D.disk device.old) (D.disk device.new) }
+        ensures places { OnOk result (StandsAlike self.old self.new) }
     {
         for _ in 0..MOST_HEADERS {
             let n = match next(device, &self.index, block) {

@@ -1,12 +1,14 @@
 //! A file that is extended: it gets more blocks, run by run, which are zeros.
 ghost use Rattle.std.specs.Prelude.{◌≡◌, ◌+◌, ◌-◌, ◌*◌, ◌/◌, ◌<◌, ◌≤◌, false, IfErr, IfOk, IsTrue, OnOk, true};
 ghost use Rattle.f11_bits.specs.Transfers.{blocks_from};
-ghost use Rattle.f11_files.specs.Answers.{is_grave, is_light, is_refused, Breaks};
+ghost use Rattle.std.specs.List.{range_with_len};
+ghost use Rattle.f11_files.specs.Allocation.{free_list};
+ghost use Rattle.f11_files.specs.Answers.{is_grave, is_light, is_refused, Breaks, WritesFreeBlocks};
 ghost use Rattle.f11_files.specs.Drops.{with_more_free};
 ghost use Rattle.f11_files.specs.Extend.{AddsRun, ExtendingBy, ExtendsBy, ExtendsFile, FailsToExtend, IsLengthAfter, IsTailOf};
 ghost use Rattle.f11_files.specs.Extension.{AppendingRun, AppendsRun};
 ghost use Rattle.f11_files.specs.Growing.{GrowingBy};
-ghost use Rattle.f11_files.specs.Structure.{counts_of, bitmap_in, home_of, store_on, IsFor, StaysFor};
+ghost use Rattle.f11_files.specs.Structure.{counts_of, bitmap_in, home_of, store_on, IsFor, StaysFor, ConfinesTo, StandsAlike};
 ghost use Rattle.f11_files.specs.Tail.{HoldsLast, ownership_of};
 ghost use Rattle.f11_files.specs.Take.{NoneBelow};
 ghost use Rattle.f11_header.specs.Header.{holds_header};
@@ -72,6 +74,9 @@ impl Structure {
             (D.disk device.old) (D.disk device.new)) }
         ensures stays { StaysFor (is_refused is_grave result) self.old self.new
             (D.disk device.new) }
+        ensures confined { ConfinesTo self.old (range_with_len lbn count)
+            (D.disk device.old) (D.disk device.new) }
+        ensures places { OnOk result (StandsAlike self.old self.new) }
     {
         match self.zero_run(device, lbn, count) {
             Ok(()) => {}
@@ -117,6 +122,10 @@ impl Structure {
             (D.disk device.old) (D.disk device.new)) }
         ensures stays { StaysFor (is_refused is_grave result) self.old self.new
             (D.disk device.new) }
+        ensures confined { IsTrue (D.disk device.old).honest → ConfinesTo self.old
+            (free_list (volume_of (D.disk device.old).image (home_of self.old)))
+            (D.disk device.old) (D.disk device.new) }
+        ensures places { OnOk result (StandsAlike self.old self.new) }
     {
         let (lbn, count) = self.take_run(device, from, most)?;
         self.append_run(device, tail, lbn, count)?;
@@ -150,6 +159,9 @@ impl Structure {
             (D.disk device.old) (D.disk device.new)) }
         ensures stays { StaysFor (is_refused is_grave result) self.old self.new
             (D.disk device.new) }
+        ensures confined { IsTrue (D.disk device.old).honest → ConfinesTo self.old
+            (free_list (volume_of (D.disk device.old).image (home_of self.old)))
+            (D.disk device.old) (D.disk device.new) }
     {
         let mut from = 0;
         let mut left = n;
@@ -183,6 +195,9 @@ impl Structure {
             (D.disk device.new) }
         ensures counts { is_refused is_light result ≡ true → counts_of self.new ≡ counts_of
             self.old }
+        ensures confined { IsTrue (D.disk device.old).honest → ConfinesTo self.old
+            (free_list (volume_of (D.disk device.old).image (home_of self.old)))
+            (D.disk device.old) (D.disk device.new) }
     {
         let mut first = [0; BLOCK_SIZE];
         let mut last = [0; BLOCK_SIZE];
@@ -220,6 +235,7 @@ impl<D: Device> Files<D> {
             × ExtendsFile (home_in self.old) f n (disk_in self.old) (disk_in self.new)) }
         ensures refused { IfErr result (λ refusal. FailsToExtend (has_failed self.old)
             (home_in self.old) f n refusal (disk_in self.old) (disk_in self.new)) }
+        ensures confined { WritesFreeBlocks (home_in self.old) (disk_in self.old) (disk_in self.new) }
     {
         if self.failed {
             return Err(Refusal::VolumeFailed);

@@ -5,7 +5,7 @@ ghost use Rattle.f11_files.specs.Drops.{with_more_free};
 ghost use Rattle.f11_files.specs.Extension.{AppendingRun, AppendsRun, EntersHeader, IsExtension};
 ghost use Rattle.f11_files.specs.FileLaws.{room_in};
 ghost use Rattle.f11_files.specs.Growing.{Taking};
-ghost use Rattle.f11_files.specs.Structure.{home_of, store_on, IsFor, StaysFor};
+ghost use Rattle.f11_files.specs.Structure.{home_of, store_on, IsFor, StaysFor, StandsAlike, WritesOnlyParts};
 ghost use Rattle.f11_files.specs.Tail.{HoldsLast, MayBeGiven};
 ghost use Rattle.f11_header.specs.Header.{holds_header};
 ghost use Rattle.f11_index.specs.HeaderBlock.{segment_number};
@@ -70,6 +70,8 @@ impl Structure {
             3 refusal (D.disk device.old) (D.disk device.new)) }
         ensures stays { StaysFor (is_refused is_grave result) self.old self.new
             (D.disk device.new) }
+        ensures confined { WritesOnlyParts self.old (D.disk device.old) (D.disk device.new) }
+        ensures places { OnOk result (StandsAlike self.old self.new) }
     {
         let Some(number) = self.index.least_free() else {
             return Err(Refusal::Damaged);
@@ -123,6 +125,8 @@ impl Structure {
             (D.disk device.old) (D.disk device.new)) }
         ensures stays { StaysFor (is_refused is_grave result) self.old self.new
             (D.disk device.new) }
+        ensures confined { WritesOnlyParts self.old (D.disk device.old) (D.disk device.new) }
+        ensures places { OnOk result (StandsAlike self.old self.new) }
     {
         if in_hand::map(&tail.block).segment() == LAST_SEGMENT {
             return Err(Refusal::Damaged);

@@ -1,12 +1,14 @@
 //! The index file, which grows: it gets more slots, run by run, whose blocks are zeros.
 ghost use Rattle.std.specs.Prelude.{◌≡◌, ◌+◌, ◌-◌, ◌*◌, ◌/◌, ◌<◌, ◌≤◌, IfErr, IfOk, IsTrue, OnOk};
 ghost use Rattle.f11_bits.specs.Transfers.{blocks_from};
+ghost use Rattle.std.specs.List.{range_with_len};
+ghost use Rattle.f11_files.specs.Allocation.{free_list};
 ghost use Rattle.f11_files.specs.Answers.{is_grave, is_refused, Breaks};
 ghost use Rattle.f11_files.specs.Drops.{with_more_free};
 ghost use Rattle.f11_files.specs.FileLaws.{room_in};
 ghost use Rattle.f11_files.specs.GrowIndex.{AddsSlots, AppendingSlots, AppendsSlots, GrowingIndex, GrowingIndexBy, GrowsIndexBy};
 ghost use Rattle.f11_files.specs.IndexPieces.{MayGrowIndex};
-ghost use Rattle.f11_files.specs.Structure.{bitmap_in, home_of, store_on, IsFor, StaysFor};
+ghost use Rattle.f11_files.specs.Structure.{bitmap_in, home_of, store_on, IsFor, StaysFor, ConfinesTo, StandsWithin};
 ghost use Rattle.f11_files.specs.Tail.{HoldsLast, MayBeGiven, ownership_of};
 ghost use Rattle.f11_files.specs.Take.{NoneBelow};
 ghost use Rattle.f11_index.specs.Kept.{room};
@@ -53,6 +55,10 @@ impl Structure {
             (D.disk device.old) (D.disk device.new)) }
         ensures stays { StaysFor (is_refused is_grave result) self.old self.new
             (D.disk device.new) }
+        ensures confined { ConfinesTo self.old (range_with_len lbn count)
+            (D.disk device.old) (D.disk device.new) }
+        ensures places { OnOk result
+            (StandsWithin self.old (range_with_len lbn count) self.new) }
     {
         if in_hand::map(&tail.block).segment() == LAST_SEGMENT {
             return Err(Refusal::Damaged);
@@ -98,6 +104,10 @@ impl Structure {
             (D.disk device.old) (D.disk device.new)) }
         ensures stays { StaysFor (is_refused is_grave result) self.old self.new
             (D.disk device.new) }
+        ensures confined { ConfinesTo self.old (range_with_len lbn count)
+            (D.disk device.old) (D.disk device.new) }
+        ensures places { OnOk result
+            (StandsWithin self.old (range_with_len lbn count) self.new) }
     {
         match self.zero_run(device, lbn, count) {
             Ok(()) => {}
@@ -144,6 +154,11 @@ impl Structure {
             (D.disk device.old) (D.disk device.new)) }
         ensures stays { StaysFor (is_refused is_grave result) self.old self.new
             (D.disk device.new) }
+        ensures confined { IsTrue (D.disk device.old).honest → ConfinesTo self.old
+            (free_list (volume_of (D.disk device.old).image (home_of self.old)))
+            (D.disk device.old) (D.disk device.new) }
+        ensures places { OnOk result (IsTrue (D.disk device.old).honest → StandsWithin self.old
+            (free_list (volume_of (D.disk device.old).image (home_of self.old))) self.new) }
     {
         let (lbn, count) = self.take_run(device, from, most)?;
         self.append_slots(device, tail, lbn, count)?;
@@ -176,6 +191,9 @@ impl Structure {
             (D.disk device.old) (D.disk device.new)) }
         ensures stays { StaysFor (is_refused is_grave result) self.old self.new
             (D.disk device.new) }
+        ensures confined { IsTrue (D.disk device.old).honest → ConfinesTo self.old
+            (free_list (volume_of (D.disk device.old).image (home_of self.old)))
+            (D.disk device.old) (D.disk device.new) }
     {
         let mut from = 0;
         let mut left = n;

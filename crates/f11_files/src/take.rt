@@ -3,7 +3,7 @@ ghost use Rattle.std.specs.Prelude.{◌≡◌, ◌+◌, ◌<◌, ◌≤◌, IfEr
 ghost use Rattle.f11_bits.specs.Transfers.{blocks_from};
 ghost use Rattle.f11_files.specs.Answers.{is_grave, is_refused, Breaks};
 ghost use Rattle.f11_files.specs.Growing.{Taking};
-ghost use Rattle.f11_files.specs.Structure.{bitmap_in, home_of, store_on, IsFor, StaysFor};
+ghost use Rattle.f11_files.specs.Structure.{bitmap_in, home_of, store_on, IsFor, StaysFor, StandsAlike, WritesOnlyParts};
 ghost use Rattle.f11_files.specs.Take.{NoneBelow, TakesRun};
 
 use crate::structure::Structure;
@@ -39,6 +39,8 @@ impl Structure {
             (D.disk device.new)) }
         ensures stays { StaysFor (is_refused is_grave result) self.old self.new
             (D.disk device.new) }
+        ensures confined { WritesOnlyParts self.old (D.disk device.old) (D.disk device.new) }
+        ensures places { StandsAlike self.old self.new }
     {
         match self.storage.take(device, from, most) {
             Ok(Some(run)) => Ok(run),

@@ -4,6 +4,7 @@ use Rattle.f11_files.proofs.NewHeaderLemmas.{too-many, some-free, fails-enter}
 use Rattle.f11_files.proofs.AnswerLemmas.{handed}
 use Rattle.f11_files.proofs.ExtensionBlockLemmas.{segment-said}
 use Rattle.f11_files.proofs.FreeingLemmas.{stays-for}
+use Rattle.f11_files.proofs.PartsLemmas.{parts-then}
 use Rattle.f11_files.proofs.structure.Structure.add_header.Goals as goal
 
 pub returns-then-segment-eq-LAST_SEGMENT-clause-refused : goal.returns-then-segment-eq-LAST_SEGMENT-clause-refused
@@ -51,3 +52,9 @@ returns-clause-appended g c =
     appends-linked c.args.self.now c.args.tail.now c.args.lbn c.args.count (g.D.Device.disk c.args.device.now) c.requires.is_for c.requires.last c.requires.own c.requires.given c.requires.full c.requires.may
     _ c.in_ok-id.id c.enter_header.new.block _ c.in_ok-id.ensures.entered c.in_ok-id.ensures.stays _ c.in-Ok.ensures.links
     (omega (arith, is, c.if-segment-eq-LAST_SEGMENT.false, c.requires.last.few)) _ _ _ c.link_tail.ensures.file
+
+pub returns-in-Err-clause-confined : goal.returns-in-Err-clause-confined
+returns-in-Err-clause-confined g c = parts-then c.args.self.now c.enter_header.new.self c.in_ok-id.ensures.places c.in_ok-id.ensures.confined c.link_tail.ensures.confined
+
+pub returns-clause-confined : goal.returns-clause-confined
+returns-clause-confined g c = parts-then c.args.self.now c.enter_header.new.self c.in_ok-id.ensures.places c.in_ok-id.ensures.confined c.link_tail.ensures.confined

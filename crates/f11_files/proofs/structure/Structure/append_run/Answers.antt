@@ -1,8 +1,10 @@
-use Rattle.std.proofs.Common.{refl}
+use Rattle.std.proofs.Common.{[], refl}
 use Rattle.std.proofs.lemmas.Result.{IfErr-weaker, on_ok_weaker}
+use Rattle.std.specs.List.{range_with_len}
 use Rattle.f11_files.proofs.AppendRunLemmas.{sound-moment, fails-zeros, named-stays, now-own, now-may, appends-header, fails-header, fails-named, appends-named}
 use Rattle.f11_files.proofs.GrowingLemmas.{breaks-stays}
 use Rattle.f11_files.proofs.ZeroedLemmas.{mid-for, mid-last, mid-given, now-for, now-last, now-given, now-full}
+use Rattle.f11_files.proofs.PartsLemmas.{stands-same, stands-within, to-then}
 use Rattle.f11_files.proofs.structure.Structure.append_run.Goals as goal
 
 pub returns-in-Err-clause-refused : goal.returns-in-Err-clause-refused
@@ -67,3 +69,22 @@ returns-clause-refused g c =
 
 pub returns-clause-stays : goal.returns-clause-stays
 returns-clause-stays g c = c.add_header.ensures.stays
+
+pub returns-in-Err-name_run-clause-confined : goal.returns-in-Err-name_run-clause-confined
+returns-in-Err-name_run-clause-confined g c =
+    let s = c.args.self.now in
+    let run = range_with_len c.args.lbn c.args.count in
+    to-then s s run [] (stands-within s s run (stands-same s)) (λ l _. refl) c.zero_run.ensures.confined c.name_run.ensures.confined
+
+pub returns-then-named-clause-confined : goal.returns-then-named-clause-confined
+returns-then-named-clause-confined g c =
+    let s = c.args.self.now in
+    let run = range_with_len c.args.lbn c.args.count in
+    to-then s s run [] (stands-within s s run (stands-same s)) (λ l _. refl) c.zero_run.ensures.confined c.name_run.ensures.confined
+
+pub returns-clause-confined : goal.returns-clause-confined
+returns-clause-confined g c =
+    let s = c.args.self.now in
+    let run = range_with_len c.args.lbn c.args.count in
+    to-then s s run [] (stands-within s s run (stands-same s)) (λ l _. refl)
+    (to-then s s run [] (stands-within s s run (stands-same s)) (λ l _. refl) c.zero_run.ensures.confined c.name_run.ensures.confined) c.add_header.ensures.confined

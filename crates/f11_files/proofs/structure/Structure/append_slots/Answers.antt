@@ -3,6 +3,9 @@ use Rattle.std.proofs.lemmas.Result.{IfErr-weaker, on_ok_weaker}
 use Rattle.f11_files.proofs.AppendSlotsLemmas.{sound-moment, fails-zeros, mid-slots, then-for, then-last, then-index, then-given, then-within, then-reserved, then-may, then-stays, appends-header, fails-header, fails-named, appends-named}
 use Rattle.f11_files.proofs.GrowingLemmas.{breaks-stays}
 use Rattle.f11_files.proofs.ZeroedLemmas.{mid-for, mid-last, mid-given, now-full}
+use Rattle.std.proofs.Common.{[]}
+use Rattle.std.specs.List.{range_with_len}
+use Rattle.f11_files.proofs.PartsLemmas.{stands-same, stands-within, to-then}
 use Rattle.f11_files.proofs.structure.Structure.append_slots.Goals as goal
 
 pub returns-in-Err-clause-refused : goal.returns-in-Err-clause-refused
@@ -81,3 +84,27 @@ returns-clause-refused g c = IfErr-weaker c.add_index_header.result _ _ (λ r. f
 pub returns-clause-stays : goal.returns-clause-stays
 returns-clause-stays g c = then-stays c.args.self.now c.args.tail.now c.args.lbn c.args.count _ c.requires.is_for c.requires.last c.requires.index c.requires.within c.requires.few.0 c.requires.few.1 c.requires.spare c.requires.reserved c.requires.may
     _ c.in-Ok.ensures.zeroes _ _ (c.in-Ok-name_slots.ensures.full c.if-named.false).1 _ (c.in-Ok-name_slots.ensures.full c.if-named.false).0 c.add_index_header.ensures.stays
+
+pub returns-in-Err-name_slots-clause-confined : goal.returns-in-Err-name_slots-clause-confined
+returns-in-Err-name_slots-clause-confined g c =
+    let s = c.args.self.now in
+    let t = c.name_slots.new.self in
+    let run = range_with_len c.args.lbn c.args.count in
+    let first = to-then s s run [] (stands-within s s run (stands-same s)) (λ l _. refl) c.zero_run.ensures.confined c.name_slots.ensures.confined in
+    first
+
+pub returns-then-named-clause-confined : goal.returns-then-named-clause-confined
+returns-then-named-clause-confined g c =
+    let s = c.args.self.now in
+    let t = c.name_slots.new.self in
+    let run = range_with_len c.args.lbn c.args.count in
+    let first = to-then s s run [] (stands-within s s run (stands-same s)) (λ l _. refl) c.zero_run.ensures.confined c.name_slots.ensures.confined in
+    first
+
+pub returns-clause-confined : goal.returns-clause-confined
+returns-clause-confined g c =
+    let s = c.args.self.now in
+    let t = c.name_slots.new.self in
+    let run = range_with_len c.args.lbn c.args.count in
+    let first = to-then s s run [] (stands-within s s run (stands-same s)) (λ l _. refl) c.zero_run.ensures.confined c.name_slots.ensures.confined in
+    to-then s t run run c.in-Ok-name_slots.ensures.places (λ l out. out) first c.add_index_header.ensures.confined

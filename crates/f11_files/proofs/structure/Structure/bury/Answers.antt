@@ -1,9 +1,10 @@
-use Rattle.std.proofs.Common.{refl}
+use Rattle.std.proofs.Common.{false, refl}
 use Rattle.f11_index.proofs.InUseLemmas.{in_use-some, in_use-slot}
 use Rattle.f11_files.specs.Structure.{index_in}
 use Rattle.f11_files.proofs.BuryLemmas.{fails-killed, fails-bit, buries, buried-stays}
 use Rattle.f11_files.proofs.FreeingLemmas.{broken-stays}
 use Rattle.f11_files.proofs.FirstLemmas.{place-within}
+use Rattle.f11_files.proofs.PartsLemmas.{bit-alike, bit-went, header-failed, header-wrote, parts-then, stands-same}
 use Rattle.f11_files.proofs.structure.Structure.bury.Goals as goal
 
 pub lbn_of_header-requires-clause-some : goal.lbn_of_header-requires-clause-some
@@ -48,3 +49,21 @@ returns-in-Err-clear-clause-stays g c =
     broken-stays c.args.self.now _ _ _ _ refl c.requires.is_for
     (fails-bit c.args.self.now c.args.n _ c.args.block.now _ _ c.requires.is_for c.requires.holds c.requires.may c.kill.ensures.block c.kill.ensures.dead c.lbn_of_header.ensures _ c.in-Ok.ensures.writes.ok _
     c.in-Err-clear.ensures.failed)
+
+pub returns-in-Err-clause-confined : goal.returns-in-Err-clause-confined
+returns-in-Err-clause-confined g c = header-failed c.args.self.now c.args.n _ _ _ _ c.requires.holds.in_use c.lbn_of_header.ensures c.in-Err.ensures.writes.err
+
+pub returns-in-Ok-clear-clause-confined : goal.returns-in-Ok-clear-clause-confined
+returns-in-Ok-clear-clause-confined g c =
+    parts-then c.args.self.now c.args.self.now (stands-same c.args.self.now)
+    (header-wrote c.args.self.now c.args.n _ _ _ _ c.requires.holds.in_use c.lbn_of_header.ensures c.in-Ok.ensures.writes.ok)
+    (bit-went c.args.self.now false c.args.n (in_use-some (index_in c.args.self.now) c.args.n c.requires.holds.in_use) (in_use-slot (index_in c.args.self.now) c.args.n c.requires.holds.in_use) c.in-Ok-clear.ensures.done.went)
+
+pub returns-in-Ok-clear-clause-places : goal.returns-in-Ok-clear-clause-places
+returns-in-Ok-clear-clause-places g c = bit-alike c.args.self.now (record c.args.self.now { index = c.clear.new.self }) false c.args.n c.in-Ok-clear.ensures.done.bit refl
+
+pub returns-in-Err-clear-clause-confined : goal.returns-in-Err-clear-clause-confined
+returns-in-Err-clear-clause-confined g c =
+    parts-then c.args.self.now c.args.self.now (stands-same c.args.self.now)
+    (header-wrote c.args.self.now c.args.n _ _ _ _ c.requires.holds.in_use c.lbn_of_header.ensures c.in-Ok.ensures.writes.ok)
+    (bit-went c.args.self.now false c.args.n (in_use-some (index_in c.args.self.now) c.args.n c.requires.holds.in_use) (in_use-slot (index_in c.args.self.now) c.args.n c.requires.holds.in_use) c.in-Err-clear.ensures.failed)

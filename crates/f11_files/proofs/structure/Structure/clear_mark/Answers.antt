@@ -4,6 +4,7 @@ use Rattle.f11_files.specs.Clear.{ClearsMark}
 use Rattle.f11_files.specs.Structure.{index_in}
 use Rattle.f11_files.proofs.ClearLemmas.{clears-none, clears-mark, fails-clear}
 use Rattle.f11_files.proofs.FirstLemmas.{place-within}
+use Rattle.f11_files.proofs.PartsLemmas.{header-failed, header-wrote}
 use Rattle.f11_files.proofs.structure.Structure.clear_mark.Goals as goal
 
 pub returns-then-not-clear_contiguous-clause-clears : goal.returns-then-not-clear_contiguous-clause-clears
@@ -29,3 +30,9 @@ pub returns-in-Err-clause-failed : goal.returns-in-Err-clause-failed
 returns-in-Err-clause-failed g c =
     fails-clear c.args.self.now c.args.f c.args.first.now (g.D.Device.disk c.args.device.now) c.requires.is_for c.requires.holds c.requires.own _ (c.clear_contiguous.ensures.cleared c.if-not-clear_contiguous.false)
     _ _ c.lbn_of_header.ensures c.in-Err.ensures.writes.err
+
+pub returns-in-Ok-clause-confined : goal.returns-in-Ok-clause-confined
+returns-in-Ok-clause-confined g c = header-wrote c.args.self.now c.args.f.number _ _ _ _ c.requires.holds.header.in_use c.lbn_of_header.ensures c.in-Ok.ensures.writes.ok
+
+pub returns-in-Err-clause-confined : goal.returns-in-Err-clause-confined
+returns-in-Err-clause-confined g c = header-failed c.args.self.now c.args.f.number _ _ _ _ c.requires.holds.header.in_use c.lbn_of_header.ensures c.in-Err.ensures.writes.err

@@ -1,6 +1,7 @@
 use Rattle.std.proofs.lemmas.Result.{on_ok_weaker, IfErr-weaker}
 use Rattle.f11_files.proofs.AnswerLemmas.{handed}
 use Rattle.f11_files.proofs.GoneLemmas.{gone-first, behind-hangs, deletes-file, gone-behind}
+use Rattle.f11_files.proofs.PartsLemmas.{parts-looked, parts-then, stands-same}
 use Rattle.f11_files.proofs.structure.Structure.delete.Goals as goal
 
 pub returns-in_err-drop_header-clause-refused : goal.returns-in_err-drop_header-clause-refused
@@ -27,3 +28,9 @@ returns-clause-refused g c =
     (λ r. gone-behind c.args.self.now c.args.f _ _ _ c.requires.is_for c.requires.late c.in_ok-read_first.ensures.found (g.met.D.Device.is_image c.args.device.now) c.drop_header.new.self _
     c.in_ok-drop_header.ensures.dropped c.in_ok-drop_header.ensures.stays.home (g.met.D.Device.is_image c.drop_header.new.device) r (g.D.Device.disk c.drop_behind.new.device))
     c.drop_behind.ensures.refused
+
+pub returns-clause-confined : goal.returns-clause-confined
+returns-clause-confined g c =
+    parts-then c.args.self.now c.drop_header.new.self c.in_ok-drop_header.ensures.places
+    (parts-then c.args.self.now c.args.self.now (stands-same c.args.self.now) (parts-looked c.args.self.now c.in_ok-read_first.ensures.found.looked) c.drop_header.ensures.confined)
+    c.drop_behind.ensures.confined

@@ -1,9 +1,10 @@
 use Rattle.std.proofs.Common.{◌≡◌, ◌⊎◌, ◌<◌, ◌≤◌, ◌∙◌, ℕ, Err, inl, inr, refl, ap, arith}
-use Rattle.f11_chain.specs.Calls.{ReadsNext}
+use Rattle.f11_chain.specs.Calls.{FindsLast, ReadsNext}
 use Rattle.f11_files.specs.Structure.{index_in}
 use Rattle.f11_files.proofs.AnswerLemmas.{handed}
 use Rattle.f11_files.proofs.FreeingLemmas.{broken-stays, handed-stays}
 use Rattle.f11_files.proofs.DroppingLemmas.{dropping-none, dropped-all, dropped-stays, no-next, read-for, may-next, next-breaks, dropping-next}
+use Rattle.f11_files.proofs.PartsLemmas.{next-parts, parts-looked, parts-none, parts-stay, parts-then, stands-same, stands-then}
 use Rattle.f11_files.proofs.structure.Structure.drop_behind.Goals as goal
 
 -- there are no more segments than headers that a file may have
@@ -12,7 +13,7 @@ never counter segment passed (inl none) all = omega (arith, none, all)
 never counter segment passed (inr few) all = omega (arith, passed, few, all)
 
 pub loop-init : goal.loop-init
-loop-init g c = record { dropping = dropping-none c.args.self.now c.args.block.now _ c.requires.is_for c.requires.header c.requires.hangs; passed = omega arith; early = inl refl }
+loop-init g c = record { dropping = dropping-none c.args.self.now c.args.block.now _ c.requires.is_for c.requires.header c.requires.hangs; confined = parts-none c.args.self.now _; places = stands-same c.args.self.now; passed = omega arith; early = inl refl }
 
 pub next-requires-clause-header : goal.next-requires-clause-header
 next-requires-clause-header g c = c.loop.invariant.dropping.holds
@@ -61,6 +62,8 @@ loop-preserved g c =
     let reads : ReadsNext (index_in c.loop.self) c.in-Ok-Some.n c.loop.block c.next.new.block (g.D.Device.disk c.loop.device) (g.D.Device.disk c.next.new.device) = rw c.in-Ok-Some.field-0-is at c.in-Ok-Some.ensures.reads in
     record {
       dropping = dropping-next _ c.loop.self _ _ _ _ c.loop.invariant.dropping _ _ _ reads _ _ c.in_ok-drop_header.ensures.dropped (rw c.in_ok-drop_header.was at c.drop_header.ensures.stays) (g.met.D.Device.is_image c.drop_header.new.device);
+      confined = parts-then c.args.self.now c.loop.self c.loop.invariant.places c.loop.invariant.confined (parts-then c.loop.self c.loop.self (stands-same c.loop.self) (parts-looked c.loop.self reads.looked) c.drop_header.ensures.confined);
+      places = stands-then c.args.self.now c.loop.self c.drop_header.new.self c.loop.invariant.places c.in_ok-drop_header.ensures.places;
       passed = let before = c.loop.invariant.passed in omega (arith, reads.segment, before);
       early = inr (omega (arith, reads.segment, reads.not_last));
     }
@@ -70,3 +73,20 @@ returns-clause-refused g c = absurd (never c.loop.counter _ c.loop.invariant.pas
 
 pub returns-clause-stays : goal.returns-clause-stays
 returns-clause-stays g c = absurd (never c.loop.counter _ c.loop.invariant.passed c.loop.invariant.early (omega (arith, c.loop-test.false)))
+
+pub returns-in-Ok-None-clause-confined : goal.returns-in-Ok-None-clause-confined
+returns-in-Ok-None-clause-confined g c = parts-then c.args.self.now c.loop.self c.loop.invariant.places c.loop.invariant.confined (let last : FindsLast c.loop.block c.next.new.block (g.D.Device.disk c.loop.device) (g.D.Device.disk c.next.new.device) = rw c.in-Ok-None.field-0-is at c.in-Ok-None.ensures.last in parts-stay c.loop.self last.disk_stays)
+
+pub returns-in-Ok-None-clause-places : goal.returns-in-Ok-None-clause-places
+returns-in-Ok-None-clause-places g c = c.loop.invariant.places
+
+pub returns-in_err-drop_header-clause-confined : goal.returns-in_err-drop_header-clause-confined
+returns-in_err-drop_header-clause-confined g c =
+    let reads : ReadsNext (index_in c.loop.self) c.in-Ok-Some.n c.loop.block c.next.new.block (g.D.Device.disk c.loop.device) (g.D.Device.disk c.next.new.device) = rw c.in-Ok-Some.field-0-is at c.in-Ok-Some.ensures.reads in
+    parts-then c.args.self.now c.loop.self c.loop.invariant.places c.loop.invariant.confined (parts-then c.loop.self c.loop.self (stands-same c.loop.self) (parts-looked c.loop.self reads.looked) c.drop_header.ensures.confined)
+
+pub returns-in-Err-clause-confined : goal.returns-in-Err-clause-confined
+returns-in-Err-clause-confined g c =
+    let next = c.in-Err.ensures in
+    parts-then c.args.self.now c.loop.self c.loop.invariant.places c.loop.invariant.confined
+    (next-parts c.loop.self _ _ _ c.in-Err.fault (λ is. next.no_end (ap Err is)) (λ is. next.damaged (ap Err is)) (λ is. next.failed (ap Err is)))

@@ -1,5 +1,6 @@
 use Rattle.std.proofs.Common.{◌≡◌, ◌⊎◌, ◌<◌, ◌≤◌}
 use Rattle.f11_index.specs.HeaderBlock.{segment_number}
+use Rattle.f11_files.specs.Structure.{StandsAlike, WritesOnlyParts}
 use Rattle.f11_files.proofs.DroppingLemmas.{Dropping}
 use Rattle.f11_files.proofs.structure.Structure.drop_behind.Given as goal
 
@@ -7,6 +8,8 @@ use Rattle.f11_files.proofs.structure.Structure.drop_behind.Given as goal
 abbrev pub invariant-loop : goal.invariant-loop
 invariant-loop g l = record {
   dropping : Dropping l.fn.self l.self l.fn.block l.block (g.D.Device.disk l.fn.device) (g.D.Device.disk l.device);
+  confined : WritesOnlyParts l.fn.self (g.D.Device.disk l.fn.device) (g.D.Device.disk l.device);
+  places : StandsAlike l.fn.self l.self;
   passed : l.counter ≤ segment_number l.block;
   early : (l.counter ≡ 0) ⊎ (segment_number l.block < 256);
 }

@@ -1,9 +1,11 @@
-use Rattle.std.proofs.Common.{length, refl, ap, arith}
+use Rattle.std.proofs.Common.{◌<◌, true, length, refl, ap, arith}
 use Rattle.f11_dev.specs.Disk.{Disk}
+use Rattle.f11_dev.proofs.LookedLemmas.{looked_read}
 use Rattle.f11_index.proofs.InUseLemmas.{header-within}
 use Rattle.f11_files.specs.Structure.{index_in}
 use Rattle.f11_files.proofs.EnterLemmas.{none-free, fails-read, fails-first, fails-bit, enters-header, entered-stays}
 use Rattle.f11_files.proofs.GrowingLemmas.{taking-stays}
+use Rattle.f11_files.proofs.PartsLemmas.{bit-alike, bit-went, parts-looked, parts-then, slot-failed, slot-wrote, stands-same}
 use Rattle.f11_files.proofs.structure.Structure.enter_header.Goals as goal
 
 pub returns-in_default-clause-refused : goal.returns-in_default-clause-refused
@@ -62,3 +64,30 @@ returns-in-Err-set-clause-stays g c =
     (fails-bit c.args.self.now c.args.tail.now c.args.lbn c.args.count (g.D.Device.disk c.args.device.now) c.requires.is_for c.requires.last c.requires.given
     c.in-Some.number _ _ c.read.new.into c.next_sequence.result c.in-Some.ensures c.lbn_of_header-at.ensures c.in-Ok.ensures.reads.counts c.in-Ok.ensures.reads.gives c.next_sequence.ensures.next
     c.fill_extension.new.block c.fill_extension.ensures _ c.in-Ok-write.ensures.writes.ok _ c.in-Err-set.ensures.failed)
+
+pub returns-in-Err-write-clause-confined : goal.returns-in-Err-write-clause-confined
+returns-in-Err-write-clause-confined g c =
+    let s = c.args.self.now in
+    let least = c.in-Some.ensures in
+    let some : 0 < c.in-Some.number = omega (arith, least.low) in
+    let read = parts-looked s (looked_read _ _ c.in-Ok.ensures.reads.counts) in
+    parts-then s s (stands-same s) read (slot-failed s c.in-Some.number _ _ _ _ some least.high c.lbn_of_header-at.ensures c.in-Err-write.ensures.writes.err)
+
+pub returns-in-Ok-set-clause-confined : goal.returns-in-Ok-set-clause-confined
+returns-in-Ok-set-clause-confined g c =
+    let s = c.args.self.now in
+    let least = c.in-Some.ensures in
+    let some : 0 < c.in-Some.number = omega (arith, least.low) in
+    let read = parts-looked s (looked_read _ _ c.in-Ok.ensures.reads.counts) in
+    parts-then s s (stands-same s) (parts-then s s (stands-same s) read (slot-wrote s c.in-Some.number _ _ _ _ some least.high c.lbn_of_header-at.ensures c.in-Ok-write.ensures.writes.ok)) (bit-went s true c.in-Some.number some least.high c.in-Ok-set.ensures.done.went)
+
+pub returns-in-Err-set-clause-confined : goal.returns-in-Err-set-clause-confined
+returns-in-Err-set-clause-confined g c =
+    let s = c.args.self.now in
+    let least = c.in-Some.ensures in
+    let some : 0 < c.in-Some.number = omega (arith, least.low) in
+    let read = parts-looked s (looked_read _ _ c.in-Ok.ensures.reads.counts) in
+    parts-then s s (stands-same s) (parts-then s s (stands-same s) read (slot-wrote s c.in-Some.number _ _ _ _ some least.high c.lbn_of_header-at.ensures c.in-Ok-write.ensures.writes.ok)) (bit-went s true c.in-Some.number some least.high c.in-Err-set.ensures.failed)
+
+pub returns-in-Ok-set-clause-places : goal.returns-in-Ok-set-clause-places
+returns-in-Ok-set-clause-places g c = bit-alike c.args.self.now (record c.args.self.now { index = c.set.new.self }) true c.in-Some.number c.in-Ok-set.ensures.done.bit refl

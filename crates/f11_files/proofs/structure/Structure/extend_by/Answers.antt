@@ -3,42 +3,80 @@ use Rattle.f11_files.proofs.AnswerLemmas.{handed}
 use Rattle.f11_files.proofs.ExtendByLemmas.{extending-none, sound-moment, next-own, next-may, next-below, fails-run, extending-more, extending-done}
 use Rattle.f11_files.proofs.FreeingLemmas.{handed-stays, stays-for}
 use Rattle.f11_files.proofs.GrowingLemmas.{breaks-stays}
+use Rattle.std.proofs.Common.{◌≡◌, ℕ, false, IsTrue, ap}
+use Rattle.f11_home.specs.Home.{HomeFields}
+use Rattle.f11_store.specs.Changes.{is_in}
+use Rattle.f11_vfy.specs.Volume.{volume_of}
+use Rattle.f11_files.specs.Allocation.{free_list}
+use Rattle.f11_files.specs.Structure.{home_of}
+use Rattle.f11_files.proofs.PartsLemmas.{fewer-free, parts-none, stands-same, stands-then, stands-within, to-parts, to-then}
 use Rattle.f11_files.proofs.structure.Structure.extend_by.Goals as goal
 
 pub loop-left-init : goal.loop-left-init
-loop-left-init g c = extending-none c.args.self.now c.args.tail.now c.args.n _ c.requires.is_for c.requires.last c.requires.may
+loop-left-init g c = record {
+  extending = extending-none c.args.self.now c.args.tail.now c.args.n _ c.requires.is_for c.requires.last c.requires.may;
+  confined = λ _. to-parts c.args.self.now _ (parts-none c.args.self.now _);
+  places = stands-same c.args.self.now;
+}
 
 pub add_run-requires-clause-is_for : goal.add_run-requires-clause-is_for
-add_run-requires-clause-is_for g c = stays-for c.loop-left.invariant.stays
+add_run-requires-clause-is_for g c = stays-for c.loop-left.invariant.extending.stays
 
 pub add_run-requires-clause-last : goal.add_run-requires-clause-last
-add_run-requires-clause-last g c = c.loop-left.invariant.last
+add_run-requires-clause-last g c = c.loop-left.invariant.extending.last
 
 pub add_run-requires-clause-own : goal.add_run-requires-clause-own
-add_run-requires-clause-own g c = next-own c.args.self.now c.args.tail.now c.args.n _ c.requires.is_for c.requires.last c.requires.may _ _ _ _ _ c.loop-left.invariant c.requires.own
+add_run-requires-clause-own g c = next-own c.args.self.now c.args.tail.now c.args.n _ c.requires.is_for c.requires.last c.requires.may _ _ _ _ _ c.loop-left.invariant.extending c.requires.own
 
 pub add_run-requires-clause-may : goal.add_run-requires-clause-may
-add_run-requires-clause-may g c = next-may c.args.self.now c.args.tail.now c.args.n _ c.requires.is_for c.requires.last c.requires.may _ _ _ _ _ c.loop-left.invariant
+add_run-requires-clause-may g c = next-may c.args.self.now c.args.tail.now c.args.n _ c.requires.is_for c.requires.last c.requires.may _ _ _ _ _ c.loop-left.invariant.extending
 
 pub add_run-requires-clause-none_below : goal.add_run-requires-clause-none_below
-add_run-requires-clause-none_below g c = next-below c.args.self.now c.args.tail.now c.args.n _ c.requires.is_for c.requires.last c.requires.may _ _ _ _ _ c.loop-left.invariant
+add_run-requires-clause-none_below g c = next-below c.args.self.now c.args.tail.now c.args.n _ c.requires.is_for c.requires.last c.requires.may _ _ _ _ _ c.loop-left.invariant.extending
 
 pub returns-in_err-end-clause-refused : goal.returns-in_err-end-clause-refused
 returns-in_err-end-clause-refused g c =
-    handed _ c.from_residual.result _ c.from_residual.ensures.1 (fails-run c.args.self.now c.args.tail.now c.args.n _ c.requires.is_for c.requires.last c.requires.may _ _ _ _ _ c.loop-left.invariant _ _ c.in_err-end.ensures.refused)
+    handed _ c.from_residual.result _ c.from_residual.ensures.1 (fails-run c.args.self.now c.args.tail.now c.args.n _ c.requires.is_for c.requires.last c.requires.may _ _ _ _ _ c.loop-left.invariant.extending _ _ c.in_err-end.ensures.refused)
 
 pub returns-in_err-end-clause-stays : goal.returns-in_err-end-clause-stays
 returns-in_err-end-clause-stays g c =
-    let breaks = fails-run c.args.self.now c.args.tail.now c.args.n _ c.requires.is_for c.requires.last c.requires.may _ _ _ _ _ c.loop-left.invariant _ _ c.in_err-end.ensures.refused in
+    let breaks = fails-run c.args.self.now c.args.tail.now c.args.n _ c.requires.is_for c.requires.last c.requires.may _ _ _ _ _ c.loop-left.invariant.extending _ _ c.in_err-end.ensures.refused in
     handed-stays c.from_residual.result _ _ _ _ c.from_residual.ensures.1 breaks.grave
-    (breaks-stays (sound-moment c.args.self.now c.args.tail.now c.args.n _ c.requires.is_for c.requires.last c.requires.may) (c.in_err-end.ensures.stays.home ∙ c.loop-left.invariant.stays.home) c.requires.is_for breaks)
+    (breaks-stays (sound-moment c.args.self.now c.args.tail.now c.args.n _ c.requires.is_for c.requires.last c.requires.may) (c.in_err-end.ensures.stays.home ∙ c.loop-left.invariant.extending.stays.home) c.requires.is_for breaks)
 
 pub loop-left-preserved : goal.loop-left-preserved
-loop-left-preserved g c =
-    extending-more c.args.self.now c.args.tail.now c.args.n _ c.requires.is_for c.requires.last c.requires.may _ _ _ _ _ c.loop-left.invariant _ _ _ _ _ c.in_ok-end.ensures.added (rw c.in_ok-end.was at c.add_run.ensures.stays)
+loop-left-preserved g c = record {
+  extending = extending-more c.args.self.now c.args.tail.now c.args.n _ c.requires.is_for c.requires.last c.requires.may _ _ _ _ _ c.loop-left.invariant.extending _ _ _ _ _ c.in_ok-end.ensures.added (rw c.in_ok-end.was at c.add_run.ensures.stays);
+  confined = λ honest.
+      let s = c.args.self.now in
+      let t = c.loop-left.self in
+      let now = g.D.Device.disk c.loop-left.device in
+      let all = free_list (volume_of (g.D.Device.disk c.args.device.now).image (home_of s)) in
+      let left = free_list (volume_of now.image (home_of t)) in
+      let same : left ≡ free_list (volume_of now.image (home_of s)) = ap (λ (h : HomeFields). free_list (volume_of now.image h)) c.loop-left.invariant.extending.stays.home in
+      let fewer : (l : ℕ) → is_in all l ≡ false → is_in left l ≡ false = fewer-free all left c.loop-left.invariant.extending.done (same ∙ (c.loop-left.invariant.extending.gains honest).free) in
+      let is : IsTrue now.honest = c.loop-left.invariant.extending.grew.went.honest ∙ honest in
+      to-then s t all left (stands-within s t all c.loop-left.invariant.places) fewer (c.loop-left.invariant.confined honest) (c.add_run.ensures.confined is);
+  places = stands-then c.args.self.now c.loop-left.self c.add_run.new.self c.loop-left.invariant.places c.in_ok-end.ensures.places;
+}
 
 pub returns-clause-extended : goal.returns-clause-extended
-returns-clause-extended g c = extending-done c.args.self.now c.args.tail.now c.args.n _ c.requires.is_for c.requires.last c.requires.may _ _ _ _ _ c.loop-left.invariant (let none = c.loop-left-test.false in omega (arith, none))
+returns-clause-extended g c = extending-done c.args.self.now c.args.tail.now c.args.n _ c.requires.is_for c.requires.last c.requires.may _ _ _ _ _ c.loop-left.invariant.extending (let none = c.loop-left-test.false in omega (arith, none))
 
 pub returns-clause-stays : goal.returns-clause-stays
-returns-clause-stays g c = c.loop-left.invariant.stays
+returns-clause-stays g c = c.loop-left.invariant.extending.stays
+
+pub returns-in_err-end-clause-confined : goal.returns-in_err-end-clause-confined
+returns-in_err-end-clause-confined g c = λ honest.
+    let s = c.args.self.now in
+    let t = c.loop-left.self in
+    let now = g.D.Device.disk c.loop-left.device in
+    let all = free_list (volume_of (g.D.Device.disk c.args.device.now).image (home_of s)) in
+    let left = free_list (volume_of now.image (home_of t)) in
+    let same : left ≡ free_list (volume_of now.image (home_of s)) = ap (λ (h : HomeFields). free_list (volume_of now.image h)) c.loop-left.invariant.extending.stays.home in
+    let fewer : (l : ℕ) → is_in all l ≡ false → is_in left l ≡ false = fewer-free all left c.loop-left.invariant.extending.done (same ∙ (c.loop-left.invariant.extending.gains honest).free) in
+    let is : IsTrue now.honest = c.loop-left.invariant.extending.grew.went.honest ∙ honest in
+    to-then s t all left (stands-within s t all c.loop-left.invariant.places) fewer (c.loop-left.invariant.confined honest) (c.add_run.ensures.confined is)
+
+pub returns-clause-confined : goal.returns-clause-confined
+returns-clause-confined g c = c.loop-left.invariant.confined

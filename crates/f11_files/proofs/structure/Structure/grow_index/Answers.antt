@@ -7,6 +7,13 @@ use Rattle.f11_files.proofs.ClearedLemmas.{holds-last}
 use Rattle.f11_files.proofs.FreeingLemmas.{handed-stays, stays-then}
 use Rattle.f11_files.proofs.GrowIndexLemmas.{reserved-for, reserved-finds, as-grow, no-want, read-cost, wants-memory, fails-clearing, stays-clearing, may-grow, fails-growing, grows-file, slots-after}
 use Rattle.f11_files.proofs.WriteLemmas.{fails-unread}
+use Rattle.std.proofs.Common.{◌≡◌, ◌∙◌, ℕ, false, ap}
+use Rattle.f11_dev.specs.Image.{Image}
+use Rattle.f11_store.specs.Changes.{is_in}
+use Rattle.f11_vfy.specs.Volume.{volume_of}
+use Rattle.f11_files.specs.Allocation.{free_list}
+use Rattle.f11_files.specs.Structure.{home_of}
+use Rattle.f11_files.proofs.PartsLemmas.{fewer-free, parts-looked, parts-then, reserved-alike, stands-within, to-parts, to-then}
 use Rattle.f11_files.proofs.structure.Structure.grow_index.Goals as goal
 
 pub returns-in_err-end-clause-refused : goal.returns-in_err-end-clause-refused
@@ -63,3 +70,43 @@ returns-clause-grown g c = (
       _ _ (rw c.index_id.ensures at c.in-Ok-clear_mark.ensures.clears) _ (rw c.index_id-2.ensures at c.tail_of-tail.ensures.tail) _
       c.in_ok-grow_by.ensures.grown,
 )
+
+pub returns-in-Err-clear_mark-clause-confined : goal.returns-in-Err-clear_mark-clause-confined
+returns-in-Err-clear_mark-clause-confined g c = λ honest.
+    let s = c.args.self.now in
+    let t = record s { index = c.reserve.new.self } in
+    let looked = c.in_ok-end.ensures.room.room.ends.looked.looked in
+    let all = free_list (volume_of (g.D.Device.disk c.args.device.now).image (home_of s)) in
+    let alike = reserved-alike s c.reserve.new.self c.reserve.ensures.kept in
+    let one = parts-then s t alike (parts-looked s looked) c.clear_mark.ensures.confined in
+    to-parts s all one
+
+pub returns-in_err-grow_by-clause-confined : goal.returns-in_err-grow_by-clause-confined
+returns-in_err-grow_by-clause-confined g c = λ honest.
+    let s = c.args.self.now in
+    let t = record s { index = c.reserve.new.self } in
+    let looked = c.in_ok-end.ensures.room.room.ends.looked.looked in
+    let all = free_list (volume_of (g.D.Device.disk c.args.device.now).image (home_of s)) in
+    let alike = reserved-alike s c.reserve.new.self c.reserve.ensures.kept in
+    let one = parts-then s t alike (parts-looked s looked) c.clear_mark.ensures.confined in
+    let clears = c.in-Ok-clear_mark.ensures.clears in
+    let now = g.D.Device.disk c.clear_mark.new.device in
+    let is = clears.went.honest ∙ looked.honest ∙ honest in
+    let fewer : (l : ℕ) → is_in all l ≡ false → is_in (free_list (volume_of now.image (home_of s))) l ≡ false =
+    fewer-free all (free_list (volume_of now.image (home_of s))) 0 ((clears.gains (looked.honest ∙ honest)).free ∙ ap (λ (i : Image). free_list (volume_of i (home_of s))) looked.image) in
+    to-then s t all (free_list (volume_of now.image (home_of s))) (stands-within s t all alike) fewer (to-parts s all one) (c.grow_by.ensures.confined is)
+
+pub returns-clause-confined : goal.returns-clause-confined
+returns-clause-confined g c = λ honest.
+    let s = c.args.self.now in
+    let t = record s { index = c.reserve.new.self } in
+    let looked = c.in_ok-end.ensures.room.room.ends.looked.looked in
+    let all = free_list (volume_of (g.D.Device.disk c.args.device.now).image (home_of s)) in
+    let alike = reserved-alike s c.reserve.new.self c.reserve.ensures.kept in
+    let one = parts-then s t alike (parts-looked s looked) c.clear_mark.ensures.confined in
+    let clears = c.in-Ok-clear_mark.ensures.clears in
+    let now = g.D.Device.disk c.clear_mark.new.device in
+    let is = clears.went.honest ∙ looked.honest ∙ honest in
+    let fewer : (l : ℕ) → is_in all l ≡ false → is_in (free_list (volume_of now.image (home_of s))) l ≡ false =
+    fewer-free all (free_list (volume_of now.image (home_of s))) 0 ((clears.gains (looked.honest ∙ honest)).free ∙ ap (λ (i : Image). free_list (volume_of i (home_of s))) looked.image) in
+    to-then s t all (free_list (volume_of now.image (home_of s))) (stands-within s t all alike) fewer (to-parts s all one) (c.grow_by.ensures.confined is)

@@ -3,6 +3,7 @@ use Rattle.f11_index.proofs.InUseLemmas.{in_use-some, in_use-slot}
 use Rattle.f11_files.specs.Structure.{index_in}
 use Rattle.f11_files.proofs.NameRunLemmas.{names-run, fails-name}
 use Rattle.f11_files.proofs.FirstLemmas.{place-within}
+use Rattle.f11_files.proofs.PartsLemmas.{header-failed, header-wrote}
 use Rattle.f11_files.proofs.structure.Structure.name_run.Goals as goal
 
 pub lbn_of_header-requires-clause-some : goal.lbn_of_header-requires-clause-some
@@ -23,3 +24,9 @@ pub returns-in-Err-write-clause-failed : goal.returns-in-Err-write-clause-failed
 returns-in-Err-write-clause-failed g c =
     fails-name c.args.self.now c.args.tail.now c.append.new.block c.args.lbn c.args.count (g.D.Device.disk c.args.device.now) c.requires.is_for c.requires.last c.requires.given c.in-Ok.ensures.ok c.requires.own
     _ _ c.lbn_of_header.ensures c.in-Err-write.ensures.writes.err
+
+pub returns-in-Ok-write-clause-confined : goal.returns-in-Ok-write-clause-confined
+returns-in-Ok-write-clause-confined g c = header-wrote c.args.self.now c.args.tail.now.number _ _ _ _ c.requires.last.header.in_use c.lbn_of_header.ensures c.in-Ok-write.ensures.writes.ok
+
+pub returns-in-Err-write-clause-confined : goal.returns-in-Err-write-clause-confined
+returns-in-Err-write-clause-confined g c = header-failed c.args.self.now c.args.tail.now.number _ _ _ _ c.requires.last.header.in_use c.lbn_of_header.ensures c.in-Err-write.ensures.writes.err

@@ -3,6 +3,7 @@ use Rattle.f11_index.proofs.InUseLemmas.{in_use-some, in_use-slot}
 use Rattle.f11_files.specs.Structure.{index_in}
 use Rattle.f11_files.proofs.NameSlotsLemmas.{names-slots, names-stays, fails-slots}
 use Rattle.f11_files.proofs.FirstLemmas.{place-within}
+use Rattle.f11_files.proofs.PartsLemmas.{grows-within, header-failed, header-wrote}
 use Rattle.f11_files.proofs.structure.Structure.name_slots.Goals as goal
 
 pub lbn_of_header-requires-clause-some : goal.lbn_of_header-requires-clause-some
@@ -28,3 +29,12 @@ pub returns-clause-stays : goal.returns-clause-stays
 returns-clause-stays g c =
     names-stays c.args.self.now c.args.tail.now c.append.new.block c.args.lbn c.args.count (g.D.Device.disk c.args.device.now) c.requires.is_for c.requires.last c.requires.given c.in-Ok.ensures.ok
     c.requires.index c.requires.within c.requires.slots _ _ c.lbn_of_header.ensures c.grow.new.self c.grow.ensures.grown c.grow.ensures.room c.in-Ok-write.ensures.writes.ok
+
+pub returns-in-Err-write-clause-confined : goal.returns-in-Err-write-clause-confined
+returns-in-Err-write-clause-confined g c = header-failed c.args.self.now c.args.tail.now.number _ _ _ _ c.requires.last.header.in_use c.lbn_of_header.ensures c.in-Err-write.ensures.writes.err
+
+pub returns-clause-confined : goal.returns-clause-confined
+returns-clause-confined g c = header-wrote c.args.self.now c.args.tail.now.number _ _ _ _ c.requires.last.header.in_use c.lbn_of_header.ensures c.in-Ok-write.ensures.writes.ok
+
+pub returns-clause-places : goal.returns-clause-places
+returns-clause-places g c = grows-within c.args.self.now (record c.args.self.now { index = c.grow.new.self }) c.args.lbn c.args.count c.grow.ensures.grown refl

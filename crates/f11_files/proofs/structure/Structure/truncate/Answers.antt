@@ -7,6 +7,7 @@ use Rattle.f11_files.proofs.CutLemmas.{fails-written, written-for, spare-now, fa
 use Rattle.f11_files.proofs.FreeingLemmas.{stays-for, stays-then}
 use Rattle.f11_files.proofs.WriteLemmas.{failed-stays}
 use Rattle.f11_files.proofs.FirstLemmas.{place-within}
+use Rattle.f11_files.proofs.PartsLemmas.{header-failed, header-wrote, parts-looked, parts-then, stands-same}
 use Rattle.f11_files.proofs.structure.Structure.truncate.Goals as goal
 
 pub lbn_of_header-requires-clause-some : goal.lbn_of_header-requires-clause-some
@@ -73,3 +74,35 @@ returns-clause-cut g c = (
 
 pub returns-clause-stays : goal.returns-clause-stays
 returns-clause-stays g c = stays-then c.in_ok-give_from.ensures.stays.home (rw c.in_ok-drop_behind.was at c.drop_behind.ensures.stays)
+
+pub returns-in-Err-clause-confined : goal.returns-in-Err-clause-confined
+returns-in-Err-clause-confined g c =
+    let s = c.args.self.now in
+    let found = c.in_ok-n.ensures.found in
+    let cut = header-failed s c.in_ok-n.n _ _ _ _ found.header.in_use c.lbn_of_header.ensures c.in-Err.ensures.writes.err in
+    let one = parts-then s s (stands-same s) (parts-looked s found.looked) cut in
+    one
+
+pub returns-in_err-give_from-clause-confined : goal.returns-in_err-give_from-clause-confined
+returns-in_err-give_from-clause-confined g c =
+    let s = c.args.self.now in
+    let found = c.in_ok-n.ensures.found in
+    let cut = header-wrote s c.in_ok-n.n _ _ _ _ found.header.in_use c.lbn_of_header.ensures c.in-Ok.ensures.writes.ok in
+    let one = parts-then s s (stands-same s) (parts-looked s found.looked) cut in
+    parts-then s s (stands-same s) one c.give_from.ensures.confined
+
+pub returns-in_err-drop_behind-clause-confined : goal.returns-in_err-drop_behind-clause-confined
+returns-in_err-drop_behind-clause-confined g c =
+    let s = c.args.self.now in
+    let found = c.in_ok-n.ensures.found in
+    let cut = header-wrote s c.in_ok-n.n _ _ _ _ found.header.in_use c.lbn_of_header.ensures c.in-Ok.ensures.writes.ok in
+    let one = parts-then s s (stands-same s) (parts-looked s found.looked) cut in
+    parts-then s c.give_from.new.self c.in_ok-give_from.ensures.places (parts-then s s (stands-same s) one c.give_from.ensures.confined) c.drop_behind.ensures.confined
+
+pub returns-clause-confined : goal.returns-clause-confined
+returns-clause-confined g c =
+    let s = c.args.self.now in
+    let found = c.in_ok-n.ensures.found in
+    let cut = header-wrote s c.in_ok-n.n _ _ _ _ found.header.in_use c.lbn_of_header.ensures c.in-Ok.ensures.writes.ok in
+    let one = parts-then s s (stands-same s) (parts-looked s found.looked) cut in
+    parts-then s c.give_from.new.self c.in_ok-give_from.ensures.places (parts-then s s (stands-same s) one c.give_from.ensures.confined) c.drop_behind.ensures.confined

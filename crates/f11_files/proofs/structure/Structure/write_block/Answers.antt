@@ -1,4 +1,9 @@
 use Rattle.f11_files.proofs.BlockLemmas.{stores-block, stored-stays, fails-store, fails-stays}
+use Rattle.std.proofs.Common.{◌-◌}
+use Rattle.f11_chain.specs.FileHeaders.{file_blocks}
+use Rattle.f11_index.specs.Table.{table_of}
+use Rattle.f11_files.specs.Structure.{home_of}
+use Rattle.f11_files.proofs.PartsLemmas.{at-in, other-failed, other-wrote, parts-looked, stands-same, stands-within, to-parts, to-then}
 use Rattle.f11_files.proofs.structure.Structure.write_block.Goals as goal
 
 pub returns-in-Ok-clause-stored : goal.returns-in-Ok-clause-stored
@@ -12,3 +17,19 @@ returns-in-Err-clause-refused g c = fails-store c.args.self.now c.args.f c.args.
 
 pub returns-in-Err-clause-stays : goal.returns-in-Err-clause-stays
 returns-in-Err-clause-stays g c = fails-stays c.args.self.now c.args.f c.args.vbn _ _ _ _ c.requires.is_for c.requires.own c.in_ok-lbn.ensures.found _ c.in-Err.ensures.writes.err
+
+pub returns-in-Ok-clause-confined : goal.returns-in-Ok-clause-confined
+returns-in-Ok-clause-confined g c = λ honest.
+    let s = c.args.self.now in
+    let found = c.in_ok-lbn.ensures.found in
+    let blocks = file_blocks (table_of (g.D.Device.disk c.args.device.now).image (home_of s)) c.args.f.number in
+    to-then s s blocks blocks (stands-within s s blocks (stands-same s)) (λ l out. out) (to-parts s blocks (parts-looked s found.reads.looked))
+    (other-wrote s blocks c.in_ok-lbn.lbn _ _ _ (at-in blocks (c.args.vbn - 1) c.in_ok-lbn.lbn (found.block_is honest)) c.in-Ok.ensures.writes.ok)
+
+pub returns-in-Err-clause-confined : goal.returns-in-Err-clause-confined
+returns-in-Err-clause-confined g c = λ honest.
+    let s = c.args.self.now in
+    let found = c.in_ok-lbn.ensures.found in
+    let blocks = file_blocks (table_of (g.D.Device.disk c.args.device.now).image (home_of s)) c.args.f.number in
+    to-then s s blocks blocks (stands-within s s blocks (stands-same s)) (λ l out. out) (to-parts s blocks (parts-looked s found.reads.looked))
+    (other-failed s blocks c.in_ok-lbn.lbn _ _ _ (at-in blocks (c.args.vbn - 1) c.in_ok-lbn.lbn (found.block_is honest)) c.in-Err.ensures.writes.err)
