@@ -59,7 +59,7 @@ use Rattle.f11_files.proofs.FirstLemmas.{table-of}
 use Rattle.f11_files.proofs.FreeingLemmas.{frees-none, frees-blocks, freeing-more, writes-then, writes-within, breaks-then, breaks-within, sound-freed}
 use Rattle.f11_files.proofs.GoneLemmas.{breaks-fails}
 use Rattle.f11_files.proofs.InstanceLemmas.{file-stored}
-use Rattle.f11_files.proofs.LossLemmas.{CutsThere, held-same, loses-blocks}
+use Rattle.f11_files.proofs.LossLemmas.{in-behind, in-first, in-front, CutsThere, held-same, loses-blocks}
 use Rattle.f11_files.proofs.NamedLemmas.{file-stored as stored-file}
 use Rattle.f11_files.proofs.StoreLemmas.{file-at, seen-own}
 use Rattle.f11_files.proofs.TailLemmas.{hangs-from, hangs-are, hangs-blocks, hangs-pointers}
@@ -225,6 +225,10 @@ module _ (s : Structure) (f : FileId) (to n keep lbn : ℕ) (block cut : List �
     pub headers-are : headers_of t f.number ≡ (comes.0 ++ n ∷ []) ++ hs
     headers-are = Comes-split t f.number n (segment_number (t.header n)) comes.0 comes.1 (live-some live) byte
 
+    -- it is one of them
+    pub listed : is_in (headers_of t f.number) n ≡ true
+    listed = ap (λ (ns : List ℕ). is_in ns n) headers-are ∙ in-front (comes.0 ++ n ∷ []) hs n (in-behind comes.0 (n ∷ []) n (in-first n []))
+
     pub held-are : (file_in h f.number old.image).held ≡ (comes.0 ++ n ∷ []) ++ hs
     held-are = file-headers-are old.image t f.number whole ∙ headers-are
 
@@ -346,6 +350,13 @@ module _ (s : Structure) (f : FileId) (to n keep lbn : ℕ) (block cut : List �
           let sure = given-honest honest in
           subst (λ (k : HomeFields). HangsBehind (table_of given.image k) block (headers_behind (table_of given.image k) block)) (sym same)
           (subst (HangsBehind w block) (sym (behind-is sure)) (hangs-given sure))
+
+      -- those are of the file, too
+      pub behind-listed : IsTrue old.honest → (m : ℕ) → is_in (headers_behind (table_of given.image (home_of c)) block) m ≡ true → is_in (headers_of t f.number) m ≡ true
+      behind-listed honest m is =
+          let here : is_in (headers_behind w block) m ≡ true = subst (λ (k : HomeFields). is_in (headers_behind (table_of given.image k) block) m ≡ true) same is in
+          ap (λ (ns : List ℕ). is_in ns m) (headers-are honest)
+          ∙ in-behind ((comes honest).0 ++ n ∷ []) hs m (ap (λ (ns : List ℕ). is_in ns m) (sym (behind-is honest)) ∙ here)
 
       later : (honest : IsTrue old.honest) (m : ℕ) → IsLive (u honest) m → segment_number (t.header n) < segment_number ((u honest).header m) → m ≢ n
       later honest m is more alike_is = let there = ap (λ (k : ℕ). segment_number ((u honest).header k)) alike_is in let now_is = segment-now honest in omega (arith, there, more, now_is)

@@ -1,5 +1,5 @@
 -- Headers behind one in hand that go, one after another.
-use Rattle.std.proofs.Common.{◌≡◌, ◌≢◌, ◌+◌, ◌*◌, ◌<◌, ◌≤◌, ℕ, false, IsTrue, List, [], ◌∷◌, None, length, refl, sym, ap, subst, ◌∙◌, arith}
+use Rattle.std.proofs.Common.{◌≡◌, ◌≢◌, ◌+◌, ◌*◌, ◌<◌, ◌≤◌, ℕ, true, false, IsTrue, List, [], ◌∷◌, None, length, refl, sym, ap, subst, ◌∙◌, arith}
 use Rattle.std.proofs.lemmas.List.{length-append}
 use Rattle.std.proofs.lemmas.List.Sums.{sum_by-cons}
 use Rattle.f11_dev.specs.Disk.{Disk}
@@ -19,7 +19,7 @@ use Rattle.f11_chain.specs.FileHeaders.{blocks_by}
 use Rattle.f11_chain.specs.declared.fault.ChainFault.{ChainFault}
 use Rattle.f11_chain.specs.declared.fault.ChainFault.TheVariants as chain
 use Rattle.f11_chain.proofs.AlongLemmas.{HoldsHeader-live}
-use Rattle.f11_store.specs.Changes.{with_file, without_slots}
+use Rattle.f11_store.specs.Changes.{is_in, with_file, without_slots}
 use Rattle.f11_store.specs.Refusal.{refusal_number}
 use Rattle.f11_store.specs.Store.{Store}
 use Rattle.f11_store.specs.declared.refusals.Refusal.{Refusal}
@@ -41,7 +41,7 @@ use Rattle.f11_files.proofs.FirstLemmas.{table-of}
 use Rattle.f11_files.proofs.FreeingLemmas.{frees-none, frees-then, frees-blocks, freeing-more, writes-then, writes-within, writes-none, breaks-then, breaks-within, stays-for}
 use Rattle.f11_files.proofs.InstanceLemmas.{with_file-same}
 use Rattle.f11_files.proofs.KillLemmas.{KillsAlike, in_use-place, kills-same, kills-then, kills-first}
-use Rattle.f11_files.proofs.LossLemmas.{LosesAlike, loses-same, loses-then, loses-all, loses-first}
+use Rattle.f11_files.proofs.LossLemmas.{LosesAlike, in-behind, in-first, loses-same, loses-then, loses-all, loses-first}
 use Rattle.f11_files.proofs.NamedLemmas.{file-stored}
 use Rattle.f11_files.proofs.OpenLemmas.{looked-for}
 use Rattle.f11_files.proofs.StoreLemmas.{file-at}
@@ -58,6 +58,9 @@ pub record Dropping (s c : Structure) (from block : List ℕ) (old now : Disk) :
       IsTrue old.honest →
       spent + tail_cost (table_of now.image (home_of s)) (headers_behind (table_of now.image (home_of s)) block)
       ≤ tail_cost (table_of old.image (home_of s)) (headers_behind (table_of old.image (home_of s)) from)
+  pub listed :
+      IsTrue old.honest →
+      (m : ℕ) → is_in (headers_behind (table_of now.image (home_of s)) block) m ≡ true → is_in (headers_behind (table_of old.image (home_of s)) from) m ≡ true
   pub frees : IsTrue old.honest → FreesMore (store_on s old) (store_of now.image (home_of s))
   pub loses :
       IsTrue old.honest →
@@ -82,6 +85,7 @@ dropping-none s from old for holds hangs = record {
   spent = 0;
   writes = writes-none _ 0 old;
   few = λ _. omega arith;
+  listed = λ _ m is. is;
   frees = λ _. frees-none (store_on s old);
   loses = λ _. loses-same (headers_behind (table_of old.image (home_of s)) from) (volume_of old.image (home_of s));
   kills = λ _. kills-same (headers_behind (table_of old.image (home_of s)) from) (table_of old.image (home_of s));
@@ -210,6 +214,9 @@ module _ (s c : Structure) (from block : List ℕ) (old now : Disk) (d : Droppin
           let own : pointer_count u n ≡ pointers_in following = ap pointers_in (sym header-is) in
           omega (arith, few, counted, sum, own)
 
+    pub next-listed : IsTrue old.honest → is_in (headers_behind (table_of old.image h) from) n ≡ true
+    next-listed honest = d.listed honest n (ap (λ (ns : List ℕ). is_in ns n) (list honest) ∙ in-first n rest)
+
     pub may-next : IsTrue read.honest → MayDrop (table_of read.image (home_of c)) n
     may-next honest = read-home (λ i k. MayDrop (table_of i k) n) (may (sym d.writes.went.honest ∙ sym reads.looked.honest ∙ honest))
 
@@ -323,6 +330,11 @@ module _ (s c : Structure) (from block : List ℕ) (old now : Disk) (d : Droppin
           let pointers = hangs-pointers u v n (segment_number (u.header n)) (others honest) (later honest) (u.header n) rest (omega arith) (all-hang honest).2 in
           omega (arith, cost-was, same, pointers)
 
+      listed-now : IsTrue old.honest → (m : ℕ) → is_in (headers_behind v following) m ≡ true → is_in (headers_behind (table_of old.image h) from) m ≡ true
+      listed-now honest m is =
+          d.listed honest m
+          (ap (λ (ns : List ℕ). is_in ns m) (list honest) ∙ in-behind (n ∷ []) rest m (ap (λ (ns : List ℕ). is_in ns m) (sym (rest-is honest)) ∙ is))
+
       frees-now : IsTrue old.honest → FreesMore (store_on s old) (store_of new.image h)
       frees-now honest =
           frees-then (store_on s old) (store_of now.image h) (store_of new.image h) (d.frees honest)
@@ -341,6 +353,7 @@ module _ (s c : Structure) (from block : List ℕ) (old now : Disk) (d : Droppin
             so-far (subst (λ (k : HomeFields). Writes (Freeing k (with_file (store_of read.image k) n None) read) (drop_cost following) read new 0) d.home drops.writes)
             );
         few = cost-now;
+        listed = listed-now;
         frees = frees-now;
         loses = loses-now;
         kills = kills-now;

@@ -50,7 +50,7 @@ use Rattle.f11_files.proofs.DropLemmas.{drop-store}
 use Rattle.f11_files.proofs.FreeingLemmas.{frees-none, frees-then, frees-blocks, freeing-more, writes-then, writes-within, breaks-then, breaks-within}
 use Rattle.f11_files.proofs.KillLemmas.{IsKilled, in_use-place, killed-both}
 use Rattle.f11_files.proofs.LocateLemmas.{whole, held-are}
-use Rattle.f11_files.proofs.LossLemmas.{LosesAlike, loses-then, loses-all, lost-all, loses-first, in-at}
+use Rattle.f11_files.proofs.LossLemmas.{in-behind, in-first, LosesAlike, loses-then, loses-all, lost-all, loses-first, in-at}
 use Rattle.f11_files.proofs.NamedLemmas.{block-is, no-file-cause, held-named, seen-same, file-stored}
 use Rattle.f11_files.proofs.StoreLemmas.{file-at, seen-own}
 use Rattle.f11_files.proofs.TailLemmas.{hangs-from, hangs-are, hangs-blocks, hangs-pointers}
@@ -114,6 +114,10 @@ module _ (s : Structure) (f : FileId) (block : List ℕ) (disk : Disk) (for : Is
       let fuel : 255 ≡ 255 - segment_number (t.header f.number) = omega (arith, first-is) in
       headers_from-some 255 t f.number (live-some (whole s f block disk for holds honest).file.live)
       ∙ ap (λ (most : ℕ). f.number ∷ headers_from most t (link_number t f.number)) fuel
+
+  -- it is one of them
+  pub first-listed : is_in (headers_of t f.number) f.number ≡ true
+  first-listed = ap (λ (ns : List ℕ). is_in ns f.number) headers-are ∙ in-first f.number (headers_behind t (t.header f.number))
 
   -- the store has it
   pub file-is : 4 ≤ f.number → (store_on s disk).file f.number ≡ Some named
@@ -289,6 +293,13 @@ module _ (s : Structure) (f : FileId) (block : List ℕ) (old read : Disk) (for 
         let sure = now-honest honest in
         subst (λ (k : HomeFields). HangsBehind (table_of now.image k) block (headers_behind (table_of now.image k) block)) (sym same)
         (subst (λ (b : List ℕ). HangsBehind u b (headers_behind u block)) (sym (header-is sure)) (subst (HangsBehind u (was.header n)) (sym (behind-is sure)) (hangs sure)))
+
+    -- those are of the file, too
+    pub behind-listed : IsTrue old.honest → (m : ℕ) → is_in (headers_behind (table_of now.image (home_of c)) block) m ≡ true → is_in (headers_of was n) m ≡ true
+    behind-listed honest m is =
+        let here : is_in (headers_behind u block) m ≡ true = subst (λ (k : HomeFields). is_in (headers_behind (table_of now.image k) block) m ≡ true) same is in
+        ap (λ (ns : List ℕ). is_in ns m) (headers-are s f block old for finds.holds honest)
+        ∙ in-behind (n ∷ []) (hs honest) m (ap (λ (ns : List ℕ). is_in ns m) (sym (behind-is honest)) ∙ here)
 
     first-writes : Writes (Freeing h (with_file (store_on s old) n None) old) (1 + drop_cost block) old now 0
     first-writes =

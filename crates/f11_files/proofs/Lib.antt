@@ -51,6 +51,7 @@ pub mod PieceLagLemmas
 pub mod IndexPieceLemmas
 pub mod IndexPieceLagLemmas
 pub mod GrowingLemmas
+pub mod GrowthPartsLemmas
 pub mod TakeLemmas
 pub mod ExtensionBlockLemmas
 pub mod EnterLemmas

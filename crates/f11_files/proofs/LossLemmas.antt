@@ -42,6 +42,15 @@ use Rattle.f11_files.proofs.StoreLemmas.{file-at, first-is-tested}
 pub in-append : (xs ys : List ℕ) (n : ℕ) → is_in (xs ++ ys) n ≡ (is_in xs n || is_in ys n)
 in-append xs ys n = list_any-append (λ m. m == n) xs ys
 
+pub in-front : (xs ys : List ℕ) (n : ℕ) → is_in xs n ≡ true → is_in (xs ++ ys) n ≡ true
+in-front xs ys n is = in-append xs ys n ∙ ap (λ (b : Bool). b || is_in ys n) is
+
+pub in-behind : (xs ys : List ℕ) (n : ℕ) → is_in ys n ≡ true → is_in (xs ++ ys) n ≡ true
+in-behind xs ys n is = in-append xs ys n ∙ ap (λ (b : Bool). is_in xs n || b) is ∙ or-true (is_in xs n)
+
+pub in-first : (n : ℕ) (ns : List ℕ) → is_in (n ∷ ns) n ≡ true
+in-first n ns = ap (λ (b : Bool). b || is_in ns n) (eq-eqb n n refl)
+
 -- what stands among numbers in a row
 pub in-run : (a count k : ℕ) → a ≤ k → k < a + count → is_in (range_with_len a count) k ≡ true
 in-run a zero k low high = absurd (omega (arith, low, high))

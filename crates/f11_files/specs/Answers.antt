@@ -9,9 +9,11 @@ use Rattle.f11_dev.specs.Image.{Image}
 use Rattle.f11_dev.specs.Looked.{Looked}
 use Rattle.f11_dev.specs.Went.{Went}
 use Rattle.f11_home.specs.Home.{HomeFields}
+use Rattle.f11_index.specs.Headers.{headers_of}
 use Rattle.f11_index.specs.IndexFile.{index_of}
 use Rattle.f11_index.specs.Table.{table_of}
 use Rattle.f11_store.specs.Causes.{Cause, first_of}
+use Rattle.f11_store.specs.Changes.{is_in}
 use Rattle.f11_store.specs.Lags.{Work, LagsBy, work_if}
 use Rattle.f11_store.specs.Refusal.{refusal_number}
 use Rattle.f11_store.specs.Store.{Store}
@@ -22,7 +24,7 @@ use Rattle.f11_vfy.specs.Sound.{HasSoundVolume}
 use Rattle.f11_vfy.specs.Space.{storage_bitmap}
 use Rattle.f11_vfy.specs.Volume.{Volume, volume_of}
 use Rattle.f11_files.specs.Allocation.{free_list}
-use Rattle.f11_files.specs.Confines.{Confines}
+use Rattle.f11_files.specs.Confines.{Confines, no_header, only_header, new_header, either}
 use Rattle.f11_files.specs.StoreOf.{store_of}
 
 -- DeviceFault and Damaged fail the volume
@@ -111,22 +113,33 @@ pub record FailsToWrite (failed : Bool) (causes : List Cause) (most : ℕ) (work
   pub writes : Writes (Meanwhile (work_if (first_of causes) work) home old) most old new (faults_of refusal)
   pub unchanged : is_grave refusal ≡ false → Reads most old new 0
 
--- Where the disk is honest, no block was written but headers, the index bitmap, the storage bitmap, and these: each image that stood meanwhile
--- spares all others.
-abbrev pub WritesOnly : List ℕ → HomeFields → Disk → Disk → Type 0
-WritesOnly others home old new = IsTrue old.honest → Confines (index_of old.image home) (storage_bitmap old.image home) others old new
+-- Where the disk is honest, no block was written but these headers, the index bitmap, the storage bitmap, and these: each image that stood
+-- meanwhile spares all others.
+abbrev pub WritesOnly : (ℕ → Bool) → List ℕ → HomeFields → Disk → Disk → Type 0
+WritesOnly headers others home old new =
+    IsTrue old.honest → Confines headers (index_of old.image home) (storage_bitmap old.image home) others old new
 
--- none but those
-abbrev pub WritesNoOther : HomeFields → Disk → Disk → Type 0
-WritesNoOther home old new = WritesOnly [] home old new
+-- of headers, the first one of file f alone
+abbrev pub WritesFirstOf : FileId → HomeFields → Disk → Disk → Type 0
+WritesFirstOf f home old new = WritesOnly (only_header f.number) [] home old new
 
--- none but those, and blocks of file f
+-- of headers, those of file f
+abbrev pub WritesHeadersOf : FileId → HomeFields → Disk → Disk → Type 0
+WritesHeadersOf f home old new = WritesOnly (is_in (headers_of (table_of old.image home) f.number)) [] home old new
+
+-- of headers, those whose slots weren't in use
+abbrev pub WritesNewHeaders : HomeFields → Disk → Disk → Type 0
+WritesNewHeaders home old new = WritesOnly (new_header (index_of old.image home)) [] home old new
+
+-- no header, but blocks of file f
 abbrev pub WritesBlocksOf : FileId → HomeFields → Disk → Disk → Type 0
-WritesBlocksOf f home old new = WritesOnly (file_blocks (table_of old.image home) f.number) home old new
+WritesBlocksOf f home old new = WritesOnly no_header (file_blocks (table_of old.image home) f.number) home old new
 
--- none but those, and blocks that were free
-abbrev pub WritesFreeBlocks : HomeFields → Disk → Disk → Type 0
-WritesFreeBlocks home old new = WritesOnly (free_list (volume_of old.image home)) home old new
+-- of headers, those of file f and those whose slots weren't in use; and blocks that were free
+abbrev pub WritesMoreOf : ℕ → HomeFields → Disk → Disk → Type 0
+WritesMoreOf f home old new =
+    WritesOnly (either (is_in (headers_of (table_of old.image home) f)) (new_header (index_of old.image home))) (free_list (volume_of old.image home)) home
+    old new
 
 -- what a fault of a walk along a file's headers is to those who ask
 abbrev pub refusal_for : ChainFault → Refusal

@@ -1,12 +1,13 @@
 -- A new last header of a file, and what is done with a run of blocks: the last header names them, or links to a new one that does (Files-11
 -- On-Disk Structure Level 1, "File Header" and "Map Area"; profile: what a header that is added says).
-use Rattle.std.specs.Prelude.{◌≡◌, ℕ, ◌+◌, IsTrue, List, [], ◌∷◌, replicate}
+use Rattle.std.specs.Prelude.{◌≡◌, ℕ, ◌+◌, true, IsTrue, List, [], ◌∷◌, replicate}
 use Rattle.std.specs.List.{range_with_len}
 use Rattle.f11_chain.specs.Calls.{HoldsHeader}
 use Rattle.f11_dev.specs.Disk.{Disk}
 use Rattle.f11_dev.specs.Image.{Image}
 use Rattle.f11_header.specs.Fields.{file_sequence, owner, protection, characteristics, attributes}
 use Rattle.f11_header.specs.Header.{IsHeader}
+use Rattle.f11_index.specs.Calls.{SetsBit}
 use Rattle.f11_index.specs.HeaderBlock.{segment_number, link_of, blocks_named}
 use Rattle.f11_index.specs.Kept.{room}
 use Rattle.f11_index.specs.Table.{table_of}
@@ -15,6 +16,7 @@ use Rattle.f11_store.specs.Store.{least_free}
 use Rattle.f11_store.specs.declared.files.FileId.{FileId}
 use Rattle.f11_files.specs.Allocation.{AddsLoose, AddsZeroSlots, NamesMore}
 use Rattle.f11_files.specs.Answers.{Writes}
+use Rattle.f11_files.specs.Confines.{new_header}
 use Rattle.f11_files.specs.Drops.{with_more_free}
 use Rattle.f11_files.specs.FileLaws.{pointers_in, room_in}
 use Rattle.f11_files.specs.Growing.{Taking, GrowingInto, Grew, SameFree}
@@ -40,6 +42,12 @@ pub record IsExtension (tail : Tail) (id : FileId) (lbn count : ℕ) (block : Li
   pub names : blocks_named block ≡ range_with_len lbn count
   pub pointer : pointers_in block ≡ 1
   pub room : room_in block ≡ 101
+
+-- The slot of header n, which wasn't in use, is; else what is kept is as it was.
+pub record TakesSlot (s after : Structure) (n : ℕ) : Type 0 where
+  pub was_new : new_header (index_in s) n ≡ true
+  pub bit : SetsBit true n (index_in s) (index_in after)
+  pub bitmap : bitmap_in after ≡ bitmap_in s
 
 -- It was written into the least free slot, and then its bit: the file's last header may link to it.
 pub record EntersHeader (s after : Structure) (tail : Tail) (lbn count : ℕ) (id : FileId) (block : List ℕ) (old new : Disk) : Type 0 where

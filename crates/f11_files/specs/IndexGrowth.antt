@@ -5,6 +5,7 @@ use Rattle.std.specs.List.{range_with_len}
 use Rattle.f11_dev.specs.Disk.{Disk}
 use Rattle.f11_dev.specs.Image.{Image}
 use Rattle.f11_dev.specs.Went.{Went}
+use Rattle.f11_index.specs.Calls.{with_blocks_behind}
 use Rattle.f11_index.specs.HeaderBlock.{blocks_named}
 use Rattle.f11_index.specs.Headers.{IsLastOf}
 use Rattle.f11_index.specs.IndexFile.{is_in_use}
@@ -61,6 +62,11 @@ with_slots_linked s id n old = with_more_slots (with_change (store_on s old) 1 (
 -- where the disk is honest, in an image that stands meanwhile the last header links to it
 abbrev pub LinkingSlots : Structure → FileId → ℕ → Disk → Image → Type 0
 LinkingSlots s id count old image = IsTrue old.honest → HasStore (home_of s) (with_slots_linked s id count old) image
+
+-- The index file has so many blocks more as slots, from an LBN on; else what is kept is as it was.
+pub record HasSlotsBehind (s after : Structure) (lbn count : ℕ) : Type 0 where
+  pub index : index_in after ≡ with_blocks_behind (index_in s) lbn count
+  pub bitmap : bitmap_in after ≡ bitmap_in s
 
 -- The link was written: that header is the index file's last one then, and as it was.
 pub record LinksSlots (s after : Structure) (id : FileId) (count : ℕ) (old new : Disk) : Type 0 where

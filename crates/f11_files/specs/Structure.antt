@@ -63,18 +63,18 @@ pub record StaysFor (failed : Bool) (old new : Structure) (disk : Disk) : Type 0
   pub sound : IsTrue disk.honest → HasSoundVolume disk.image (home_of new)
   pub keeps : failed ≡ false → IsTrue disk.honest → Keeps new disk.image
 
--- Calls wrote no block but those of its parts, and these.
-abbrev pub ConfinesTo : Structure → List ℕ → Disk → Disk → Type 0
-ConfinesTo s others old new = Confines (index_in s) (bitmap_in s) others old new
+-- Calls wrote no block but these headers, the bitmaps, and these.
+abbrev pub ConfinesTo : Structure → (ℕ → Bool) → List ℕ → Disk → Disk → Type 0
+ConfinesTo s headers others old new = Confines headers (index_in s) (bitmap_in s) others old new
 
--- They wrote its parts alone.
-abbrev pub WritesOnlyParts : Structure → Disk → Disk → Type 0
-WritesOnlyParts s old new = ConfinesTo s [] old new
+-- They wrote these headers and the bitmaps alone.
+abbrev pub WritesParts : Structure → (ℕ → Bool) → Disk → Disk → Type 0
+WritesParts s headers old new = ConfinesTo s headers [] old new
 
--- A block that is none of its parts, nor of these, is none afterwards.
-abbrev pub StandsWithin : Structure → List ℕ → Structure → Type 0
-StandsWithin s others after =
-    (lbn : ℕ) → IsNoPart (index_in s) (bitmap_in s) lbn → is_in others lbn ≡ false → IsNoPart (index_in after) (bitmap_in after) lbn
+-- What is neither a block of those nor one of these is none of what is written afterwards.
+abbrev pub StandsWithin : Structure → (ℕ → Bool) → List ℕ → Structure → (ℕ → Bool) → Type 0
+StandsWithin s headers others after later =
+    (lbn : ℕ) → IsNoPart headers (index_in s) (bitmap_in s) lbn → is_in others lbn ≡ false → IsNoPart later (index_in after) (bitmap_in after) lbn
 
 -- Its parts are where they were.
 abbrev pub StandsAlike : Structure → Structure → Type 0

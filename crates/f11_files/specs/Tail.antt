@@ -1,5 +1,5 @@
 -- A file's last header in hand, and the blocks that it is to name (Files-11 On-Disk Structure Level 1, "File Header" and "Map Area").
-use Rattle.std.specs.Prelude.{◌≡◌, ℕ, ◌^◌, ◌<◌, ◌≤◌, false, IsTrue, List, if◌then◌else◌}
+use Rattle.std.specs.Prelude.{◌≡◌, ℕ, ◌^◌, ◌<◌, ◌≤◌, Bool, false, IsTrue, List, if◌then◌else◌}
 use Rattle.std.specs.List.{range_with_len}
 use Rattle.f11_dev.specs.Disk.{Disk}
 use Rattle.f11_dev.specs.Image.{Image}
@@ -24,7 +24,8 @@ use Rattle.f11_files.specs.Allocation.{NamesMore}
 use Rattle.f11_files.specs.FileLaws.{HasPointersMore, room_in, with_more_blocks}
 use Rattle.f11_files.specs.Growing.{SameFree}
 use Rattle.f11_files.specs.StoreOf.{store_of}
-use Rattle.f11_files.specs.Structure.{index_in, home_of, store_on, IsFor}
+use Rattle.f11_files.specs.Confines.{only_header, new_header, either}
+use Rattle.f11_files.specs.Structure.{index_in, home_of, store_on, ConfinesTo, IsFor, StandsWithin}
 use Rattle.f11_files.specs.Zeros.{HoldsZeros}
 use Rattle.f11_files.specs.declared.structure.Structure.{Structure}
 use Rattle.f11_files.specs.declared.tail.Tail.{Tail}
@@ -35,6 +36,18 @@ whose tail = (tail.file, tail.owner, tail.protection)
 
 abbrev pub ownership_of : Tail → Uic × ℕ
 ownership_of tail = (tail.owner, tail.protection)
+
+-- the headers that are written where it gets blocks: its last one, and new ones
+abbrev pub growth_headers : Structure → Tail → ℕ → Bool
+growth_headers s tail = either (only_header tail.number) (new_header (index_in s))
+
+-- No block was written but those headers, the bitmaps, and these.
+abbrev pub WritesGrowth : Structure → Tail → List ℕ → Disk → Disk → Type 0
+WritesGrowth s tail others old new = ConfinesTo s (growth_headers s tail) others old new
+
+-- What is neither written so nor one of these isn't written so afterwards.
+abbrev pub GrowsWithin : Structure → Tail → List ℕ → Structure → Tail → Type 0
+GrowsWithin s tail others after later = StandsWithin s (growth_headers s tail) others after (growth_headers after later)
 
 -- The block is a valid header in use, which links to none; it is the last of the file where the disk is honest.
 pub record HoldsLast (s : Structure) (tail : Tail) (disk : Disk) : Type 0 where

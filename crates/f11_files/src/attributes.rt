@@ -1,11 +1,12 @@
 //! What a file's first header says of it.
 ghost use Rattle.std.specs.Prelude.{◌≡◌, ◌≤◌, false, IfOk, IfErr, OnOk};
-ghost use Rattle.f11_files.specs.Answers.{FailsToRead, is_grave, is_refused, WritesNoOther};
+ghost use Rattle.f11_files.specs.Answers.{FailsToRead, is_grave, is_refused, WritesFirstOf};
 ghost use Rattle.f11_files.specs.Calls.{ReadsAttr};
+ghost use Rattle.f11_files.specs.Confines.{only_header};
 ghost use Rattle.f11_files.specs.Fields.{Alters, FailsToAlter};
 ghost use Rattle.f11_files.specs.First.{IsFirstOf};
 ghost use Rattle.f11_files.specs.Operations.{attr_in, file_causes};
-ghost use Rattle.f11_files.specs.Structure.{home_of, store_on, IsFor, StaysFor, WritesOnlyParts};
+ghost use Rattle.f11_files.specs.Structure.{home_of, store_on, IsFor, StaysFor, WritesParts};
 ghost use Rattle.f11_store.specs.Changes.{with_replacement, with_delete_mark};
 
 use crate::answer::is_grave;
@@ -72,7 +73,8 @@ impl Structure {
             (home_of self.now) f refusal (D.disk device.old) (D.disk device.new)) }
         ensures stays { StaysFor (is_refused is_grave result) self.now self.now
             (D.disk device.new) }
-        ensures confined { WritesOnlyParts self.now (D.disk device.old) (D.disk device.new) }
+        ensures confined { WritesParts self.now (only_header f.number) (D.disk device.old)
+            (D.disk device.new) }
     {
         let mut block = [0; BLOCK_SIZE];
         self.read_first(device, f, &mut block)?;
@@ -97,7 +99,8 @@ impl Structure {
             (home_of self.now) f refusal (D.disk device.old) (D.disk device.new)) }
         ensures stays { StaysFor (is_refused is_grave result) self.now self.now
             (D.disk device.new) }
-        ensures confined { WritesOnlyParts self.now (D.disk device.old) (D.disk device.new) }
+        ensures confined { WritesParts self.now (only_header f.number) (D.disk device.old)
+            (D.disk device.new) }
     {
         let mut block = [0; BLOCK_SIZE];
         self.read_first(device, f, &mut block)?;
@@ -148,7 +151,7 @@ impl<D: Device> Files<D> {
         ensures refused { IfErr result (λ refusal. FailsToAlter (has_failed self.old)
             (with_replacement change.now) (home_in self.old) f refusal
             (disk_in self.old) (disk_in self.new)) }
-        ensures confined { WritesNoOther (home_in self.old) (disk_in self.old) (disk_in self.new) }
+        ensures confined { WritesFirstOf f (home_in self.old) (disk_in self.old) (disk_in self.new) }
     {
         if self.failed {
             return Err(Refusal::VolumeFailed);
@@ -171,7 +174,7 @@ impl<D: Device> Files<D> {
             (disk_in self.old) (disk_in self.new)) }
         ensures refused { IfErr result (λ refusal. FailsToAlter (has_failed self.old)
             with_delete_mark (home_in self.old) f refusal (disk_in self.old) (disk_in self.new)) }
-        ensures confined { WritesNoOther (home_in self.old) (disk_in self.old) (disk_in self.new) }
+        ensures confined { WritesFirstOf f (home_in self.old) (disk_in self.old) (disk_in self.new) }
     {
         if self.failed {
             return Err(Refusal::VolumeFailed);

@@ -2,6 +2,7 @@
 ghost use Rattle.std.specs.Prelude.{◌≡◌, ◌+◌, ◌<◌, ◌≤◌, false, IfErr, OnOk, OnErr, IsTrue};
 ghost use Rattle.f11_files.specs.Answers.{FailsToRead, is_grave, is_refused, WritesBlocksOf};
 ghost use Rattle.f11_files.specs.Blocks.{ReadsBlock, StoresBlock, FailsToStore};
+ghost use Rattle.f11_files.specs.Confines.{no_header};
 ghost use Rattle.f11_files.specs.Operations.{length_causes};
 ghost use Rattle.f11_files.specs.Structure.{home_of, store_on, IsFor, StaysFor, ConfinesTo};
 ghost use Rattle.f11_chain.specs.FileHeaders.{file_blocks};
@@ -68,7 +69,7 @@ impl Structure {
             block.now refusal (D.disk device.old) (D.disk device.new)) }
         ensures stays { StaysFor (is_refused is_grave result) self.now self.now
             (D.disk device.new) }
-        ensures confined { IsTrue (D.disk device.old).honest → ConfinesTo self.now
+        ensures confined { IsTrue (D.disk device.old).honest → ConfinesTo self.now no_header
             (file_blocks (table_of (D.disk device.old).image (home_of self.now)) f.number)
             (D.disk device.old) (D.disk device.new) }
     {

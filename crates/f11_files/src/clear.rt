@@ -2,8 +2,9 @@
 ghost use Rattle.std.specs.Prelude.{◌≡◌, ◌⊎◌, ◌≤◌, OnOk, OnErr};
 ghost use Rattle.f11_dev.specs.Went.{Went};
 ghost use Rattle.f11_files.specs.Clear.{Clearing, ClearsMark};
+ghost use Rattle.f11_files.specs.Confines.{only_header};
 ghost use Rattle.f11_files.specs.First.{HoldsFile};
-ghost use Rattle.f11_files.specs.Structure.{index_in, IsFor, WritesOnlyParts};
+ghost use Rattle.f11_files.specs.Structure.{index_in, IsFor, WritesParts};
 
 use crate::fields::clear_contiguous;
 use crate::structure::Structure;
@@ -30,7 +31,8 @@ impl Structure {
             (ClearsMark self.now f first.old first.new (D.disk device.old) (D.disk device.new)) }
         ensures failed { OnErr result (Went (Clearing self.now f (D.disk device.old))
             (D.disk device.old) (D.disk device.new) 1 1) }
-        ensures confined { WritesOnlyParts self.now (D.disk device.old) (D.disk device.new) }
+        ensures confined { WritesParts self.now (only_header f.number) (D.disk device.old)
+            (D.disk device.new) }
     {
         if !clear_contiguous(first, f) {
             return Ok(());

@@ -1,9 +1,10 @@
 //! A new file.
 ghost use Rattle.std.specs.Prelude.{◌≡◌, ◌<◌, false, IfErr, IfOk, true};
-ghost use Rattle.f11_files.specs.Answers.{is_grave, is_light, is_refused, WritesNoOther};
+ghost use Rattle.f11_files.specs.Answers.{is_grave, is_light, is_refused, WritesNewHeaders};
+ghost use Rattle.f11_files.specs.Confines.{new_header};
 ghost use Rattle.f11_files.specs.Create.{Creates, FailsToCreate};
 ghost use Rattle.f11_files.specs.NewFileLaws.{IsNewFirst};
-ghost use Rattle.f11_files.specs.Structure.{counts_of, home_of, IsFor, StaysFor, WritesOnlyParts};
+ghost use Rattle.f11_files.specs.Structure.{counts_of, home_of, index_in, IsFor, StaysFor, WritesParts};
 ghost use Rattle.f11_header.specs.Fields.{file_sequence};
 ghost use Rattle.f11_header.specs.Writing.{blank_header};
 ghost use Rattle.f11_store.specs.Changes.{next_sequence};
@@ -69,7 +70,8 @@ impl Structure {
             (D.disk device.new) }
         ensures counts { is_refused is_light result ≡ true → counts_of self.new ≡ counts_of
             self.old }
-        ensures confined { WritesOnlyParts self.old (D.disk device.old) (D.disk device.new) }
+        ensures confined { WritesParts self.old (new_header (index_in self.old)) (D.disk device.old)
+            (D.disk device.new) }
     {
         let Some(number) = self.index.least_free() else {
             return Err(Refusal::NoHeader);
@@ -121,7 +123,7 @@ impl<D: Device> Files<D> {
         ensures refused { IfErr result (λ refusal. FailsToCreate (has_failed self.old)
             (home_in self.old) owner protection ident.now attr.now refusal
             (disk_in self.old) (disk_in self.new)) }
-        ensures confined { WritesNoOther (home_in self.old) (disk_in self.old) (disk_in self.new) }
+        ensures confined { WritesNewHeaders (home_in self.old) (disk_in self.old) (disk_in self.new) }
     {
         if self.failed {
             return Err(Refusal::VolumeFailed);

@@ -1,8 +1,11 @@
 //! A file that is deleted.
-ghost use Rattle.std.specs.Prelude.{◌≡◌, ◌≤◌, false, IfErr, OnOk, true};
-ghost use Rattle.f11_files.specs.Answers.{is_grave, is_light, is_refused, WritesNoOther};
+ghost use Rattle.std.specs.Prelude.{◌≡◌, ◌≤◌, false, IfErr, IsTrue, OnOk, true};
+ghost use Rattle.f11_files.specs.Answers.{is_grave, is_light, is_refused, WritesHeadersOf};
 ghost use Rattle.f11_files.specs.Deletes.{Deletes, FailsToDelete};
-ghost use Rattle.f11_files.specs.Structure.{counts_of, home_of, IsFor, StaysFor, WritesOnlyParts};
+ghost use Rattle.f11_files.specs.Structure.{counts_of, home_of, IsFor, StaysFor, WritesParts};
+ghost use Rattle.f11_index.specs.Headers.{headers_of};
+ghost use Rattle.f11_index.specs.Table.{table_of};
+ghost use Rattle.f11_store.specs.Changes.{is_in};
 
 use crate::answer::is_grave;
 use crate::files::Files;
@@ -28,7 +31,9 @@ impl Structure {
             (D.disk device.new) }
         ensures counts { is_refused is_light result ≡ true → counts_of self.new ≡ counts_of
             self.old }
-        ensures confined { WritesOnlyParts self.old (D.disk device.old) (D.disk device.new) }
+        ensures confined { IsTrue (D.disk device.old).honest → WritesParts self.old
+            (is_in (headers_of (table_of (D.disk device.old).image (home_of self.old)) f.number))
+            (D.disk device.old) (D.disk device.new) }
     {
         let mut block = [0; BLOCK_SIZE];
         self.read_first(device, f, &mut block)?;
@@ -55,7 +60,8 @@ impl<D: Device> Files<D> {
             (Deletes (home_in self.old) f (disk_in self.old) (disk_in self.new)) }
         ensures refused { IfErr result (λ refusal. FailsToDelete (has_failed self.old)
             (home_in self.old) f refusal (disk_in self.old) (disk_in self.new)) }
-        ensures confined { WritesNoOther (home_in self.old) (disk_in self.old) (disk_in self.new) }
+        ensures confined { WritesHeadersOf f (home_in self.old) (disk_in self.old)
+            (disk_in self.new) }
     {
         if self.failed {
             return Err(Refusal::VolumeFailed);

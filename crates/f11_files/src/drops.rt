@@ -2,13 +2,14 @@
 ghost use Rattle.std.specs.Prelude.{◌≡◌, ◌<◌, ◌≤◌, ◌*◌, ◌^◌, IfErr, IsTrue, None, OnOk, drop, length};
 ghost use Rattle.f11_chain.specs.Calls.{HoldsHeader};
 ghost use Rattle.f11_files.specs.Answers.{is_grave, is_refused};
+ghost use Rattle.f11_files.specs.Confines.{no_header, only_header};
 ghost use Rattle.f11_files.specs.Drops.{AreAllSpare, BreaksOff, Buries, DropsBehind, DropsHeader, GivesBlocks, GivesRun, HangsBehind, MayDrop, drop_cost, headers_behind, tail_cost};
 ghost use Rattle.f11_files.specs.FileLaws.{pointers_in};
-ghost use Rattle.f11_files.specs.Structure.{home_of, index_in, store_on, IsFor, StandsAlike, StaysFor, WritesOnlyParts};
+ghost use Rattle.f11_files.specs.Structure.{home_of, index_in, store_on, IsFor, StandsAlike, StaysFor, WritesParts};
 ghost use Rattle.f11_header.specs.Header.{holds_header};
 ghost use Rattle.f11_index.specs.HeaderBlock.{blocks_named};
 ghost use Rattle.f11_index.specs.Table.{table_of};
-ghost use Rattle.f11_store.specs.Changes.{with_file};
+ghost use Rattle.f11_store.specs.Changes.{is_in, with_file};
 ghost use Rattle.f11_vfy.specs.Volume.{volume_of};
 ghost use Rattle.f11_writes.specs.NameLaws.{AreSpare};
 
@@ -43,7 +44,7 @@ impl Structure {
             (D.disk device.new)) }
         ensures stays { StaysFor (is_refused is_grave result) self.old self.new
             (D.disk device.new) }
-        ensures confined { WritesOnlyParts self.old (D.disk device.old) (D.disk device.new) }
+        ensures confined { WritesParts self.old no_header (D.disk device.old) (D.disk device.new) }
         ensures places { OnOk result (StandsAlike self.old self.new) }
     {
         if count == 0 {
@@ -82,7 +83,7 @@ impl Structure {
             (D.disk device.old) (D.disk device.new)) }
         ensures stays { StaysFor (is_refused is_grave result) self.old self.new
             (D.disk device.new) }
-        ensures confined { WritesOnlyParts self.old (D.disk device.old) (D.disk device.new) }
+        ensures confined { WritesParts self.old no_header (D.disk device.old) (D.disk device.new) }
         ensures places { OnOk result (StandsAlike self.old self.new) }
     {
         let map = in_hand::map(block);
@@ -113,7 +114,8 @@ impl Structure {
             (D.disk device.old) (D.disk device.new)) }
         ensures stays { StaysFor (is_refused is_grave result) self.old self.new
             (D.disk device.new) }
-        ensures confined { WritesOnlyParts self.old (D.disk device.old) (D.disk device.new) }
+        ensures confined { WritesParts self.old (only_header n) (D.disk device.old)
+            (D.disk device.new) }
         ensures places { OnOk result (StandsAlike self.old self.new) }
     {
         let mut dead = *block;
@@ -150,7 +152,8 @@ impl Structure {
             (D.disk device.old) (D.disk device.new)) }
         ensures stays { StaysFor (is_refused is_grave result) self.old self.new
             (D.disk device.new) }
-        ensures confined { WritesOnlyParts self.old (D.disk device.old) (D.disk device.new) }
+        ensures confined { WritesParts self.old (only_header n) (D.disk device.old)
+            (D.disk device.new) }
         ensures places { OnOk result (StandsAlike self.old self.new) }
     {
         self.bury(device, n, block)?;
@@ -181,7 +184,9 @@ impl Structure {
             refusal (D.disk device.old) (D.disk device.new)) }
         ensures stays { StaysFor (is_refused is_grave result) self.old self.new
             (D.disk device.new) }
-        ensures confined { WritesOnlyParts self.old (D.disk device.old) (D.disk device.new) }
+        ensures confined { let t = table_of (D.disk device.old).image (home_of self.old) in
+            IsTrue (D.disk device.old).honest → WritesParts self.old
+            (is_in (headers_behind t block.old)) (D.disk device.old) (D.disk device.new) }
         ensures places { OnOk result (StandsAlike self.old self.new) }
     {
         for _ in 0..MOST_HEADERS {

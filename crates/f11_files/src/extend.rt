@@ -1,17 +1,21 @@
 //! A file that is extended: it gets more blocks, run by run, which are zeros.
-ghost use Rattle.std.specs.Prelude.{◌≡◌, ◌+◌, ◌-◌, ◌*◌, ◌/◌, ◌<◌, ◌≤◌, false, IfErr, IfOk, IsTrue, OnOk, true};
+ghost use Rattle.std.specs.Prelude.{◌≡◌, ◌+◌, ◌-◌, ◌*◌, ◌/◌, ◌<◌, ◌≤◌, false, IfErr, IfOk, IsTrue, OnOk, [], true};
 ghost use Rattle.f11_bits.specs.Transfers.{blocks_from};
 ghost use Rattle.std.specs.List.{range_with_len};
 ghost use Rattle.f11_files.specs.Allocation.{free_list};
-ghost use Rattle.f11_files.specs.Answers.{is_grave, is_light, is_refused, Breaks, WritesFreeBlocks};
+ghost use Rattle.f11_files.specs.Answers.{is_grave, is_light, is_refused, Breaks, WritesMoreOf};
+ghost use Rattle.f11_files.specs.Confines.{either, new_header};
 ghost use Rattle.f11_files.specs.Drops.{with_more_free};
 ghost use Rattle.f11_files.specs.Extend.{AddsRun, ExtendingBy, ExtendsBy, ExtendsFile, FailsToExtend, IsLengthAfter, IsTailOf};
 ghost use Rattle.f11_files.specs.Extension.{AppendingRun, AppendsRun};
 ghost use Rattle.f11_files.specs.Growing.{GrowingBy};
-ghost use Rattle.f11_files.specs.Structure.{counts_of, bitmap_in, home_of, store_on, IsFor, StaysFor, ConfinesTo, StandsAlike};
-ghost use Rattle.f11_files.specs.Tail.{HoldsLast, ownership_of};
+ghost use Rattle.f11_files.specs.Structure.{counts_of, bitmap_in, home_of, store_on, index_in, IsFor, StaysFor, ConfinesTo};
+ghost use Rattle.f11_files.specs.Tail.{GrowsWithin, HoldsLast, WritesGrowth, ownership_of};
 ghost use Rattle.f11_files.specs.Take.{NoneBelow};
 ghost use Rattle.f11_header.specs.Header.{holds_header};
+ghost use Rattle.f11_index.specs.Headers.{headers_of};
+ghost use Rattle.f11_index.specs.Table.{table_of};
+ghost use Rattle.f11_store.specs.Changes.{is_in};
 ghost use Rattle.f11_store.specs.File.{need};
 ghost use Rattle.f11_files.specs.Pieces.{file_numbered, MayExtend};
 ghost use Rattle.f11_vfy.specs.Volume.{volume_of};
@@ -74,9 +78,9 @@ impl Structure {
             (D.disk device.old) (D.disk device.new)) }
         ensures stays { StaysFor (is_refused is_grave result) self.old self.new
             (D.disk device.new) }
-        ensures confined { ConfinesTo self.old (range_with_len lbn count)
+        ensures confined { WritesGrowth self.old tail.old (range_with_len lbn count)
             (D.disk device.old) (D.disk device.new) }
-        ensures places { OnOk result (StandsAlike self.old self.new) }
+        ensures places { OnOk result (GrowsWithin self.old tail.old [] self.new tail.new) }
     {
         match self.zero_run(device, lbn, count) {
             Ok(()) => {}
@@ -122,10 +126,10 @@ impl Structure {
             (D.disk device.old) (D.disk device.new)) }
         ensures stays { StaysFor (is_refused is_grave result) self.old self.new
             (D.disk device.new) }
-        ensures confined { IsTrue (D.disk device.old).honest → ConfinesTo self.old
+        ensures confined { IsTrue (D.disk device.old).honest → WritesGrowth self.old tail.old
             (free_list (volume_of (D.disk device.old).image (home_of self.old)))
             (D.disk device.old) (D.disk device.new) }
-        ensures places { OnOk result (StandsAlike self.old self.new) }
+        ensures places { OnOk result (GrowsWithin self.old tail.old [] self.new tail.new) }
     {
         let (lbn, count) = self.take_run(device, from, most)?;
         self.append_run(device, tail, lbn, count)?;
@@ -159,7 +163,7 @@ impl Structure {
             (D.disk device.old) (D.disk device.new)) }
         ensures stays { StaysFor (is_refused is_grave result) self.old self.new
             (D.disk device.new) }
-        ensures confined { IsTrue (D.disk device.old).honest → ConfinesTo self.old
+        ensures confined { IsTrue (D.disk device.old).honest → WritesGrowth self.old tail.old
             (free_list (volume_of (D.disk device.old).image (home_of self.old)))
             (D.disk device.old) (D.disk device.new) }
     {
@@ -195,7 +199,9 @@ impl Structure {
             (D.disk device.new) }
         ensures counts { is_refused is_light result ≡ true → counts_of self.new ≡ counts_of
             self.old }
-        ensures confined { IsTrue (D.disk device.old).honest → ConfinesTo self.old
+        ensures confined { let t = table_of (D.disk device.old).image (home_of self.old) in
+            IsTrue (D.disk device.old).honest → ConfinesTo self.old
+            (either (is_in (headers_of t f.number)) (new_header (index_in self.old)))
             (free_list (volume_of (D.disk device.old).image (home_of self.old)))
             (D.disk device.old) (D.disk device.new) }
     {
@@ -235,7 +241,8 @@ impl<D: Device> Files<D> {
             × ExtendsFile (home_in self.old) f n (disk_in self.old) (disk_in self.new)) }
         ensures refused { IfErr result (λ refusal. FailsToExtend (has_failed self.old)
             (home_in self.old) f n refusal (disk_in self.old) (disk_in self.new)) }
-        ensures confined { WritesFreeBlocks (home_in self.old) (disk_in self.old) (disk_in self.new) }
+        ensures confined { WritesMoreOf f.number (home_in self.old) (disk_in self.old)
+            (disk_in self.new) }
     {
         if self.failed {
             return Err(Refusal::VolumeFailed);

@@ -1,12 +1,13 @@
 //! A new last header of a file.
-ghost use Rattle.std.specs.Prelude.{◌≡◌, ◌<◌, ◌≤◌, ◌^◌, IfErr, IfOk, IsTrue, OnOk};
+ghost use Rattle.std.specs.Prelude.{◌≡◌, ◌<◌, ◌≤◌, ◌^◌, IfErr, IfOk, IsTrue, OnOk, []};
 ghost use Rattle.f11_files.specs.Answers.{is_grave, is_refused, Breaks};
+ghost use Rattle.f11_files.specs.Confines.{new_header};
 ghost use Rattle.f11_files.specs.Drops.{with_more_free};
-ghost use Rattle.f11_files.specs.Extension.{AppendingRun, AppendsRun, EntersHeader, IsExtension};
+ghost use Rattle.f11_files.specs.Extension.{AppendingRun, AppendsRun, EntersHeader, IsExtension, TakesSlot};
 ghost use Rattle.f11_files.specs.FileLaws.{room_in};
 ghost use Rattle.f11_files.specs.Growing.{Taking};
-ghost use Rattle.f11_files.specs.Structure.{home_of, store_on, IsFor, StaysFor, StandsAlike, WritesOnlyParts};
-ghost use Rattle.f11_files.specs.Tail.{HoldsLast, MayBeGiven};
+ghost use Rattle.f11_files.specs.Structure.{home_of, index_in, store_on, IsFor, StaysFor, WritesParts};
+ghost use Rattle.f11_files.specs.Tail.{GrowsWithin, HoldsLast, MayBeGiven, WritesGrowth};
 ghost use Rattle.f11_header.specs.Header.{holds_header};
 ghost use Rattle.f11_index.specs.HeaderBlock.{segment_number};
 ghost use Rattle.f11_files.specs.Pieces.{MayExtend};
@@ -70,8 +71,9 @@ impl Structure {
             3 refusal (D.disk device.old) (D.disk device.new)) }
         ensures stays { StaysFor (is_refused is_grave result) self.old self.new
             (D.disk device.new) }
-        ensures confined { WritesOnlyParts self.old (D.disk device.old) (D.disk device.new) }
-        ensures places { OnOk result (StandsAlike self.old self.new) }
+        ensures confined { WritesParts self.old (new_header (index_in self.old)) (D.disk device.old)
+            (D.disk device.new) }
+        ensures places { IfOk result (λ id. TakesSlot self.old self.new id.number) }
     {
         let Some(number) = self.index.least_free() else {
             return Err(Refusal::Damaged);
@@ -125,8 +127,9 @@ impl Structure {
             (D.disk device.old) (D.disk device.new)) }
         ensures stays { StaysFor (is_refused is_grave result) self.old self.new
             (D.disk device.new) }
-        ensures confined { WritesOnlyParts self.old (D.disk device.old) (D.disk device.new) }
-        ensures places { OnOk result (StandsAlike self.old self.new) }
+        ensures confined { WritesGrowth self.old tail.old [] (D.disk device.old)
+            (D.disk device.new) }
+        ensures places { OnOk result (GrowsWithin self.old tail.old [] self.new tail.new) }
     {
         if in_hand::map(&tail.block).segment() == LAST_SEGMENT {
             return Err(Refusal::Damaged);

@@ -8,8 +8,8 @@ ghost use Rattle.f11_files.specs.Drops.{with_more_free};
 ghost use Rattle.f11_files.specs.FileLaws.{room_in};
 ghost use Rattle.f11_files.specs.GrowIndex.{AddsSlots, AppendingSlots, AppendsSlots, GrowingIndex, GrowingIndexBy, GrowsIndexBy};
 ghost use Rattle.f11_files.specs.IndexPieces.{MayGrowIndex};
-ghost use Rattle.f11_files.specs.Structure.{bitmap_in, home_of, store_on, IsFor, StaysFor, ConfinesTo, StandsWithin};
-ghost use Rattle.f11_files.specs.Tail.{HoldsLast, MayBeGiven, ownership_of};
+ghost use Rattle.f11_files.specs.Structure.{bitmap_in, home_of, store_on, IsFor, StaysFor};
+ghost use Rattle.f11_files.specs.Tail.{GrowsWithin, HoldsLast, MayBeGiven, WritesGrowth, ownership_of};
 ghost use Rattle.f11_files.specs.Take.{NoneBelow};
 ghost use Rattle.f11_index.specs.Kept.{room};
 ghost use Rattle.f11_store.specs.File.{need};
@@ -55,10 +55,10 @@ impl Structure {
             (D.disk device.old) (D.disk device.new)) }
         ensures stays { StaysFor (is_refused is_grave result) self.old self.new
             (D.disk device.new) }
-        ensures confined { ConfinesTo self.old (range_with_len lbn count)
+        ensures confined { WritesGrowth self.old tail.old (range_with_len lbn count)
             (D.disk device.old) (D.disk device.new) }
         ensures places { OnOk result
-            (StandsWithin self.old (range_with_len lbn count) self.new) }
+            (GrowsWithin self.old tail.old (range_with_len lbn count) self.new tail.new) }
     {
         if in_hand::map(&tail.block).segment() == LAST_SEGMENT {
             return Err(Refusal::Damaged);
@@ -104,10 +104,10 @@ impl Structure {
             (D.disk device.old) (D.disk device.new)) }
         ensures stays { StaysFor (is_refused is_grave result) self.old self.new
             (D.disk device.new) }
-        ensures confined { ConfinesTo self.old (range_with_len lbn count)
+        ensures confined { WritesGrowth self.old tail.old (range_with_len lbn count)
             (D.disk device.old) (D.disk device.new) }
         ensures places { OnOk result
-            (StandsWithin self.old (range_with_len lbn count) self.new) }
+            (GrowsWithin self.old tail.old (range_with_len lbn count) self.new tail.new) }
     {
         match self.zero_run(device, lbn, count) {
             Ok(()) => {}
@@ -154,11 +154,13 @@ impl Structure {
             (D.disk device.old) (D.disk device.new)) }
         ensures stays { StaysFor (is_refused is_grave result) self.old self.new
             (D.disk device.new) }
-        ensures confined { IsTrue (D.disk device.old).honest → ConfinesTo self.old
+        ensures confined { IsTrue (D.disk device.old).honest → WritesGrowth self.old tail.old
             (free_list (volume_of (D.disk device.old).image (home_of self.old)))
             (D.disk device.old) (D.disk device.new) }
-        ensures places { OnOk result (IsTrue (D.disk device.old).honest → StandsWithin self.old
-            (free_list (volume_of (D.disk device.old).image (home_of self.old))) self.new) }
+        ensures places { let free = free_list (volume_of (D.disk device.old).image
+            (home_of self.old)) in
+            OnOk result (IsTrue (D.disk device.old).honest
+            → GrowsWithin self.old tail.old free self.new tail.new) }
     {
         let (lbn, count) = self.take_run(device, from, most)?;
         self.append_slots(device, tail, lbn, count)?;
@@ -191,7 +193,7 @@ impl Structure {
             (D.disk device.old) (D.disk device.new)) }
         ensures stays { StaysFor (is_refused is_grave result) self.old self.new
             (D.disk device.new) }
-        ensures confined { IsTrue (D.disk device.old).honest → ConfinesTo self.old
+        ensures confined { IsTrue (D.disk device.old).honest → WritesGrowth self.old tail.old
             (free_list (volume_of (D.disk device.old).image (home_of self.old)))
             (D.disk device.old) (D.disk device.new) }
     {

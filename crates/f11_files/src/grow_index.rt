@@ -2,11 +2,15 @@
 ghost use Rattle.std.specs.Prelude.{◌≡◌, ◌≤◌, ◌<◌, false, IfErr, IfOk, true, IsTrue};
 ghost use Rattle.f11_vfy.specs.Volume.{volume_of};
 ghost use Rattle.f11_files.specs.Allocation.{free_list};
-ghost use Rattle.f11_files.specs.Answers.{is_grave, is_light, is_refused, FailsToRead, WritesFreeBlocks};
+ghost use Rattle.f11_files.specs.Answers.{is_grave, is_light, is_refused, FailsToRead, WritesMoreOf};
+ghost use Rattle.f11_files.specs.Confines.{either, new_header};
 ghost use Rattle.f11_files.specs.GrowIndex.{index_id, FailsToGrow, FindsIndexRoom, GrowsIndexFile, IsSlotsAfter};
 ghost use Rattle.f11_files.specs.Operations.{grow_causes};
 ghost use Rattle.f11_files.specs.StoreOf.{slot_limit};
-ghost use Rattle.f11_files.specs.Structure.{counts_of, home_of, store_on, IsFor, StaysFor, ConfinesTo};
+ghost use Rattle.f11_files.specs.Structure.{counts_of, home_of, store_on, index_in, IsFor, StaysFor, ConfinesTo};
+ghost use Rattle.f11_index.specs.Headers.{headers_of};
+ghost use Rattle.f11_index.specs.Table.{table_of};
+ghost use Rattle.f11_store.specs.Changes.{is_in};
 ghost use Rattle.f11_store.specs.Cost.{header_count};
 ghost use Rattle.f11_store.specs.Store.{index_file};
 
@@ -99,7 +103,9 @@ impl Structure {
             (D.disk device.new) }
         ensures counts { is_refused is_light result ≡ true → counts_of self.new ≡ counts_of
             self.old }
-        ensures confined { IsTrue (D.disk device.old).honest → ConfinesTo self.old
+        ensures confined { let t = table_of (D.disk device.old).image (home_of self.old) in
+            IsTrue (D.disk device.old).honest → ConfinesTo self.old
+            (either (is_in (headers_of t 1)) (new_header (index_in self.old)))
             (free_list (volume_of (D.disk device.old).image (home_of self.old)))
             (D.disk device.old) (D.disk device.new) }
     {
@@ -142,7 +148,7 @@ impl<D: Device> Files<D> {
             × GrowsIndexFile (home_in self.old) n (disk_in self.old) (disk_in self.new)) }
         ensures refused { IfErr result (λ refusal. FailsToGrow (has_failed self.old)
             (home_in self.old) n refusal (disk_in self.old) (disk_in self.new)) }
-        ensures confined { WritesFreeBlocks (home_in self.old) (disk_in self.old) (disk_in self.new) }
+        ensures confined { WritesMoreOf 1 (home_in self.old) (disk_in self.old) (disk_in self.new) }
     {
         if self.failed {
             return Err(Refusal::VolumeFailed);

@@ -2,7 +2,8 @@
 ghost use Rattle.std.specs.Prelude.{◌≡◌, ◌≤◌, ◌<◌, IsTrue, OnOk, OnErr};
 ghost use Rattle.f11_dev.specs.Went.{Went};
 ghost use Rattle.f11_files.specs.Link.{MayFollow, Linking, LinksTail};
-ghost use Rattle.f11_files.specs.Structure.{home_of, IsFor, WritesOnlyParts};
+ghost use Rattle.f11_files.specs.Confines.{only_header};
+ghost use Rattle.f11_files.specs.Structure.{home_of, IsFor, WritesParts};
 ghost use Rattle.f11_files.specs.Tail.{HoldsLast, whose};
 ghost use Rattle.f11_index.specs.HeaderBlock.{segment_number};
 ghost use Rattle.f11_index.specs.Table.{table_of};
@@ -36,7 +37,8 @@ impl Structure {
             (LinksTail self.now tail.old id (D.disk device.old) (D.disk device.new)) }
         ensures failed { OnErr result (Went (Linking self.now tail.old id (D.disk device.old))
             (D.disk device.old) (D.disk device.new) 1 1) }
-        ensures confined { WritesOnlyParts self.now (D.disk device.old) (D.disk device.new) }
+        ensures confined { WritesParts self.now (only_header tail.old.number) (D.disk device.old)
+            (D.disk device.new) }
     {
         set_link(&mut tail.block, id);
         match device.write(self.index.lbn_of_header(tail.number), &tail.block) {

@@ -1,6 +1,7 @@
 //! Blocks that a file's last header is to name.
 ghost use Rattle.std.specs.Prelude.{◌≡◌, ◌≤◌, false, IsTrue, IfOk, OnErr};
-ghost use Rattle.f11_files.specs.Structure.{home_of, IsFor, WritesOnlyParts};
+ghost use Rattle.f11_files.specs.Confines.{only_header};
+ghost use Rattle.f11_files.specs.Structure.{home_of, IsFor, WritesParts};
 ghost use Rattle.f11_files.specs.Tail.{HoldsLast, MayBeGiven, NamesRun, FailsToName, HasNoPlace};
 
 use crate::structure::Structure;
@@ -33,7 +34,8 @@ impl Structure {
             → HasNoPlace tail.old tail.new lbn count (D.disk device.old) (D.disk device.new)) }
         ensures failed { OnErr result
             (FailsToName self.now tail.old lbn count (D.disk device.old) (D.disk device.new)) }
-        ensures confined { WritesOnlyParts self.now (D.disk device.old) (D.disk device.new) }
+        ensures confined { WritesParts self.now (only_header tail.old.number) (D.disk device.old)
+            (D.disk device.new) }
     {
         match append(&mut tail.block, lbn, count) {
             Ok(()) => {}

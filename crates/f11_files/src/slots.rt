@@ -1,10 +1,10 @@
 //! Blocks that become slots of the index file.
 ghost use Rattle.std.specs.Prelude.{◌≡◌, ◌+◌, ◌≤◌, ◌<◌, false, IsTrue, IfOk, OnOk, OnErr};
 ghost use Rattle.f11_dev.specs.Went.{Went};
-ghost use Rattle.std.specs.List.{range_with_len};
-ghost use Rattle.f11_files.specs.IndexGrowth.{FailsToNameSlots, LinkingSlots, LinksSlots, MayBecomeSlots, NamesSlots, NamesThese};
+ghost use Rattle.f11_files.specs.Confines.{only_header};
+ghost use Rattle.f11_files.specs.IndexGrowth.{FailsToNameSlots, HasSlotsBehind, LinkingSlots, LinksSlots, MayBecomeSlots, NamesSlots, NamesThese};
 ghost use Rattle.f11_files.specs.Link.{MayFollow};
-ghost use Rattle.f11_files.specs.Structure.{bitmap_in, home_of, IsFor, StaysFor, StandsWithin, WritesOnlyParts};
+ghost use Rattle.f11_files.specs.Structure.{bitmap_in, home_of, IsFor, StaysFor, WritesParts};
 ghost use Rattle.f11_files.specs.Tail.{HoldsLast, MayBeGiven, HasNoPlace, whose};
 ghost use Rattle.f11_files.specs.Zeros.{HoldsZeros};
 ghost use Rattle.f11_index.specs.HeaderBlock.{segment_number};
@@ -45,9 +45,10 @@ impl Structure {
             (FailsToNameSlots self.old tail.old lbn count (D.disk device.old) (D.disk device.new)) }
         ensures stays { OnOk result (StaysFor false self.old self.new (D.disk device.new)) }
         ensures home { home_of self.new ≡ home_of self.old }
-        ensures confined { WritesOnlyParts self.old (D.disk device.old) (D.disk device.new) }
-        ensures places { OnOk result
-            (StandsWithin self.old (range_with_len lbn count) self.new) }
+        ensures confined { WritesParts self.old (only_header tail.old.number) (D.disk device.old)
+            (D.disk device.new) }
+        ensures places { IfOk result (λ named. IsTrue named
+            → (tail.new.number ≡ tail.old.number) × HasSlotsBehind self.old self.new lbn count) }
     {
         match append(&mut tail.block, lbn, count) {
             Ok(()) => {}
@@ -92,9 +93,9 @@ impl Structure {
             (D.disk device.old) (D.disk device.new) 1 1) }
         ensures stays { OnOk result (StaysFor false self.old self.new (D.disk device.new)) }
         ensures home { home_of self.new ≡ home_of self.old }
-        ensures confined { WritesOnlyParts self.old (D.disk device.old) (D.disk device.new) }
-        ensures places { OnOk result
-            (StandsWithin self.old (range_with_len lbn count) self.new) }
+        ensures confined { WritesParts self.old (only_header tail.old.number) (D.disk device.old)
+            (D.disk device.new) }
+        ensures places { OnOk result (HasSlotsBehind self.old self.new lbn count) }
     {
         set_link(&mut tail.block, id);
         match device.write(self.index.lbn_of_header(tail.number), &tail.block) {

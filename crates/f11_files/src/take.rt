@@ -2,8 +2,9 @@
 ghost use Rattle.std.specs.Prelude.{◌≡◌, ◌+◌, ◌<◌, ◌≤◌, IfErr, IfOk, IsTrue};
 ghost use Rattle.f11_bits.specs.Transfers.{blocks_from};
 ghost use Rattle.f11_files.specs.Answers.{is_grave, is_refused, Breaks};
+ghost use Rattle.f11_files.specs.Confines.{no_header};
 ghost use Rattle.f11_files.specs.Growing.{Taking};
-ghost use Rattle.f11_files.specs.Structure.{bitmap_in, home_of, store_on, IsFor, StaysFor, StandsAlike, WritesOnlyParts};
+ghost use Rattle.f11_files.specs.Structure.{bitmap_in, home_of, store_on, IsFor, StaysFor, StandsAlike, WritesParts};
 ghost use Rattle.f11_files.specs.Take.{NoneBelow, TakesRun};
 
 use crate::structure::Structure;
@@ -39,7 +40,7 @@ impl Structure {
             (D.disk device.new)) }
         ensures stays { StaysFor (is_refused is_grave result) self.old self.new
             (D.disk device.new) }
-        ensures confined { WritesOnlyParts self.old (D.disk device.old) (D.disk device.new) }
+        ensures confined { WritesParts self.old no_header (D.disk device.old) (D.disk device.new) }
         ensures places { StandsAlike self.old self.new }
     {
         match self.storage.take(device, from, most) {

@@ -1,10 +1,13 @@
 //! A file that is cut to its first blocks.
 ghost use Rattle.std.specs.Prelude.{◌≡◌, ◌≤◌, false, IfErr, IfOk, IsTrue, true};
-ghost use Rattle.f11_files.specs.Answers.{is_grave, is_light, is_refused, FailsToRead, WritesNoOther};
+ghost use Rattle.f11_files.specs.Answers.{is_grave, is_light, is_refused, FailsToRead, WritesHeadersOf};
 ghost use Rattle.f11_files.specs.Cuts.{Cuts, CutsOff, FailsToCut, FindsLastKept};
 ghost use Rattle.f11_files.specs.Operations.{length_causes};
-ghost use Rattle.f11_files.specs.Structure.{counts_of, home_of, index_in, store_on, IsFor, StaysFor, WritesOnlyParts};
+ghost use Rattle.f11_files.specs.Structure.{counts_of, home_of, index_in, store_on, IsFor, StaysFor, WritesParts};
 ghost use Rattle.f11_header.specs.Header.{holds_header};
+ghost use Rattle.f11_index.specs.Headers.{headers_of};
+ghost use Rattle.f11_index.specs.Table.{table_of};
+ghost use Rattle.f11_store.specs.Changes.{is_in};
 ghost use Rattle.f11_store.specs.Cost.{header_count};
 ghost use Rattle.f11_store.specs.Store.{file_named};
 
@@ -90,7 +93,9 @@ impl Structure {
             (D.disk device.new) }
         ensures counts { is_refused is_light result ≡ true → counts_of self.new ≡ counts_of
             self.old }
-        ensures confined { WritesOnlyParts self.old (D.disk device.old) (D.disk device.new) }
+        ensures confined { IsTrue (D.disk device.old).honest → WritesParts self.old
+            (is_in (headers_of (table_of (D.disk device.old).image (home_of self.old)) f.number))
+            (D.disk device.old) (D.disk device.new) }
     {
         let mut block = [0; BLOCK_SIZE];
         let (n, keep) = self.last_kept(device, f, to, &mut block)?;
@@ -126,7 +131,8 @@ impl<D: Device> Files<D> {
             × Cuts (home_in self.old) f to (disk_in self.old) (disk_in self.new)) }
         ensures refused { IfErr result (λ refusal. FailsToCut (has_failed self.old)
             (home_in self.old) f to refusal (disk_in self.old) (disk_in self.new)) }
-        ensures confined { WritesNoOther (home_in self.old) (disk_in self.old) (disk_in self.new) }
+        ensures confined { WritesHeadersOf f (home_in self.old) (disk_in self.old)
+            (disk_in self.new) }
     {
         if self.failed {
             return Err(Refusal::VolumeFailed);

@@ -1,6 +1,7 @@
 //! Zeros in the blocks that a file is to have.
 ghost use Rattle.std.specs.Prelude.{◌≤◌, ◌+◌, length, IsTrue, OnOk, OnErr};
 ghost use Rattle.std.specs.List.{range_with_len};
+ghost use Rattle.f11_files.specs.Confines.{no_header};
 ghost use Rattle.f11_files.specs.Structure.{home_of, IsFor, ConfinesTo};
 ghost use Rattle.f11_files.specs.Zeros.{Zeroes, FailsToZero};
 ghost use Rattle.f11_vfy.specs.Volume.{volume_of};
@@ -30,7 +31,7 @@ impl Structure {
             (Zeroes (home_of self.now) lbn count (D.disk device.old) (D.disk device.new)) }
         ensures failed { OnErr result
             (FailsToZero (home_of self.now) count (D.disk device.old) (D.disk device.new)) }
-        ensures confined { ConfinesTo self.now (range_with_len lbn count)
+        ensures confined { ConfinesTo self.now no_header (range_with_len lbn count)
             (D.disk device.old) (D.disk device.new) }
     {
         let zeros = zeros();

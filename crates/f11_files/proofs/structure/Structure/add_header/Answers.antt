@@ -4,7 +4,11 @@ use Rattle.f11_files.proofs.NewHeaderLemmas.{too-many, some-free, fails-enter}
 use Rattle.f11_files.proofs.AnswerLemmas.{handed}
 use Rattle.f11_files.proofs.ExtensionBlockLemmas.{segment-said}
 use Rattle.f11_files.proofs.FreeingLemmas.{stays-for}
-use Rattle.f11_files.proofs.PartsLemmas.{parts-then}
+use Rattle.f11_files.proofs.PartsLemmas.{to-parts}
+use Rattle.f11_files.proofs.GrowthPartsLemmas.{grows-linked, grows-taken, of-new}
+use Rattle.std.proofs.Common.{[]}
+use Rattle.f11_files.specs.Confines.{new_header}
+use Rattle.f11_files.specs.Structure.{index_in}
 use Rattle.f11_files.proofs.structure.Structure.add_header.Goals as goal
 
 pub returns-then-segment-eq-LAST_SEGMENT-clause-refused : goal.returns-then-segment-eq-LAST_SEGMENT-clause-refused
@@ -54,7 +58,13 @@ returns-clause-appended g c =
     (omega (arith, is, c.if-segment-eq-LAST_SEGMENT.false, c.requires.last.few)) _ _ _ c.link_tail.ensures.file
 
 pub returns-in-Err-clause-confined : goal.returns-in-Err-clause-confined
-returns-in-Err-clause-confined g c = parts-then c.args.self.now c.enter_header.new.self c.in_ok-id.ensures.places c.in_ok-id.ensures.confined c.link_tail.ensures.confined
+returns-in-Err-clause-confined g c = grows-linked c.args.self.now c.enter_header.new.self c.args.tail.now c.in_ok-id.id.number [] c.in_ok-id.ensures.places c.in_ok-id.ensures.confined c.link_tail.ensures.confined
 
 pub returns-clause-confined : goal.returns-clause-confined
-returns-clause-confined g c = parts-then c.args.self.now c.enter_header.new.self c.in_ok-id.ensures.places c.in_ok-id.ensures.confined c.link_tail.ensures.confined
+returns-clause-confined g c = grows-linked c.args.self.now c.enter_header.new.self c.args.tail.now c.in_ok-id.id.number [] c.in_ok-id.ensures.places c.in_ok-id.ensures.confined c.link_tail.ensures.confined
+
+pub returns-in_err-id-clause-confined : goal.returns-in_err-id-clause-confined
+returns-in_err-id-clause-confined g c = to-parts c.args.self.now _ (new_header (index_in c.args.self.now)) [] (of-new c.args.self.now c.args.tail.now) c.enter_header.ensures.confined
+
+pub returns-clause-places : goal.returns-clause-places
+returns-clause-places g c = grows-taken c.args.self.now c.enter_header.new.self c.args.tail.now c.in_ok-id.id.number [] c.in_ok-id.ensures.places

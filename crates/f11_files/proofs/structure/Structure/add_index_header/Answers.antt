@@ -4,9 +4,11 @@ use Rattle.f11_files.proofs.AnswerLemmas.{handed}
 use Rattle.f11_files.proofs.ExtensionBlockLemmas.{segment-said}
 use Rattle.f11_files.proofs.FreeingLemmas.{stays-for}
 use Rattle.f11_files.proofs.NewHeaderLemmas.{too-many, some-free, fails-enter}
-use Rattle.std.proofs.Common.{[], refl}
 use Rattle.std.specs.List.{range_with_len}
-use Rattle.f11_files.proofs.PartsLemmas.{stands-along, stands-within, to-parts, to-then}
+use Rattle.f11_files.proofs.PartsLemmas.{to-parts}
+use Rattle.f11_files.proofs.GrowthPartsLemmas.{grows-linked, grows-taken-behind, of-new}
+use Rattle.f11_files.specs.Confines.{new_header}
+use Rattle.f11_files.specs.Structure.{index_in}
 use Rattle.f11_files.proofs.structure.Structure.add_index_header.Goals as goal
 
 pub returns-then-segment-eq-LAST_SEGMENT-clause-refused : goal.returns-then-segment-eq-LAST_SEGMENT-clause-refused
@@ -74,22 +76,14 @@ returns-clause-stays g c = linked-stays c.args.self.now c.args.tail.now c.args.l
     _ c.in_ok-id.id c.enter_header.new.block _ c.in_ok-id.ensures.entered c.in_ok-id.ensures.stays _ _ c.in-Ok.ensures.links c.in-Ok.ensures.stays
 
 pub returns-in-Err-clause-confined : goal.returns-in-Err-clause-confined
-returns-in-Err-clause-confined g c =
-    let s = c.args.self.now in
-    let t = c.enter_header.new.self in
-    let run = range_with_len c.args.lbn c.args.count in
-    to-then s t run [] (stands-within s t run c.in_ok-id.ensures.places) (λ l _. refl) (to-parts s run c.in_ok-id.ensures.confined) c.link_slots.ensures.confined
+returns-in-Err-clause-confined g c = grows-linked c.args.self.now c.enter_header.new.self c.args.tail.now c.in_ok-id.id.number (range_with_len c.args.lbn c.args.count) c.in_ok-id.ensures.places c.in_ok-id.ensures.confined c.link_slots.ensures.confined
 
 pub returns-clause-confined : goal.returns-clause-confined
-returns-clause-confined g c =
-    let s = c.args.self.now in
-    let t = c.enter_header.new.self in
-    let run = range_with_len c.args.lbn c.args.count in
-    to-then s t run [] (stands-within s t run c.in_ok-id.ensures.places) (λ l _. refl) (to-parts s run c.in_ok-id.ensures.confined) c.link_slots.ensures.confined
+returns-clause-confined g c = grows-linked c.args.self.now c.enter_header.new.self c.args.tail.now c.in_ok-id.id.number (range_with_len c.args.lbn c.args.count) c.in_ok-id.ensures.places c.in_ok-id.ensures.confined c.link_slots.ensures.confined
+
+pub returns-in_err-id-clause-confined : goal.returns-in_err-id-clause-confined
+returns-in_err-id-clause-confined g c =
+    to-parts c.args.self.now _ (new_header (index_in c.args.self.now)) (range_with_len c.args.lbn c.args.count) (of-new c.args.self.now c.args.tail.now) c.enter_header.ensures.confined
 
 pub returns-clause-places : goal.returns-clause-places
-returns-clause-places g c =
-    let s = c.args.self.now in
-    let t = c.enter_header.new.self in
-    let run = range_with_len c.args.lbn c.args.count in
-    stands-along s t c.link_slots.new.self run run (λ l out. out) (stands-within s t run c.in_ok-id.ensures.places) c.in-Ok.ensures.places
+returns-clause-places g c = grows-taken-behind c.args.self.now c.enter_header.new.self c.link_slots.new.self c.args.tail.now c.in_ok-id.id.number c.args.lbn c.args.count c.in_ok-id.ensures.places c.in-Ok.ensures.places

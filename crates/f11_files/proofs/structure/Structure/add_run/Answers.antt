@@ -8,7 +8,11 @@ use Rattle.f11_store.specs.Changes.{is_in}
 use Rattle.f11_vfy.specs.Volume.{volume_of}
 use Rattle.f11_files.specs.Allocation.{free_list}
 use Rattle.f11_files.specs.Structure.{home_of}
-use Rattle.f11_files.proofs.PartsLemmas.{out-front, stands-within, to-parts, to-then}
+use Rattle.f11_files.proofs.PartsLemmas.{of-none, out-front, to-parts}
+use Rattle.f11_files.proofs.GrowthPartsLemmas.{grows-marked, grows-then, growth-taken}
+use Rattle.std.proofs.Common.{[]}
+use Rattle.f11_files.specs.Confines.{no_header}
+use Rattle.f11_files.specs.Tail.{growth_headers}
 use Rattle.f11_files.proofs.structure.Structure.add_run.Goals as goal
 
 pub returns-in_err-lbn-clause-refused : goal.returns-in_err-lbn-clause-refused
@@ -31,22 +35,34 @@ returns-clause-added g c =
     adds-run c.args.self.now _ c.args.tail.now c.args.from c.args.most _ _ _ _ c.requires.is_for c.requires.last c.requires.may c.in_ok-lbn.ensures.taken (rw c.in_ok-lbn.was at c.take_run.ensures.stays) _ _ _ c.in_ok-append_run.ensures.appended
     (rw c.in_ok-append_run.was at c.append_run.ensures.stays)
 
+pub returns-in_err-lbn-clause-confined : goal.returns-in_err-lbn-clause-confined
+returns-in_err-lbn-clause-confined g c = λ honest.
+    let all = growth_headers c.args.self.now c.args.tail.now in
+    to-parts c.args.self.now all no_header _ (of-none all) c.take_run.ensures.confined
+
 pub returns-in_err-append_run-clause-confined : goal.returns-in_err-append_run-clause-confined
 returns-in_err-append_run-clause-confined g c = λ honest.
     let s = c.args.self.now in
     let t = c.take_run.new.self in
     let taken = c.in_ok-lbn.ensures.taken in
+    let run = range_with_len c.in_ok-lbn.lbn c.in_ok-lbn.count in
     let all = free_list (volume_of (g.D.Device.disk c.args.device.now).image (home_of s)) in
-    let fewer : (l : ℕ) → is_in all l ≡ false → is_in (range_with_len c.in_ok-lbn.lbn c.in_ok-lbn.count) l ≡ false =
-    λ l out. out-front _ _ l (ap (λ (xs : List ℕ). is_in xs l) (sym (taken.lowest honest)) ∙ out) in
-    to-then s t all (range_with_len c.in_ok-lbn.lbn c.in_ok-lbn.count) (stands-within s t all c.take_run.ensures.places) fewer (to-parts s all c.take_run.ensures.confined) c.append_run.ensures.confined
+    let fewer : (l : ℕ) → is_in all l ≡ false → is_in run l ≡ false = λ l out. out-front _ _ l (ap (λ (xs : List ℕ). is_in xs l) (sym (taken.lowest honest)) ∙ out) in
+    growth-taken s t c.args.tail.now all run taken.index c.take_run.ensures.places fewer c.take_run.ensures.confined c.append_run.ensures.confined
 
 pub returns-clause-confined : goal.returns-clause-confined
 returns-clause-confined g c = λ honest.
     let s = c.args.self.now in
     let t = c.take_run.new.self in
     let taken = c.in_ok-lbn.ensures.taken in
+    let run = range_with_len c.in_ok-lbn.lbn c.in_ok-lbn.count in
     let all = free_list (volume_of (g.D.Device.disk c.args.device.now).image (home_of s)) in
-    let fewer : (l : ℕ) → is_in all l ≡ false → is_in (range_with_len c.in_ok-lbn.lbn c.in_ok-lbn.count) l ≡ false =
-    λ l out. out-front _ _ l (ap (λ (xs : List ℕ). is_in xs l) (sym (taken.lowest honest)) ∙ out) in
-    to-then s t all (range_with_len c.in_ok-lbn.lbn c.in_ok-lbn.count) (stands-within s t all c.take_run.ensures.places) fewer (to-parts s all c.take_run.ensures.confined) c.append_run.ensures.confined
+    let fewer : (l : ℕ) → is_in all l ≡ false → is_in run l ≡ false = λ l out. out-front _ _ l (ap (λ (xs : List ℕ). is_in xs l) (sym (taken.lowest honest)) ∙ out) in
+    growth-taken s t c.args.tail.now all run taken.index c.take_run.ensures.places fewer c.take_run.ensures.confined c.append_run.ensures.confined
+
+pub returns-clause-places : goal.returns-clause-places
+returns-clause-places g c =
+    let s = c.args.self.now in
+    let t = c.take_run.new.self in
+    let marked = grows-marked s t c.args.tail.now [] c.in_ok-lbn.ensures.taken.index c.take_run.ensures.places in
+    grows-then s t c.append_run.new.self c.args.tail.now c.args.tail.now c.append_run.new.tail [] [] (λ l out. out) marked c.in_ok-append_run.ensures.places

@@ -4,7 +4,12 @@ use Rattle.std.specs.List.{range_with_len}
 use Rattle.f11_files.proofs.AppendRunLemmas.{sound-moment, fails-zeros, named-stays, now-own, now-may, appends-header, fails-header, fails-named, appends-named}
 use Rattle.f11_files.proofs.GrowingLemmas.{breaks-stays}
 use Rattle.f11_files.proofs.ZeroedLemmas.{mid-for, mid-last, mid-given, now-for, now-last, now-given, now-full}
-use Rattle.f11_files.proofs.PartsLemmas.{stands-same, stands-within, to-then}
+use Rattle.f11_files.proofs.PartsLemmas.{of-none, to-wider}
+use Rattle.f11_files.proofs.GrowthPartsLemmas.{grows-same, grows-then, growth-named, growth-then}
+use Rattle.std.proofs.Common.{ap}
+use Rattle.f11_files.specs.Confines.{no_header}
+use Rattle.f11_files.specs.Tail.{growth_headers}
+use Rattle.f11_files.specs.declared.tail.Tail.{Tail}
 use Rattle.f11_files.proofs.structure.Structure.append_run.Goals as goal
 
 pub returns-in-Err-clause-refused : goal.returns-in-Err-clause-refused
@@ -70,21 +75,32 @@ returns-clause-refused g c =
 pub returns-clause-stays : goal.returns-clause-stays
 returns-clause-stays g c = c.add_header.ensures.stays
 
-pub returns-in-Err-name_run-clause-confined : goal.returns-in-Err-name_run-clause-confined
-returns-in-Err-name_run-clause-confined g c =
-    let s = c.args.self.now in
+pub returns-in-Err-clause-confined : goal.returns-in-Err-clause-confined
+returns-in-Err-clause-confined g c =
+    let all = growth_headers c.args.self.now c.args.tail.now in
     let run = range_with_len c.args.lbn c.args.count in
-    to-then s s run [] (stands-within s s run (stands-same s)) (λ l _. refl) c.zero_run.ensures.confined c.name_run.ensures.confined
+    to-wider c.args.self.now all no_header run run (of-none all) (λ l out. out) c.zero_run.ensures.confined
+
+pub returns-in-Err-name_run-clause-confined : goal.returns-in-Err-name_run-clause-confined
+returns-in-Err-name_run-clause-confined g c = growth-named c.args.self.now c.args.tail.now (range_with_len c.args.lbn c.args.count) c.zero_run.ensures.confined c.name_run.ensures.confined
 
 pub returns-then-named-clause-confined : goal.returns-then-named-clause-confined
-returns-then-named-clause-confined g c =
-    let s = c.args.self.now in
-    let run = range_with_len c.args.lbn c.args.count in
-    to-then s s run [] (stands-within s s run (stands-same s)) (λ l _. refl) c.zero_run.ensures.confined c.name_run.ensures.confined
+returns-then-named-clause-confined g c = growth-named c.args.self.now c.args.tail.now (range_with_len c.args.lbn c.args.count) c.zero_run.ensures.confined c.name_run.ensures.confined
+
+pub returns-then-named-clause-places : goal.returns-then-named-clause-places
+returns-then-named-clause-places g c = grows-same c.args.self.now c.args.self.now c.args.tail.now c.name_run.new.tail [] refl (c.in-Ok-name_run.ensures.names c.if-named.true).number_is
 
 pub returns-clause-confined : goal.returns-clause-confined
 returns-clause-confined g c =
     let s = c.args.self.now in
     let run = range_with_len c.args.lbn c.args.count in
-    to-then s s run [] (stands-within s s run (stands-same s)) (λ l _. refl)
-    (to-then s s run [] (stands-within s s run (stands-same s)) (λ l _. refl) c.zero_run.ensures.confined c.name_run.ensures.confined) c.add_header.ensures.confined
+    let same = ap (λ (t : Tail). t.number) (c.in-Ok-name_run.ensures.full c.if-named.false).tail_is in
+    growth-then s s c.args.tail.now c.name_run.new.tail run [] (grows-same s s c.args.tail.now c.name_run.new.tail run refl same) (λ l _. refl)
+    (growth-named s c.args.tail.now run c.zero_run.ensures.confined c.name_run.ensures.confined) c.add_header.ensures.confined
+
+pub returns-clause-places : goal.returns-clause-places
+returns-clause-places g c =
+    let s = c.args.self.now in
+    let same = ap (λ (t : Tail). t.number) (c.in-Ok-name_run.ensures.full c.if-named.false).tail_is in
+    on_ok_weaker c.add_header.result
+    (grows-then s s c.add_header.new.self c.args.tail.now c.name_run.new.tail c.add_header.new.tail [] [] (λ l out. out) (grows-same s s c.args.tail.now c.name_run.new.tail [] refl same)) c.add_header.ensures.places

@@ -3,9 +3,13 @@ use Rattle.std.proofs.lemmas.Result.{IfErr-weaker, on_ok_weaker}
 use Rattle.f11_files.proofs.AppendSlotsLemmas.{sound-moment, fails-zeros, mid-slots, then-for, then-last, then-index, then-given, then-within, then-reserved, then-may, then-stays, appends-header, fails-header, fails-named, appends-named}
 use Rattle.f11_files.proofs.GrowingLemmas.{breaks-stays}
 use Rattle.f11_files.proofs.ZeroedLemmas.{mid-for, mid-last, mid-given, now-full}
-use Rattle.std.proofs.Common.{[]}
 use Rattle.std.specs.List.{range_with_len}
-use Rattle.f11_files.proofs.PartsLemmas.{stands-same, stands-within, to-then}
+use Rattle.f11_files.proofs.PartsLemmas.{of-none, to-wider}
+use Rattle.f11_files.proofs.GrowthPartsLemmas.{grows-behind, grows-same, grows-then, growth-named, growth-then}
+use Rattle.std.proofs.Common.{ap}
+use Rattle.f11_files.specs.Confines.{no_header}
+use Rattle.f11_files.specs.Tail.{growth_headers}
+use Rattle.f11_files.specs.declared.tail.Tail.{Tail}
 use Rattle.f11_files.proofs.structure.Structure.append_slots.Goals as goal
 
 pub returns-in-Err-clause-refused : goal.returns-in-Err-clause-refused
@@ -85,26 +89,39 @@ pub returns-clause-stays : goal.returns-clause-stays
 returns-clause-stays g c = then-stays c.args.self.now c.args.tail.now c.args.lbn c.args.count _ c.requires.is_for c.requires.last c.requires.index c.requires.within c.requires.few.0 c.requires.few.1 c.requires.spare c.requires.reserved c.requires.may
     _ c.in-Ok.ensures.zeroes _ _ (c.in-Ok-name_slots.ensures.full c.if-named.false).1 _ (c.in-Ok-name_slots.ensures.full c.if-named.false).0 c.add_index_header.ensures.stays
 
-pub returns-in-Err-name_slots-clause-confined : goal.returns-in-Err-name_slots-clause-confined
-returns-in-Err-name_slots-clause-confined g c =
-    let s = c.args.self.now in
-    let t = c.name_slots.new.self in
+pub returns-in-Err-clause-confined : goal.returns-in-Err-clause-confined
+returns-in-Err-clause-confined g c =
+    let all = growth_headers c.args.self.now c.args.tail.now in
     let run = range_with_len c.args.lbn c.args.count in
-    let first = to-then s s run [] (stands-within s s run (stands-same s)) (λ l _. refl) c.zero_run.ensures.confined c.name_slots.ensures.confined in
-    first
+    to-wider c.args.self.now all no_header run run (of-none all) (λ l out. out) c.zero_run.ensures.confined
+
+pub returns-in-Err-name_slots-clause-confined : goal.returns-in-Err-name_slots-clause-confined
+returns-in-Err-name_slots-clause-confined g c = growth-named c.args.self.now c.args.tail.now (range_with_len c.args.lbn c.args.count) c.zero_run.ensures.confined c.name_slots.ensures.confined
 
 pub returns-then-named-clause-confined : goal.returns-then-named-clause-confined
-returns-then-named-clause-confined g c =
-    let s = c.args.self.now in
-    let t = c.name_slots.new.self in
-    let run = range_with_len c.args.lbn c.args.count in
-    let first = to-then s s run [] (stands-within s s run (stands-same s)) (λ l _. refl) c.zero_run.ensures.confined c.name_slots.ensures.confined in
-    first
+returns-then-named-clause-confined g c = growth-named c.args.self.now c.args.tail.now (range_with_len c.args.lbn c.args.count) c.zero_run.ensures.confined c.name_slots.ensures.confined
+
+pub returns-then-named-clause-places : goal.returns-then-named-clause-places
+returns-then-named-clause-places g c =
+    let there = c.in-Ok-name_slots.ensures.places c.if-named.true in
+    grows-behind c.args.self.now c.name_slots.new.self c.args.tail.now c.name_slots.new.tail c.args.lbn c.args.count there.0 there.1
 
 pub returns-clause-confined : goal.returns-clause-confined
 returns-clause-confined g c =
     let s = c.args.self.now in
     let t = c.name_slots.new.self in
     let run = range_with_len c.args.lbn c.args.count in
-    let first = to-then s s run [] (stands-within s s run (stands-same s)) (λ l _. refl) c.zero_run.ensures.confined c.name_slots.ensures.confined in
-    to-then s t run run c.in-Ok-name_slots.ensures.places (λ l out. out) first c.add_index_header.ensures.confined
+    let full = c.in-Ok-name_slots.ensures.full c.if-named.false in
+    let same = ap (λ (x : Tail). x.number) full.1.tail_is in
+    growth-then s t c.args.tail.now c.name_slots.new.tail run run (grows-same s t c.args.tail.now c.name_slots.new.tail run full.0 same) (λ l out. out)
+    (growth-named s c.args.tail.now run c.zero_run.ensures.confined c.name_slots.ensures.confined) c.add_index_header.ensures.confined
+
+pub returns-clause-places : goal.returns-clause-places
+returns-clause-places g c =
+    let s = c.args.self.now in
+    let t = c.name_slots.new.self in
+    let run = range_with_len c.args.lbn c.args.count in
+    let full = c.in-Ok-name_slots.ensures.full c.if-named.false in
+    let same = ap (λ (x : Tail). x.number) full.1.tail_is in
+    on_ok_weaker c.add_index_header.result
+    (grows-then s t c.add_index_header.new.self c.args.tail.now c.name_slots.new.tail c.add_index_header.new.tail run run (λ l out. out) (grows-same s t c.args.tail.now c.name_slots.new.tail run full.0 same)) c.add_index_header.ensures.places

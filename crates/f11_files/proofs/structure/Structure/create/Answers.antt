@@ -7,6 +7,8 @@ use Rattle.f11_files.proofs.AnswerLemmas.{right-cause, right-fault, reads-looked
 use Rattle.f11_files.proofs.CreateLemmas.{none-free, fails-first, fails-first-stays, fails-bit, fails-bit-stays, creates, created-stays}
 use Rattle.f11_files.proofs.WriteLemmas.{fails-unread}
 use Rattle.f11_files.proofs.PartsLemmas.{bit-went, parts-looked, parts-then, slot-failed, slot-wrote, stands-same}
+use Rattle.f11_files.proofs.GrowthPartsLemmas.{unused-new}
+use Rattle.f11_files.specs.Confines.{new_header}
 use Rattle.f11_files.proofs.structure.Structure.create.Goals as goal
 
 pub returns-in_default-clause-refused : goal.returns-in_default-clause-refused
@@ -61,21 +63,27 @@ returns-in-Err-write-clause-confined g c =
     let s = c.args.self.now in
     let least = c.in-Some.ensures in
     let some : 0 < c.in-Some.number = omega (arith, least.low) in
-    let read = parts-looked s (looked_read _ _ c.in-Ok.ensures.reads.counts) in
-    parts-then s s (stands-same s) read (slot-failed s c.in-Some.number _ _ _ _ some least.high c.lbn_of_header-lbn.ensures c.in-Err-write.ensures.writes.err)
+    let new = new_header (index_in s) in
+    let may = unused-new (index_in s) c.in-Some.number some least.high least.unused in
+    let read = parts-looked s new (looked_read _ _ c.in-Ok.ensures.reads.counts) in
+    parts-then s s new (stands-same s) read (slot-failed s new c.in-Some.number _ _ _ _ may some least.high c.lbn_of_header-lbn.ensures c.in-Err-write.ensures.writes.err)
 
 pub returns-in-Ok-set-clause-confined : goal.returns-in-Ok-set-clause-confined
 returns-in-Ok-set-clause-confined g c =
     let s = c.args.self.now in
     let least = c.in-Some.ensures in
     let some : 0 < c.in-Some.number = omega (arith, least.low) in
-    let read = parts-looked s (looked_read _ _ c.in-Ok.ensures.reads.counts) in
-    parts-then s s (stands-same s) (parts-then s s (stands-same s) read (slot-wrote s c.in-Some.number _ _ _ _ some least.high c.lbn_of_header-lbn.ensures c.in-Ok-write.ensures.writes.ok)) (bit-went s true c.in-Some.number some least.high c.in-Ok-set.ensures.done.went)
+    let new = new_header (index_in s) in
+    let may = unused-new (index_in s) c.in-Some.number some least.high least.unused in
+    let read = parts-looked s new (looked_read _ _ c.in-Ok.ensures.reads.counts) in
+    parts-then s s new (stands-same s) (parts-then s s new (stands-same s) read (slot-wrote s new c.in-Some.number _ _ _ _ may some least.high c.lbn_of_header-lbn.ensures c.in-Ok-write.ensures.writes.ok)) (bit-went s new true c.in-Some.number some least.high c.in-Ok-set.ensures.done.went)
 
 pub returns-in-Err-set-clause-confined : goal.returns-in-Err-set-clause-confined
 returns-in-Err-set-clause-confined g c =
     let s = c.args.self.now in
     let least = c.in-Some.ensures in
     let some : 0 < c.in-Some.number = omega (arith, least.low) in
-    let read = parts-looked s (looked_read _ _ c.in-Ok.ensures.reads.counts) in
-    parts-then s s (stands-same s) (parts-then s s (stands-same s) read (slot-wrote s c.in-Some.number _ _ _ _ some least.high c.lbn_of_header-lbn.ensures c.in-Ok-write.ensures.writes.ok)) (bit-went s true c.in-Some.number some least.high c.in-Err-set.ensures.failed)
+    let new = new_header (index_in s) in
+    let may = unused-new (index_in s) c.in-Some.number some least.high least.unused in
+    let read = parts-looked s new (looked_read _ _ c.in-Ok.ensures.reads.counts) in
+    parts-then s s new (stands-same s) (parts-then s s new (stands-same s) read (slot-wrote s new c.in-Some.number _ _ _ _ may some least.high c.lbn_of_header-lbn.ensures c.in-Ok-write.ensures.writes.ok)) (bit-went s new true c.in-Some.number some least.high c.in-Err-set.ensures.failed)

@@ -1,10 +1,14 @@
-use Rattle.std.proofs.Common.{◌≡◌, ◌⊎◌, ◌<◌, ◌≤◌, ◌∙◌, ℕ, Err, inl, inr, refl, ap, arith}
+use Rattle.std.proofs.Common.{◌≡◌, ◌⊎◌, ◌<◌, ◌≤◌, ◌∙◌, ℕ, [], Err, inl, inr, refl, ap, arith}
 use Rattle.f11_chain.specs.Calls.{FindsLast, ReadsNext}
-use Rattle.f11_files.specs.Structure.{index_in}
+use Rattle.f11_index.specs.Table.{table_of}
+use Rattle.f11_store.specs.Changes.{is_in}
+use Rattle.f11_files.specs.Confines.{only_header}
+use Rattle.f11_files.specs.Drops.{headers_behind}
+use Rattle.f11_files.specs.Structure.{home_of, index_in}
 use Rattle.f11_files.proofs.AnswerLemmas.{handed}
 use Rattle.f11_files.proofs.FreeingLemmas.{broken-stays, handed-stays}
-use Rattle.f11_files.proofs.DroppingLemmas.{dropping-none, dropped-all, dropped-stays, no-next, read-for, may-next, next-breaks, dropping-next}
-use Rattle.f11_files.proofs.PartsLemmas.{next-parts, parts-looked, parts-none, parts-stay, parts-then, stands-same, stands-then}
+use Rattle.f11_files.proofs.DroppingLemmas.{dropping-none, dropped-all, dropped-stays, no-next, read-for, may-next, next-breaks, next-listed, dropping-next}
+use Rattle.f11_files.proofs.PartsLemmas.{next-parts, of-only, parts-behind, parts-none, parts-stay, parts-then, stands-same, stands-then, to-parts}
 use Rattle.f11_files.proofs.structure.Structure.drop_behind.Goals as goal
 
 -- there are no more segments than headers that a file may have
@@ -13,7 +17,7 @@ never counter segment passed (inl none) all = omega (arith, none, all)
 never counter segment passed (inr few) all = omega (arith, passed, few, all)
 
 pub loop-init : goal.loop-init
-loop-init g c = record { dropping = dropping-none c.args.self.now c.args.block.now _ c.requires.is_for c.requires.header c.requires.hangs; confined = parts-none c.args.self.now _; places = stands-same c.args.self.now; passed = omega arith; early = inl refl }
+loop-init g c = record { dropping = dropping-none c.args.self.now c.args.block.now _ c.requires.is_for c.requires.header c.requires.hangs; confined = λ _. parts-none c.args.self.now _ _; places = stands-same c.args.self.now; passed = omega arith; early = inl refl }
 
 pub next-requires-clause-header : goal.next-requires-clause-header
 next-requires-clause-header g c = c.loop.invariant.dropping.holds
@@ -62,7 +66,11 @@ loop-preserved g c =
     let reads : ReadsNext (index_in c.loop.self) c.in-Ok-Some.n c.loop.block c.next.new.block (g.D.Device.disk c.loop.device) (g.D.Device.disk c.next.new.device) = rw c.in-Ok-Some.field-0-is at c.in-Ok-Some.ensures.reads in
     record {
       dropping = dropping-next _ c.loop.self _ _ _ _ c.loop.invariant.dropping _ _ _ reads _ _ c.in_ok-drop_header.ensures.dropped (rw c.in_ok-drop_header.was at c.drop_header.ensures.stays) (g.met.D.Device.is_image c.drop_header.new.device);
-      confined = parts-then c.args.self.now c.loop.self c.loop.invariant.places c.loop.invariant.confined (parts-then c.loop.self c.loop.self (stands-same c.loop.self) (parts-looked c.loop.self reads.looked) c.drop_header.ensures.confined);
+      confined = λ honest.
+          let all = is_in (headers_behind (table_of (g.D.Device.disk c.args.device.now).image (home_of c.args.self.now)) c.args.block.now) in
+          let listed = next-listed _ c.loop.self _ _ _ _ c.loop.invariant.dropping _ _ _ reads honest in
+          parts-then c.args.self.now c.loop.self all c.loop.invariant.places (c.loop.invariant.confined honest)
+          (parts-behind c.loop.self all reads.looked (to-parts c.loop.self all (only_header c.in-Ok-Some.n) [] (of-only all c.in-Ok-Some.n listed) c.drop_header.ensures.confined));
       places = stands-then c.args.self.now c.loop.self c.drop_header.new.self c.loop.invariant.places c.in_ok-drop_header.ensures.places;
       passed = let before = c.loop.invariant.passed in omega (arith, reads.segment, before);
       early = inr (omega (arith, reads.segment, reads.not_last));
@@ -75,18 +83,28 @@ pub returns-clause-stays : goal.returns-clause-stays
 returns-clause-stays g c = absurd (never c.loop.counter _ c.loop.invariant.passed c.loop.invariant.early (omega (arith, c.loop-test.false)))
 
 pub returns-in-Ok-None-clause-confined : goal.returns-in-Ok-None-clause-confined
-returns-in-Ok-None-clause-confined g c = parts-then c.args.self.now c.loop.self c.loop.invariant.places c.loop.invariant.confined (let last : FindsLast c.loop.block c.next.new.block (g.D.Device.disk c.loop.device) (g.D.Device.disk c.next.new.device) = rw c.in-Ok-None.field-0-is at c.in-Ok-None.ensures.last in parts-stay c.loop.self last.disk_stays)
+returns-in-Ok-None-clause-confined g c = λ honest.
+    let last : FindsLast c.loop.block c.next.new.block (g.D.Device.disk c.loop.device) (g.D.Device.disk c.next.new.device) = rw c.in-Ok-None.field-0-is at c.in-Ok-None.ensures.last in
+    let all = is_in (headers_behind (table_of (g.D.Device.disk c.args.device.now).image (home_of c.args.self.now)) c.args.block.now) in
+    parts-then c.args.self.now c.loop.self all c.loop.invariant.places (c.loop.invariant.confined honest) (parts-stay c.loop.self all last.disk_stays)
 
 pub returns-in-Ok-None-clause-places : goal.returns-in-Ok-None-clause-places
 returns-in-Ok-None-clause-places g c = c.loop.invariant.places
 
 pub returns-in_err-drop_header-clause-confined : goal.returns-in_err-drop_header-clause-confined
-returns-in_err-drop_header-clause-confined g c =
+returns-in_err-drop_header-clause-confined g c = λ honest.
     let reads : ReadsNext (index_in c.loop.self) c.in-Ok-Some.n c.loop.block c.next.new.block (g.D.Device.disk c.loop.device) (g.D.Device.disk c.next.new.device) = rw c.in-Ok-Some.field-0-is at c.in-Ok-Some.ensures.reads in
-    parts-then c.args.self.now c.loop.self c.loop.invariant.places c.loop.invariant.confined (parts-then c.loop.self c.loop.self (stands-same c.loop.self) (parts-looked c.loop.self reads.looked) c.drop_header.ensures.confined)
+    let all = is_in (headers_behind (table_of (g.D.Device.disk c.args.device.now).image (home_of c.args.self.now)) c.args.block.now) in
+    let listed = next-listed _ c.loop.self _ _ _ _ c.loop.invariant.dropping _ _ _ reads honest in
+    parts-then c.args.self.now c.loop.self all c.loop.invariant.places (c.loop.invariant.confined honest)
+    (parts-behind c.loop.self all reads.looked (to-parts c.loop.self all (only_header c.in-Ok-Some.n) [] (of-only all c.in-Ok-Some.n listed) c.drop_header.ensures.confined))
 
 pub returns-in-Err-clause-confined : goal.returns-in-Err-clause-confined
-returns-in-Err-clause-confined g c =
+returns-in-Err-clause-confined g c = λ honest.
     let next = c.in-Err.ensures in
-    parts-then c.args.self.now c.loop.self c.loop.invariant.places c.loop.invariant.confined
-    (next-parts c.loop.self _ _ _ c.in-Err.fault (λ is. next.no_end (ap Err is)) (λ is. next.damaged (ap Err is)) (λ is. next.failed (ap Err is)))
+    let all = is_in (headers_behind (table_of (g.D.Device.disk c.args.device.now).image (home_of c.args.self.now)) c.args.block.now) in
+    parts-then c.args.self.now c.loop.self all c.loop.invariant.places (c.loop.invariant.confined honest)
+    (next-parts c.loop.self all _ _ _ c.in-Err.fault (λ is. next.no_end (ap Err is)) (λ is. next.damaged (ap Err is)) (λ is. next.failed (ap Err is)))
+
+pub returns-clause-confined : goal.returns-clause-confined
+returns-clause-confined g c = absurd (never c.loop.counter _ c.loop.invariant.passed c.loop.invariant.early (omega (arith, c.loop-test.false)))

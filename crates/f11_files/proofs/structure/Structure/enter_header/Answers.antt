@@ -5,7 +5,9 @@ use Rattle.f11_index.proofs.InUseLemmas.{header-within}
 use Rattle.f11_files.specs.Structure.{index_in}
 use Rattle.f11_files.proofs.EnterLemmas.{none-free, fails-read, fails-first, fails-bit, enters-header, entered-stays}
 use Rattle.f11_files.proofs.GrowingLemmas.{taking-stays}
-use Rattle.f11_files.proofs.PartsLemmas.{bit-alike, bit-went, parts-looked, parts-then, slot-failed, slot-wrote, stands-same}
+use Rattle.f11_files.proofs.PartsLemmas.{bit-went, parts-looked, parts-then, slot-failed, slot-wrote, stands-same}
+use Rattle.f11_files.proofs.GrowthPartsLemmas.{unused-new}
+use Rattle.f11_files.specs.Confines.{new_header}
 use Rattle.f11_files.proofs.structure.Structure.enter_header.Goals as goal
 
 pub returns-in_default-clause-refused : goal.returns-in_default-clause-refused
@@ -70,24 +72,36 @@ returns-in-Err-write-clause-confined g c =
     let s = c.args.self.now in
     let least = c.in-Some.ensures in
     let some : 0 < c.in-Some.number = omega (arith, least.low) in
-    let read = parts-looked s (looked_read _ _ c.in-Ok.ensures.reads.counts) in
-    parts-then s s (stands-same s) read (slot-failed s c.in-Some.number _ _ _ _ some least.high c.lbn_of_header-at.ensures c.in-Err-write.ensures.writes.err)
+    let new = new_header (index_in s) in
+    let may = unused-new (index_in s) c.in-Some.number some least.high least.unused in
+    let read = parts-looked s new (looked_read _ _ c.in-Ok.ensures.reads.counts) in
+    parts-then s s new (stands-same s) read (slot-failed s new c.in-Some.number _ _ _ _ may some least.high c.lbn_of_header-at.ensures c.in-Err-write.ensures.writes.err)
 
 pub returns-in-Ok-set-clause-confined : goal.returns-in-Ok-set-clause-confined
 returns-in-Ok-set-clause-confined g c =
     let s = c.args.self.now in
     let least = c.in-Some.ensures in
     let some : 0 < c.in-Some.number = omega (arith, least.low) in
-    let read = parts-looked s (looked_read _ _ c.in-Ok.ensures.reads.counts) in
-    parts-then s s (stands-same s) (parts-then s s (stands-same s) read (slot-wrote s c.in-Some.number _ _ _ _ some least.high c.lbn_of_header-at.ensures c.in-Ok-write.ensures.writes.ok)) (bit-went s true c.in-Some.number some least.high c.in-Ok-set.ensures.done.went)
+    let new = new_header (index_in s) in
+    let may = unused-new (index_in s) c.in-Some.number some least.high least.unused in
+    let read = parts-looked s new (looked_read _ _ c.in-Ok.ensures.reads.counts) in
+    parts-then s s new (stands-same s) (parts-then s s new (stands-same s) read (slot-wrote s new c.in-Some.number _ _ _ _ may some least.high c.lbn_of_header-at.ensures c.in-Ok-write.ensures.writes.ok)) (bit-went s new true c.in-Some.number some least.high c.in-Ok-set.ensures.done.went)
 
 pub returns-in-Err-set-clause-confined : goal.returns-in-Err-set-clause-confined
 returns-in-Err-set-clause-confined g c =
     let s = c.args.self.now in
     let least = c.in-Some.ensures in
     let some : 0 < c.in-Some.number = omega (arith, least.low) in
-    let read = parts-looked s (looked_read _ _ c.in-Ok.ensures.reads.counts) in
-    parts-then s s (stands-same s) (parts-then s s (stands-same s) read (slot-wrote s c.in-Some.number _ _ _ _ some least.high c.lbn_of_header-at.ensures c.in-Ok-write.ensures.writes.ok)) (bit-went s true c.in-Some.number some least.high c.in-Err-set.ensures.failed)
+    let new = new_header (index_in s) in
+    let may = unused-new (index_in s) c.in-Some.number some least.high least.unused in
+    let read = parts-looked s new (looked_read _ _ c.in-Ok.ensures.reads.counts) in
+    parts-then s s new (stands-same s) (parts-then s s new (stands-same s) read (slot-wrote s new c.in-Some.number _ _ _ _ may some least.high c.lbn_of_header-at.ensures c.in-Ok-write.ensures.writes.ok)) (bit-went s new true c.in-Some.number some least.high c.in-Err-set.ensures.failed)
 
 pub returns-in-Ok-set-clause-places : goal.returns-in-Ok-set-clause-places
-returns-in-Ok-set-clause-places g c = bit-alike c.args.self.now (record c.args.self.now { index = c.set.new.self }) true c.in-Some.number c.in-Ok-set.ensures.done.bit refl
+returns-in-Ok-set-clause-places g c =
+    let least = c.in-Some.ensures in
+    record {
+      was_new = unused-new (index_in c.args.self.now) c.in-Some.number (omega (arith, least.low)) least.high least.unused;
+      bit = c.in-Ok-set.ensures.done.bit;
+      bitmap = refl;
+    }

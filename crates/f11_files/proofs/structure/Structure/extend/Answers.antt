@@ -7,7 +7,15 @@ use Rattle.f11_store.specs.Changes.{is_in}
 use Rattle.f11_vfy.specs.Volume.{volume_of}
 use Rattle.f11_files.specs.Allocation.{free_list}
 use Rattle.f11_files.specs.Structure.{home_of}
-use Rattle.f11_files.proofs.PartsLemmas.{fewer-free, parts-looked, parts-then, stands-same, stands-within, to-parts, to-then}
+use Rattle.f11_files.proofs.PartsLemmas.{fewer-free, in-one, of-only, parts-behind, stands-same, stands-within, to-parts, to-then}
+use Rattle.f11_files.proofs.GrowthPartsLemmas.{growth-of, tail-listed}
+use Rattle.std.proofs.Common.{[], refl}
+use Rattle.f11_index.specs.Headers.{headers_of}
+use Rattle.f11_index.specs.Table.{table_of}
+use Rattle.f11_files.specs.Confines.{either, new_header, only_header}
+use Rattle.f11_files.specs.Structure.{index_in}
+use Rattle.f11_files.specs.Tail.{growth_headers}
+use Rattle.f11_files.proofs.GoneLemmas.{first-listed}
 use Rattle.f11_files.proofs.structure.Structure.extend.Goals as goal
 
 pub returns-in-Err-clause-refused : goal.returns-in-Err-clause-refused
@@ -40,33 +48,51 @@ returns-clause-extended g c = (
 pub returns-in-Err-clause-confined : goal.returns-in-Err-clause-confined
 returns-in-Err-clause-confined g c = λ honest.
     let s = c.args.self.now in
-    let looked = c.in_ok-end.ensures.room.ends.looked.looked in
-    let all = free_list (volume_of (g.D.Device.disk c.args.device.now).image (home_of s)) in
-    let one = parts-then s s (stands-same s) (parts-looked s looked) c.clear_mark.ensures.confined in
-    to-parts s all one
+    let room = c.in_ok-end.ensures.room in
+    let looked = room.ends.looked.looked in
+    let listed = is_in (headers_of (table_of (g.D.Device.disk c.args.device.now).image (home_of s)) c.args.f.number) in
+    let all = either listed (new_header (index_in s)) in
+    let is = in-one listed (new_header (index_in s)) c.args.f.number (first-listed s c.args.f _ _ c.requires.is_for room.holds honest) in
+    let one = parts-behind s all looked (to-parts s all (only_header c.args.f.number) [] (of-only all c.args.f.number is) c.clear_mark.ensures.confined) in
+    let free = free_list (volume_of (g.D.Device.disk c.args.device.now).image (home_of s)) in
+    to-parts s all all free (λ n known. known) one
 
 pub returns-in_err-extend_by-clause-confined : goal.returns-in_err-extend_by-clause-confined
 returns-in_err-extend_by-clause-confined g c = λ honest.
     let s = c.args.self.now in
-    let looked = c.in_ok-end.ensures.room.ends.looked.looked in
-    let all = free_list (volume_of (g.D.Device.disk c.args.device.now).image (home_of s)) in
-    let one = parts-then s s (stands-same s) (parts-looked s looked) c.clear_mark.ensures.confined in
+    let room = c.in_ok-end.ensures.room in
+    let looked = room.ends.looked.looked in
+    let listed = is_in (headers_of (table_of (g.D.Device.disk c.args.device.now).image (home_of s)) c.args.f.number) in
+    let all = either listed (new_header (index_in s)) in
+    let is = in-one listed (new_header (index_in s)) c.args.f.number (first-listed s c.args.f _ _ c.requires.is_for room.holds honest) in
+    let one = parts-behind s all looked (to-parts s all (only_header c.args.f.number) [] (of-only all c.args.f.number is) c.clear_mark.ensures.confined) in
+    let free = free_list (volume_of (g.D.Device.disk c.args.device.now).image (home_of s)) in
     let clears = c.in-Ok.ensures.clears in
     let now = g.D.Device.disk c.clear_mark.new.device in
-    let is = clears.went.honest ∙ looked.honest ∙ honest in
-    let fewer : (l : ℕ) → is_in all l ≡ false → is_in (free_list (volume_of now.image (home_of s))) l ≡ false =
-    fewer-free all (free_list (volume_of now.image (home_of s))) 0 ((clears.gains (looked.honest ∙ honest)).free ∙ ap (λ (i : Image). free_list (volume_of i (home_of s))) looked.image) in
-    to-then s s all (free_list (volume_of now.image (home_of s))) (stands-within s s all (stands-same s)) fewer (to-parts s all one) (c.extend_by.ensures.confined is)
+    let left = free_list (volume_of now.image (home_of s)) in
+    let sure = clears.went.honest ∙ looked.honest ∙ honest in
+    let fewer : (l : ℕ) → is_in free l ≡ false → is_in left l ≡ false =
+    fewer-free free left 0 ((clears.gains (looked.honest ∙ honest)).free ∙ ap (λ (i : Image). free_list (volume_of i (home_of s))) looked.image) in
+    let last = tail-listed s c.args.f c.args.n _ _ _ _ _ _ _ c.requires.is_for room c.tail_of-tail.ensures.tail honest in
+    let more = growth-of s s listed c.tail_of-tail.result last refl in
+    to-then s s all (growth_headers s c.tail_of-tail.result) free left (stands-within s s all (growth_headers s c.tail_of-tail.result) free more (stands-same s)) fewer (to-parts s all all free (λ n known. known) one) (c.extend_by.ensures.confined sure)
 
 pub returns-clause-confined : goal.returns-clause-confined
 returns-clause-confined g c = λ honest.
     let s = c.args.self.now in
-    let looked = c.in_ok-end.ensures.room.ends.looked.looked in
-    let all = free_list (volume_of (g.D.Device.disk c.args.device.now).image (home_of s)) in
-    let one = parts-then s s (stands-same s) (parts-looked s looked) c.clear_mark.ensures.confined in
+    let room = c.in_ok-end.ensures.room in
+    let looked = room.ends.looked.looked in
+    let listed = is_in (headers_of (table_of (g.D.Device.disk c.args.device.now).image (home_of s)) c.args.f.number) in
+    let all = either listed (new_header (index_in s)) in
+    let is = in-one listed (new_header (index_in s)) c.args.f.number (first-listed s c.args.f _ _ c.requires.is_for room.holds honest) in
+    let one = parts-behind s all looked (to-parts s all (only_header c.args.f.number) [] (of-only all c.args.f.number is) c.clear_mark.ensures.confined) in
+    let free = free_list (volume_of (g.D.Device.disk c.args.device.now).image (home_of s)) in
     let clears = c.in-Ok.ensures.clears in
     let now = g.D.Device.disk c.clear_mark.new.device in
-    let is = clears.went.honest ∙ looked.honest ∙ honest in
-    let fewer : (l : ℕ) → is_in all l ≡ false → is_in (free_list (volume_of now.image (home_of s))) l ≡ false =
-    fewer-free all (free_list (volume_of now.image (home_of s))) 0 ((clears.gains (looked.honest ∙ honest)).free ∙ ap (λ (i : Image). free_list (volume_of i (home_of s))) looked.image) in
-    to-then s s all (free_list (volume_of now.image (home_of s))) (stands-within s s all (stands-same s)) fewer (to-parts s all one) (c.extend_by.ensures.confined is)
+    let left = free_list (volume_of now.image (home_of s)) in
+    let sure = clears.went.honest ∙ looked.honest ∙ honest in
+    let fewer : (l : ℕ) → is_in free l ≡ false → is_in left l ≡ false =
+    fewer-free free left 0 ((clears.gains (looked.honest ∙ honest)).free ∙ ap (λ (i : Image). free_list (volume_of i (home_of s))) looked.image) in
+    let last = tail-listed s c.args.f c.args.n _ _ _ _ _ _ _ c.requires.is_for room c.tail_of-tail.ensures.tail honest in
+    let more = growth-of s s listed c.tail_of-tail.result last refl in
+    to-then s s all (growth_headers s c.tail_of-tail.result) free left (stands-within s s all (growth_headers s c.tail_of-tail.result) free more (stands-same s)) fewer (to-parts s all all free (λ n known. known) one) (c.extend_by.ensures.confined sure)

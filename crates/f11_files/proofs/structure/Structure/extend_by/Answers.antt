@@ -9,14 +9,17 @@ use Rattle.f11_store.specs.Changes.{is_in}
 use Rattle.f11_vfy.specs.Volume.{volume_of}
 use Rattle.f11_files.specs.Allocation.{free_list}
 use Rattle.f11_files.specs.Structure.{home_of}
-use Rattle.f11_files.proofs.PartsLemmas.{fewer-free, parts-none, stands-same, stands-then, stands-within, to-parts, to-then}
+use Rattle.f11_files.proofs.PartsLemmas.{fewer-free, parts-none, to-parts}
+use Rattle.f11_files.proofs.GrowthPartsLemmas.{grows-then, growth-then}
+use Rattle.std.proofs.Common.{[], refl}
+use Rattle.f11_files.specs.Tail.{growth_headers}
 use Rattle.f11_files.proofs.structure.Structure.extend_by.Goals as goal
 
 pub loop-left-init : goal.loop-left-init
 loop-left-init g c = record {
   extending = extending-none c.args.self.now c.args.tail.now c.args.n _ c.requires.is_for c.requires.last c.requires.may;
-  confined = λ _. to-parts c.args.self.now _ (parts-none c.args.self.now _);
-  places = stands-same c.args.self.now;
+  confined = λ _. to-parts c.args.self.now _ (growth_headers c.args.self.now c.args.tail.now) _ (λ n is. is) (parts-none c.args.self.now (growth_headers c.args.self.now c.args.tail.now) _);
+  places = λ l none _. none;
 }
 
 pub add_run-requires-clause-is_for : goal.add_run-requires-clause-is_for
@@ -56,8 +59,8 @@ loop-left-preserved g c = record {
       let same : left ≡ free_list (volume_of now.image (home_of s)) = ap (λ (h : HomeFields). free_list (volume_of now.image h)) c.loop-left.invariant.extending.stays.home in
       let fewer : (l : ℕ) → is_in all l ≡ false → is_in left l ≡ false = fewer-free all left c.loop-left.invariant.extending.done (same ∙ (c.loop-left.invariant.extending.gains honest).free) in
       let is : IsTrue now.honest = c.loop-left.invariant.extending.grew.went.honest ∙ honest in
-      to-then s t all left (stands-within s t all c.loop-left.invariant.places) fewer (c.loop-left.invariant.confined honest) (c.add_run.ensures.confined is);
-  places = stands-then c.args.self.now c.loop-left.self c.add_run.new.self c.loop-left.invariant.places c.in_ok-end.ensures.places;
+      growth-then s t c.args.tail.now c.loop-left.tail all left (λ l none _. c.loop-left.invariant.places l none refl) fewer (c.loop-left.invariant.confined honest) (c.add_run.ensures.confined is);
+  places = grows-then c.args.self.now c.loop-left.self c.add_run.new.self c.args.tail.now c.loop-left.tail c.add_run.new.tail [] [] (λ l out. out) c.loop-left.invariant.places c.in_ok-end.ensures.places;
 }
 
 pub returns-clause-extended : goal.returns-clause-extended
@@ -76,7 +79,7 @@ returns-in_err-end-clause-confined g c = λ honest.
     let same : left ≡ free_list (volume_of now.image (home_of s)) = ap (λ (h : HomeFields). free_list (volume_of now.image h)) c.loop-left.invariant.extending.stays.home in
     let fewer : (l : ℕ) → is_in all l ≡ false → is_in left l ≡ false = fewer-free all left c.loop-left.invariant.extending.done (same ∙ (c.loop-left.invariant.extending.gains honest).free) in
     let is : IsTrue now.honest = c.loop-left.invariant.extending.grew.went.honest ∙ honest in
-    to-then s t all left (stands-within s t all c.loop-left.invariant.places) fewer (c.loop-left.invariant.confined honest) (c.add_run.ensures.confined is)
+    growth-then s t c.args.tail.now c.loop-left.tail all left (λ l none _. c.loop-left.invariant.places l none refl) fewer (c.loop-left.invariant.confined honest) (c.add_run.ensures.confined is)
 
 pub returns-clause-confined : goal.returns-clause-confined
 returns-clause-confined g c = c.loop-left.invariant.confined

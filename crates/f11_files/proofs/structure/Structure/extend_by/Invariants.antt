@@ -1,7 +1,8 @@
-use Rattle.std.proofs.Common.{IsTrue}
+use Rattle.std.proofs.Common.{IsTrue, []}
 use Rattle.f11_vfy.specs.Volume.{volume_of}
 use Rattle.f11_files.specs.Allocation.{free_list}
-use Rattle.f11_files.specs.Structure.{home_of, ConfinesTo, StandsAlike}
+use Rattle.f11_files.specs.Structure.{home_of}
+use Rattle.f11_files.specs.Tail.{GrowsWithin, WritesGrowth}
 use Rattle.f11_files.proofs.ExtendByLemmas.{Extending}
 use Rattle.f11_files.proofs.structure.Structure.extend_by.Given as goal
 
@@ -9,8 +10,8 @@ use Rattle.f11_files.proofs.structure.Structure.extend_by.Given as goal
 abbrev pub invariant-loop-left : goal.invariant-loop-left
 invariant-loop-left g l = record {
   extending : Extending l.fn.self l.self l.fn.tail l.tail l.n l.from l.left (g.D.Device.disk l.fn.device) (g.D.Device.disk l.device);
-  confined : IsTrue (g.D.Device.disk l.fn.device).honest → ConfinesTo l.fn.self (free_list (volume_of (g.D.Device.disk l.fn.device).image (home_of l.fn.self))) (g.D.Device.disk l.fn.device) (g.D.Device.disk l.device);
-  places : StandsAlike l.fn.self l.self;
+  confined : IsTrue (g.D.Device.disk l.fn.device).honest → WritesGrowth l.fn.self l.fn.tail (free_list (volume_of (g.D.Device.disk l.fn.device).image (home_of l.fn.self))) (g.D.Device.disk l.fn.device) (g.D.Device.disk l.device);
+  places : GrowsWithin l.fn.self l.fn.tail [] l.self l.tail;
 }
 
 abbrev pub decreases-loop-left : goal.decreases-loop-left

@@ -8,6 +8,7 @@ use Rattle.f11_files.proofs.AnswerLemmas.{handed}
 use Rattle.f11_files.proofs.FreeingLemmas.{broken-stays, handed-stays}
 use Rattle.f11_files.proofs.GivingLemmas.{giving-none, giving-at, giving-end, next-spare, giving-breaks, giving-next, giving-done, giving-stays}
 use Rattle.f11_files.proofs.PartsLemmas.{parts-none, parts-then, stands-same, stands-then}
+use Rattle.f11_files.specs.Confines.{no_header}
 use Rattle.f11_files.proofs.structure.Structure.give_from.Goals as goal
 
 -- a pointer, and how many there are
@@ -21,7 +22,7 @@ pub loop-i-init : goal.loop-i-init
 unfolding blocks_named
 loop-i-init g c = record {
   giving = giving-none c.args.self.now _ _ c.requires.is_for c.requires.spare;
-  confined = parts-none c.args.self.now _;
+  confined = parts-none c.args.self.now no_header _;
   places = stands-same c.args.self.now;
 }
 
@@ -54,7 +55,7 @@ loop-i-preserved g c = record {
       giving-next _ _ _ _ _ _ _ _ _
       (giving-at _ _ _ _ c.run-lbn.result (run-at _ c.args.block.now _ _ c.map-map.ensures c.run-lbn.ensures.run) c.min-kept.ensures c.loop-i.invariant.giving) _ _
       c.in_ok-give_run.ensures.given (rw c.in_ok-give_run.was at c.give_run.ensures.stays);
-  confined = parts-then c.args.self.now c.loop-i.self c.loop-i.invariant.places c.loop-i.invariant.confined c.give_run.ensures.confined;
+  confined = parts-then c.args.self.now c.loop-i.self no_header c.loop-i.invariant.places c.loop-i.invariant.confined c.give_run.ensures.confined;
   places = stands-then c.args.self.now c.loop-i.self c.give_run.new.self c.loop-i.invariant.places c.in_ok-give_run.ensures.places;
 }
 
@@ -70,7 +71,7 @@ pub returns-clause-stays : goal.returns-clause-stays
 returns-clause-stays g c = giving-stays c.loop-i.invariant.giving
 
 pub returns-in_err-give_run-clause-confined : goal.returns-in_err-give_run-clause-confined
-returns-in_err-give_run-clause-confined g c = parts-then c.args.self.now c.loop-i.self c.loop-i.invariant.places c.loop-i.invariant.confined c.give_run.ensures.confined
+returns-in_err-give_run-clause-confined g c = parts-then c.args.self.now c.loop-i.self no_header c.loop-i.invariant.places c.loop-i.invariant.confined c.give_run.ensures.confined
 
 pub returns-clause-confined : goal.returns-clause-confined
 returns-clause-confined g c = c.loop-i.invariant.confined

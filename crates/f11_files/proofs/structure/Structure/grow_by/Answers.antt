@@ -9,13 +9,15 @@ use Rattle.f11_store.specs.Changes.{is_in}
 use Rattle.f11_vfy.specs.Volume.{volume_of}
 use Rattle.f11_files.specs.Allocation.{free_list}
 use Rattle.f11_files.specs.Structure.{home_of}
-use Rattle.f11_files.proofs.PartsLemmas.{fewer-free, parts-none, to-parts, to-then, stands-along}
+use Rattle.f11_files.proofs.PartsLemmas.{fewer-free, parts-none, to-parts}
+use Rattle.f11_files.proofs.GrowthPartsLemmas.{grows-then, growth-then}
+use Rattle.f11_files.specs.Tail.{growth_headers}
 use Rattle.f11_files.proofs.structure.Structure.grow_by.Goals as goal
 
 pub loop-left-init : goal.loop-left-init
 loop-left-init g c = record {
   growing = growing-none c.args.self.now c.args.tail.now c.args.n _ c.requires.is_for c.requires.last c.requires.index c.requires.reserved c.requires.may;
-  confined = λ _. to-parts c.args.self.now _ (parts-none c.args.self.now _);
+  confined = λ _. to-parts c.args.self.now _ (growth_headers c.args.self.now c.args.tail.now) _ (λ n is. is) (parts-none c.args.self.now (growth_headers c.args.self.now c.args.tail.now) _);
   places = λ _ l none _. none;
 }
 
@@ -56,7 +58,7 @@ loop-left-preserved g c = record {
       let same : left ≡ free_list (volume_of now.image (home_of s)) = ap (λ (h : HomeFields). free_list (volume_of now.image h)) c.loop-left.invariant.growing.stays.home in
       let fewer : (l : ℕ) → is_in all l ≡ false → is_in left l ≡ false = fewer-free all left c.loop-left.invariant.growing.done (same ∙ (c.loop-left.invariant.growing.gains honest).blocks.free) in
       let is : IsTrue now.honest = c.loop-left.invariant.growing.grew.went.honest ∙ honest in
-      to-then s t all left (c.loop-left.invariant.places honest) fewer (c.loop-left.invariant.confined honest) (c.add_slots.ensures.confined is);
+      growth-then s t c.args.tail.now c.loop-left.tail all left (c.loop-left.invariant.places honest) fewer (c.loop-left.invariant.confined honest) (c.add_slots.ensures.confined is);
   places = λ honest.
       let s = c.args.self.now in
       let t = c.loop-left.self in
@@ -66,7 +68,7 @@ loop-left-preserved g c = record {
       let same : left ≡ free_list (volume_of now.image (home_of s)) = ap (λ (h : HomeFields). free_list (volume_of now.image h)) c.loop-left.invariant.growing.stays.home in
       let fewer : (l : ℕ) → is_in all l ≡ false → is_in left l ≡ false = fewer-free all left c.loop-left.invariant.growing.done (same ∙ (c.loop-left.invariant.growing.gains honest).blocks.free) in
       let is : IsTrue now.honest = c.loop-left.invariant.growing.grew.went.honest ∙ honest in
-      stands-along s t c.add_slots.new.self all left fewer (c.loop-left.invariant.places honest) (c.in_ok-end.ensures.places is);
+      grows-then s t c.add_slots.new.self c.args.tail.now c.loop-left.tail c.add_slots.new.tail all left fewer (c.loop-left.invariant.places honest) (c.in_ok-end.ensures.places is);
 }
 
 pub returns-clause-grown : goal.returns-clause-grown
@@ -85,7 +87,7 @@ returns-in_err-end-clause-confined g c = λ honest.
     let same : left ≡ free_list (volume_of now.image (home_of s)) = ap (λ (h : HomeFields). free_list (volume_of now.image h)) c.loop-left.invariant.growing.stays.home in
     let fewer : (l : ℕ) → is_in all l ≡ false → is_in left l ≡ false = fewer-free all left c.loop-left.invariant.growing.done (same ∙ (c.loop-left.invariant.growing.gains honest).blocks.free) in
     let is : IsTrue now.honest = c.loop-left.invariant.growing.grew.went.honest ∙ honest in
-    to-then s t all left (c.loop-left.invariant.places honest) fewer (c.loop-left.invariant.confined honest) (c.add_slots.ensures.confined is)
+    growth-then s t c.args.tail.now c.loop-left.tail all left (c.loop-left.invariant.places honest) fewer (c.loop-left.invariant.confined honest) (c.add_slots.ensures.confined is)
 
 pub returns-clause-confined : goal.returns-clause-confined
 returns-clause-confined g c = c.loop-left.invariant.confined

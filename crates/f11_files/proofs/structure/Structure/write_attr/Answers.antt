@@ -5,7 +5,8 @@ use Rattle.f11_store.specs.Changes.{with_replacement}
 use Rattle.f11_files.specs.Structure.{index_in}
 use Rattle.f11_files.proofs.AlterLemmas.{alters, altered-stays, fails-alter, fails-altered}
 use Rattle.f11_files.proofs.FirstLemmas.{place-within}
-use Rattle.f11_files.proofs.PartsLemmas.{header-failed, header-wrote, parts-looked, parts-then, stands-same}
+use Rattle.f11_files.proofs.PartsLemmas.{header-failed, header-wrote, in-only, parts-behind}
+use Rattle.f11_files.specs.Confines.{only_header}
 use Rattle.f11_files.proofs.structure.Structure.write_attr.Goals as goal
 
 pub lbn_of_header-requires-clause-slot : goal.lbn_of_header-requires-clause-slot
@@ -39,11 +40,11 @@ returns-in-Err-clause-stays g c =
 pub returns-in-Ok-clause-confined : goal.returns-in-Ok-clause-confined
 returns-in-Ok-clause-confined g c =
     let found = c.in_ok-read_first.ensures.found in
-    parts-then c.args.self.now c.args.self.now (stands-same c.args.self.now) (parts-looked c.args.self.now found.looked)
-    (header-wrote c.args.self.now c.args.f.number _ _ _ _ found.holds.header.in_use c.lbn_of_header.ensures c.in-Ok.ensures.writes.ok)
+    parts-behind c.args.self.now (only_header c.args.f.number) found.looked
+    (header-wrote c.args.self.now (only_header c.args.f.number) c.args.f.number _ _ _ _ (in-only c.args.f.number) found.holds.header.in_use c.lbn_of_header.ensures c.in-Ok.ensures.writes.ok)
 
 pub returns-in-Err-clause-confined : goal.returns-in-Err-clause-confined
 returns-in-Err-clause-confined g c =
     let found = c.in_ok-read_first.ensures.found in
-    parts-then c.args.self.now c.args.self.now (stands-same c.args.self.now) (parts-looked c.args.self.now found.looked)
-    (header-failed c.args.self.now c.args.f.number _ _ _ _ found.holds.header.in_use c.lbn_of_header.ensures c.in-Err.ensures.writes.err)
+    parts-behind c.args.self.now (only_header c.args.f.number) found.looked
+    (header-failed c.args.self.now (only_header c.args.f.number) c.args.f.number _ _ _ _ (in-only c.args.f.number) found.holds.header.in_use c.lbn_of_header.ensures c.in-Err.ensures.writes.err)

@@ -4,6 +4,7 @@ use Rattle.f11_chain.specs.FileHeaders.{file_blocks}
 use Rattle.f11_index.specs.Table.{table_of}
 use Rattle.f11_files.specs.Structure.{home_of}
 use Rattle.f11_files.proofs.PartsLemmas.{at-in, other-failed, other-wrote, parts-looked, stands-same, stands-within, to-parts, to-then}
+use Rattle.f11_files.specs.Confines.{no_header}
 use Rattle.f11_files.proofs.structure.Structure.write_block.Goals as goal
 
 pub returns-in-Ok-clause-stored : goal.returns-in-Ok-clause-stored
@@ -23,13 +24,13 @@ returns-in-Ok-clause-confined g c = λ honest.
     let s = c.args.self.now in
     let found = c.in_ok-lbn.ensures.found in
     let blocks = file_blocks (table_of (g.D.Device.disk c.args.device.now).image (home_of s)) c.args.f.number in
-    to-then s s blocks blocks (stands-within s s blocks (stands-same s)) (λ l out. out) (to-parts s blocks (parts-looked s found.reads.looked))
-    (other-wrote s blocks c.in_ok-lbn.lbn _ _ _ (at-in blocks (c.args.vbn - 1) c.in_ok-lbn.lbn (found.block_is honest)) c.in-Ok.ensures.writes.ok)
+    to-then s s no_header no_header blocks blocks (stands-within s s no_header no_header blocks (λ n is. is) (stands-same s)) (λ l out. out) (to-parts s no_header no_header blocks (λ n is. is) (parts-looked s no_header found.reads.looked))
+    (other-wrote s no_header blocks c.in_ok-lbn.lbn _ _ _ (at-in blocks (c.args.vbn - 1) c.in_ok-lbn.lbn (found.block_is honest)) c.in-Ok.ensures.writes.ok)
 
 pub returns-in-Err-clause-confined : goal.returns-in-Err-clause-confined
 returns-in-Err-clause-confined g c = λ honest.
     let s = c.args.self.now in
     let found = c.in_ok-lbn.ensures.found in
     let blocks = file_blocks (table_of (g.D.Device.disk c.args.device.now).image (home_of s)) c.args.f.number in
-    to-then s s blocks blocks (stands-within s s blocks (stands-same s)) (λ l out. out) (to-parts s blocks (parts-looked s found.reads.looked))
-    (other-failed s blocks c.in_ok-lbn.lbn _ _ _ (at-in blocks (c.args.vbn - 1) c.in_ok-lbn.lbn (found.block_is honest)) c.in-Err.ensures.writes.err)
+    to-then s s no_header no_header blocks blocks (stands-within s s no_header no_header blocks (λ n is. is) (stands-same s)) (λ l out. out) (to-parts s no_header no_header blocks (λ n is. is) (parts-looked s no_header found.reads.looked))
+    (other-failed s no_header blocks c.in_ok-lbn.lbn _ _ _ (at-in blocks (c.args.vbn - 1) c.in_ok-lbn.lbn (found.block_is honest)) c.in-Err.ensures.writes.err)

@@ -2,6 +2,7 @@ use Rattle.std.proofs.Common.{◌≡◌, ◌+◌, subst, arith, ℕ}
 use Rattle.f11_bytes.proofs.ResultLemmas.{OnErr-given}
 use Rattle.std.specs.List.{range_with_len}
 use Rattle.f11_dev.specs.Disk.{Disk}
+use Rattle.f11_files.specs.Confines.{no_header}
 use Rattle.f11_files.specs.Structure.{home_of, ConfinesTo}
 use Rattle.f11_files.specs.declared.structure.Structure.{Structure}
 use Rattle.f11_files.proofs.LossLemmas.{in-run}
@@ -10,13 +11,13 @@ use Rattle.f11_files.specs.Zeros.{Zeroes}
 use Rattle.f11_files.proofs.ZeroLemmas.{zeroes-none, zeroes-more, fails-zero}
 use Rattle.f11_files.proofs.structure.Structure.zero_run.Goals as goal
 
-after : (s : Structure) (lbn count : ℕ) {a b c : Disk} → ConfinesTo s (range_with_len lbn count) a b → ConfinesTo s (range_with_len lbn count) b c → ConfinesTo s (range_with_len lbn count) a c
-after s lbn count one two = to-then s s (range_with_len lbn count) (range_with_len lbn count) (stands-within s s (range_with_len lbn count) (stands-same s)) (λ l out. out) one two
+after : (s : Structure) (lbn count : ℕ) {a b c : Disk} → ConfinesTo s no_header (range_with_len lbn count) a b → ConfinesTo s no_header (range_with_len lbn count) b c → ConfinesTo s no_header (range_with_len lbn count) a c
+after s lbn count one two = to-then s s no_header no_header (range_with_len lbn count) (range_with_len lbn count) (stands-within s s no_header no_header (range_with_len lbn count) (λ n is. is) (stands-same s)) (λ l out. out) one two
 
 pub loop-k-init : goal.loop-k-init
 loop-k-init g c = record {
   zeroes = zeroes-none (home_of c.args.self.now) c.args.lbn c.args.count (g.D.Device.disk c.args.device.now) c.requires.within c.requires.is_for.sound c.requires.spare;
-  confined = to-parts c.args.self.now (range_with_len c.args.lbn c.args.count) (parts-none c.args.self.now _);
+  confined = to-parts c.args.self.now no_header no_header (range_with_len c.args.lbn c.args.count) (λ n is. is) (parts-none c.args.self.now no_header _);
 }
 
 pub write-requires : goal.write-requires
@@ -35,7 +36,7 @@ loop-k-preserved g c =
       zeroes = zeroes-more (home_of c.args.self.now) c.args.lbn c.args.count (g.D.Device.disk c.args.device.now) c.requires.within c.requires.is_for.sound c.requires.spare
           c.loop-k.k now _ c.loop-k-test.true c.loop-k.invariant.zeroes (rw c.zeros-zeros.ensures at c.in_ok-write.ensures.writes.ok);
       confined = after c.args.self.now c.args.lbn c.args.count c.loop-k.invariant.confined
-          (other-wrote c.args.self.now (range_with_len c.args.lbn c.args.count) (c.args.lbn + c.loop-k.k) _ _ _ (in-run c.args.lbn c.args.count (c.args.lbn + c.loop-k.k) (omega arith) (omega (arith, c.loop-k-test.true))) c.in_ok-write.ensures.writes.ok);
+          (other-wrote c.args.self.now no_header (range_with_len c.args.lbn c.args.count) (c.args.lbn + c.loop-k.k) _ _ _ (in-run c.args.lbn c.args.count (c.args.lbn + c.loop-k.k) (omega arith) (omega (arith, c.loop-k-test.true))) c.in_ok-write.ensures.writes.ok);
     }
 
 pub returns-clause-zeroes : goal.returns-clause-zeroes
@@ -46,7 +47,7 @@ returns-clause-zeroes g c =
 pub returns-in_err-write-clause-confined : goal.returns-in_err-write-clause-confined
 returns-in_err-write-clause-confined g c =
     after c.args.self.now c.args.lbn c.args.count c.loop-k.invariant.confined
-    (other-failed c.args.self.now (range_with_len c.args.lbn c.args.count) (c.args.lbn + c.loop-k.k) _ _ _ (in-run c.args.lbn c.args.count (c.args.lbn + c.loop-k.k) (omega arith) (omega (arith, c.loop-k-test.true))) c.in_err-write.ensures.writes.err)
+    (other-failed c.args.self.now no_header (range_with_len c.args.lbn c.args.count) (c.args.lbn + c.loop-k.k) _ _ _ (in-run c.args.lbn c.args.count (c.args.lbn + c.loop-k.k) (omega arith) (omega (arith, c.loop-k-test.true))) c.in_err-write.ensures.writes.err)
 
 pub returns-clause-confined : goal.returns-clause-confined
 returns-clause-confined g c = c.loop-k.invariant.confined

@@ -1,4 +1,5 @@
 use Rattle.std.specs.List.{range_with_len}
+use Rattle.f11_files.specs.Confines.{no_header}
 use Rattle.f11_files.specs.Structure.{home_of, ConfinesTo}
 use Rattle.f11_files.specs.Zeros.{Zeroes}
 use Rattle.f11_files.proofs.structure.Structure.zero_run.Given as goal
@@ -7,5 +8,5 @@ use Rattle.f11_files.proofs.structure.Structure.zero_run.Given as goal
 abbrev pub invariant-loop-k : goal.invariant-loop-k
 invariant-loop-k g l = record {
   zeroes : Zeroes (home_of l.fn.self) l.lbn l.k (g.D.Device.disk l.fn.device) (g.D.Device.disk l.device);
-  confined : ConfinesTo l.fn.self (range_with_len l.lbn l.count) (g.D.Device.disk l.fn.device) (g.D.Device.disk l.device);
+  confined : ConfinesTo l.fn.self no_header (range_with_len l.lbn l.count) (g.D.Device.disk l.fn.device) (g.D.Device.disk l.device);
 }
