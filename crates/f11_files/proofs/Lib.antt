@@ -52,6 +52,7 @@ pub mod IndexPieceLemmas
 pub mod IndexPieceLagLemmas
 pub mod GrowingLemmas
 pub mod GrowthPartsLemmas
+pub mod SparedLemmas
 pub mod TakeLemmas
 pub mod ExtensionBlockLemmas
 pub mod EnterLemmas

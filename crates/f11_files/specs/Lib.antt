@@ -3,6 +3,7 @@ pub mod StoreLaws
 pub mod SlotLaws
 pub mod FileLaws
 pub mod Confines
+pub mod ConfinesLaws
 pub mod Structure
 pub mod Open
 pub mod Allocation

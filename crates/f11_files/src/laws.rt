@@ -1,5 +1,6 @@
 //! Laws of the store of an image, each the contract of a function that does nothing.
 ghost use Rattle.f11_files.specs.AllocationLaws as allocation;
+ghost use Rattle.f11_files.specs.ConfinesLaws as confines;
 ghost use Rattle.f11_files.specs.ExtensionLaws as extensions;
 ghost use Rattle.f11_files.specs.FieldLaws as fields;
 ghost use Rattle.f11_files.specs.FileLaws as files;
@@ -159,4 +160,14 @@ pub fn allocation()
     ensures files { allocation.FileBlocksAreNamed }
     ensures gains { allocation.GainsAdd }
     ensures free { allocation.FreeBlocksAreStored }
+{}
+
+/// Which blocks of a sound volume calls don't write on their own account.
+pub fn spared_blocks()
+    ensures boot { confines.BootBlockIsSpared }
+    ensures home { confines.HomeBlockIsSpared }
+    ensures control { confines.ControlBlockIsSpared }
+    ensures file { confines.FileBlockIsSpared }
+    ensures unnamed { confines.UnnamedBlockIsSpared }
+    ensures behind { confines.BlockBehindIsSpared }
 {}
