@@ -113,7 +113,7 @@ pub record FailsToWrite (failed : Bool) (causes : List Cause) (most : ℕ) (work
   pub writes : Writes (Meanwhile (work_if (first_of causes) work) home old) most old new (faults_of refusal)
   pub unchanged : is_grave refusal ≡ false → Reads most old new 0
 
--- Where the disk is honest, no block was written but these headers, the index bitmap, the storage bitmap, and these: each image that stood
+-- Where the disk is honest, no block was changed but these headers, the index bitmap, the storage bitmap, and these: each image that stood
 -- meanwhile spares all others.
 abbrev pub WritesOnly : (ℕ → Bool) → List ℕ → HomeFields → Disk → Disk → Type 0
 WritesOnly headers others home old new =
@@ -123,7 +123,7 @@ WritesOnly headers others home old new =
 abbrev pub WritesFirstOf : FileId → HomeFields → Disk → Disk → Type 0
 WritesFirstOf f home old new = WritesOnly (only_header f.number) [] home old new
 
--- of headers, those of file f
+-- of headers, those of file f, where there is one
 abbrev pub WritesHeadersOf : FileId → HomeFields → Disk → Disk → Type 0
 WritesHeadersOf f home old new = WritesOnly (is_in (headers_of (table_of old.image home) f.number)) [] home old new
 

@@ -1,4 +1,4 @@
--- Which blocks calls on files write: those of the volume's structure, and others that are told (Files-11 On-Disk Structure Level 1, "Index File"
+-- Which blocks calls on files change: those of the volume's structure, and others that are told (Files-11 On-Disk Structure Level 1, "Index File"
 -- and "Storage Bitmap File").
 use Rattle.std.specs.Prelude.{◌≡◌, ◌≢◌, ℕ, ◌+◌, ◌<◌, ◌≤◌, ◌==◌, ◌||◌, Bool, true, false, not, List, ◌++◌, All, length, slice_index}
 use Rattle.std.specs.List.{slice_get}
@@ -9,7 +9,7 @@ use Rattle.f11_dev.specs.Went.{newest}
 use Rattle.f11_index.specs.IndexFile.{Index, slots, slot_bit, header_lbn}
 use Rattle.f11_store.specs.Changes.{is_in}
 
--- A call may write the headers that a test tells by their numbers: none,
+-- A call may change the headers that a test tells by their numbers: none,
 abbrev pub no_header : ℕ → Bool
 no_header n = false
 
@@ -25,7 +25,7 @@ new_header index n = not (slot_bit index n)
 abbrev pub either : (ℕ → Bool) → (ℕ → Bool) → ℕ → Bool
 either one other n = one n || other n
 
--- A block is none of those that a call writes on its own account: none of these headers, and none of the index bitmap or of the storage
+-- A block is none of those that a call changes on its own account: none of these headers, and none of the index bitmap or of the storage
 -- bitmap.
 pub record IsNoPart (headers : ℕ → Bool) (index : Index) (bitmap : Bitmap) (lbn : ℕ) : Type 0 where
   pub header : (n : ℕ) → headers n ≡ true → 0 < n → n ≤ slots index → header_lbn index n ≢ lbn
@@ -37,7 +37,7 @@ abbrev pub Spares : (ℕ → Bool) → Index → Bitmap → List ℕ → Image �
 Spares headers index bitmap others old image =
     (lbn : ℕ) → IsNoPart headers index bitmap lbn → is_in others lbn ≡ false → slice_get image lbn ≡ slice_get old lbn
 
--- No other block was written: each image that stood meanwhile spares them, and so does the last.
+-- No other block was changed: each image that stood meanwhile spares them, and so does the last.
 pub record Confines (headers : ℕ → Bool) (index : Index) (bitmap : Bitmap) (others : List ℕ) (old new : Disk) : Type 0 where
   pub since : List Image
   pub history : new.history ≡ since ++ old.history

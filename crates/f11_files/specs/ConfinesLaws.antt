@@ -1,4 +1,4 @@
--- Which blocks of a sound volume calls on files don't write on their own account (Files-11 On-Disk Structure Level 1, "Index File" and "Storage
+-- Which blocks of a sound volume calls on files don't change on their own account (Files-11 On-Disk Structure Level 1, "Index File" and "Storage
 -- Bitmap File").
 use Rattle.std.specs.Prelude.{◌≡◌, ℕ, ◌≤◌, Bool, Some}
 use Rattle.std.specs.List.{slice_get}

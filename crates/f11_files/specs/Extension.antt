@@ -43,7 +43,7 @@ pub record IsExtension (tail : Tail) (id : FileId) (lbn count : ℕ) (block : Li
   pub pointer : pointers_in block ≡ 1
   pub room : room_in block ≡ 101
 
--- The slot of header n, which wasn't in use, is; else what is kept is as it was.
+-- The bit of header n's slot, which was 0, is 1; else the index file and where the storage bitmap is are kept as they were.
 pub record TakesSlot (s after : Structure) (n : ℕ) : Type 0 where
   pub was_new : new_header (index_in s) n ≡ true
   pub bit : SetsBit true n (index_in s) (index_in after)

@@ -63,7 +63,8 @@ with_slots_linked s id n old = with_more_slots (with_change (store_on s old) 1 (
 abbrev pub LinkingSlots : Structure → FileId → ℕ → Disk → Image → Type 0
 LinkingSlots s id count old image = IsTrue old.honest → HasStore (home_of s) (with_slots_linked s id count old) image
 
--- The index file has so many blocks more as slots, from an LBN on; else what is kept is as it was.
+-- The index file has so many blocks more as slots, from an LBN on, as far as there can be slots; else it and where the storage bitmap is are kept as
+-- they were.
 pub record HasSlotsBehind (s after : Structure) (lbn count : ℕ) : Type 0 where
   pub index : index_in after ≡ with_blocks_behind (index_in s) lbn count
   pub bitmap : bitmap_in after ≡ bitmap_in s

@@ -63,15 +63,16 @@ pub record StaysFor (failed : Bool) (old new : Structure) (disk : Disk) : Type 0
   pub sound : IsTrue disk.honest → HasSoundVolume disk.image (home_of new)
   pub keeps : failed ≡ false → IsTrue disk.honest → Keeps new disk.image
 
--- Calls wrote no block but these headers, the bitmaps, and these.
+-- Calls changed no block but these headers, the bitmaps, and these.
 abbrev pub ConfinesTo : Structure → (ℕ → Bool) → List ℕ → Disk → Disk → Type 0
 ConfinesTo s headers others old new = Confines headers (index_in s) (bitmap_in s) others old new
 
--- They wrote these headers and the bitmaps alone.
+-- They changed these headers and the bitmaps alone.
 abbrev pub WritesParts : Structure → (ℕ → Bool) → Disk → Disk → Type 0
 WritesParts s headers old new = ConfinesTo s headers [] old new
 
--- What is neither a block of those nor one of these is none of what is written afterwards.
+-- A block that is neither one of those headers, of the bitmaps nor one of these is none of the headers and the bitmaps that may be changed
+-- afterwards.
 abbrev pub StandsWithin : Structure → (ℕ → Bool) → List ℕ → Structure → (ℕ → Bool) → Type 0
 StandsWithin s headers others after later =
     (lbn : ℕ) → IsNoPart headers (index_in s) (bitmap_in s) lbn → is_in others lbn ≡ false → IsNoPart later (index_in after) (bitmap_in after) lbn

@@ -37,15 +37,15 @@ whose tail = (tail.file, tail.owner, tail.protection)
 abbrev pub ownership_of : Tail → Uic × ℕ
 ownership_of tail = (tail.owner, tail.protection)
 
--- the headers that are written where it gets blocks: its last one, and new ones
+-- the headers that may be changed where it gets blocks: its last one, and new ones
 abbrev pub growth_headers : Structure → Tail → ℕ → Bool
 growth_headers s tail = either (only_header tail.number) (new_header (index_in s))
 
--- No block was written but those headers, the bitmaps, and these.
+-- No block was changed but those headers, the bitmaps, and these.
 abbrev pub WritesGrowth : Structure → Tail → List ℕ → Disk → Disk → Type 0
 WritesGrowth s tail others old new = ConfinesTo s (growth_headers s tail) others old new
 
--- What is neither written so nor one of these isn't written so afterwards.
+-- A block that is neither of those headers, of the bitmaps nor one of these is none of those headers, nor of the bitmaps, afterwards.
 abbrev pub GrowsWithin : Structure → Tail → List ℕ → Structure → Tail → Type 0
 GrowsWithin s tail others after later = StandsWithin s (growth_headers s tail) others after (growth_headers after later)
 
