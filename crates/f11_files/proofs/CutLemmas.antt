@@ -43,10 +43,10 @@ use Rattle.f11_writes.specs.Volumes.{MayName, MayBecome, links_to_none}
 use Rattle.f11_writes.proofs.HeaderLemmas.{file-rewrite-keeps}
 use Rattle.f11_writes.proofs.NameLemmas.{own-names, fewer-names, lost-unnamed}
 use Rattle.f11_writes.proofs.OtherSlotLemmas.{turned, in-file-was, nowhere}
-use Rattle.f11_files.specs.Allocation.{FreesBlocks, LosesBlocks, LosesHeaders}
+use Rattle.f11_files.specs.Allocation.{FreesBlocks, IsEnd, LosesBlocks, LosesHeaders}
 use Rattle.f11_files.specs.Answers.{Writes, Meanwhile}
 use Rattle.f11_files.specs.Cuts.{FindsLastKept, CutsOff, Cuts, FailsToCut, cut_work}
-use Rattle.f11_files.specs.Drops.{FreesMore, Freeing, BreaksOff, AreAllSpare, GivesBlocks, DropsBehind, HangsBehind, headers_behind, tail_cost, with_more_free, without_headers}
+use Rattle.f11_files.specs.Drops.{FreesMore, Freeing, BreaksOff, AreAllSpare, GivesBlocks, DropsBehind, HangsBehind, headers_behind, tail_cost, with_more_free, without_headers, KeepsBlocksBut}
 use Rattle.f11_files.specs.FileLaws.{SaysAlike, MayStand, EndsThere, with_first_headers, pointers_before, pointers_in, room_in}
 use Rattle.f11_files.specs.Growing.{SameFree}
 use Rattle.f11_files.specs.Operations.{length_causes}
@@ -59,6 +59,7 @@ use Rattle.f11_files.proofs.FirstLemmas.{table-of}
 use Rattle.f11_files.proofs.FreeingLemmas.{frees-none, frees-blocks, freeing-more, writes-then, writes-within, breaks-then, breaks-within, sound-freed}
 use Rattle.f11_files.proofs.GoneLemmas.{breaks-fails}
 use Rattle.f11_files.proofs.InstanceLemmas.{file-stored}
+use Rattle.f11_files.proofs.KillLemmas.{in_use-place}
 use Rattle.f11_files.proofs.LossLemmas.{in-behind, in-first, in-front, CutsThere, held-same, loses-blocks}
 use Rattle.f11_files.proofs.NamedLemmas.{file-stored as stored-file}
 use Rattle.f11_files.proofs.StoreLemmas.{file-at, seen-own}
@@ -154,7 +155,7 @@ module _ (s : Structure) (f : FileId) (to n keep lbn : ℕ) (block cut : List �
     ends : EndsThere t f.number n cut keep
     ends = record {
       stands = stands;
-      no_link = cuts.no_link;
+      no_link = ap (λ (l : FileId). l.number) cuts.no_link;
       blocks = cuts.blocks ∙ ap (λ (b : List ℕ). take keep (blocks_named b)) header-is;
       within = subst (λ (b : List ℕ). keep ≤ length (blocks_named b)) header-is finds.within;
     }
@@ -166,7 +167,7 @@ module _ (s : Structure) (f : FileId) (to n keep lbn : ℕ) (block cut : List �
       good = λ _. good;
       names = subst (MayName (volume_of old.image h) n) (sym ends.blocks)
           (fewer-names (volume_of old.image h) n keep (blocks_named (t.header n)) (own-names (volume_of old.image h) n sound.sound live));
-      link = links_to_none cuts.no_link;
+      link = links_to_none (ap (λ (l : FileId). l.number) cuts.no_link);
     }
 
     pub one : WritesHeader n cut h old.image written
@@ -207,7 +208,7 @@ module _ (s : Structure) (f : FileId) (to n keep lbn : ℕ) (block cut : List �
         }
 
     link-now : link_number u n ≡ 0
-    link-now = ap (λ (b : List ℕ). (link_of b).number) one.index_file.header ∙ cuts.no_link
+    link-now = ap (λ (b : List ℕ). (link_of b).number) one.index_file.header ∙ ap (λ (l : FileId). l.number) cuts.no_link
 
     -- the headers behind it are of no file
     pub hangs-written : HangsBehind u (t.header n) hs
@@ -467,6 +468,9 @@ module _ (s : Structure) (f : FileId) (to n keep lbn : ℕ) (block cut : List �
         others = subst (KeepsOtherSlots n t) (sym (tables honest)) (one honest).slot.others;
         live = live_of-header (of-given honest);
         no_link = link-given honest;
+        ends =
+            subst (IsEnd (t.header n)) (sym (ap (λ (v : Table). v.header n) (tables honest) ∙ (one honest).index_file.header))
+            (record { alike = subst (λ (b : List ℕ). SaysAlike b cut) (header-is honest) cuts.alike; no_link = cuts.no_link });
         blocks = ap (λ (v : Table). blocks_named (v.header n)) (tables honest) ∙ ap blocks_named (one honest).index_file.header ∙ (ends honest).blocks;
         within = (ends honest).within;
         to_is = finds.to_is honest;
@@ -488,6 +492,9 @@ module _ (s : Structure) (f : FileId) (to n keep lbn : ℕ) (block cut : List �
           let kept = held-same given.image new.image h f.number whole_given sound_new (ap (λ (x : Store). x.file f.number) (behind.store given_honest)) in
           loses-blocks f.number n keep to (volume_of old.image h) (volume_of given.image h) (volume_of new.image h) (cuts-there honest)
           (subst (λ (ns : List ℕ). LosesHeaders ns (volume_of given.image h) (volume_of new.image h)) (behind-is honest) (behind.loses given_honest)) (blocks-behind honest) kept.0 kept.1
+          (λ m out live_m.
+          let place = in_use-place given.image h m live_m.in_use in
+          (subst (λ (ns : List ℕ). KeepsBlocksBut ns w (table_of new.image h)) (behind-is honest) (behind.blocks given_honest)).header m place.0 place.1 out)
 
       pub cuts-file : (new : Disk) → DropsBehind (home_of c) block given new → Cuts h f to old new
       cuts-file new behind =

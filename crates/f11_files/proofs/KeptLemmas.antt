@@ -19,6 +19,7 @@ use Rattle.f11_chain.proofs.AlongLemmas.{holds-stays}
 use Rattle.f11_map.specs.InHand.{CutsBlocks, SetsLink}
 use Rattle.f11_map.specs.MapArea.{blocks_in, runs_of}
 use Rattle.f11_map.specs.MapWriting.{cut_to}
+use Rattle.f11_store.specs.Store.{no_id}
 use Rattle.f11_store.specs.declared.files.FileId.{FileId}
 use Rattle.f11_store.specs.declared.refusals.Refusal.TheVariants.{EndOfFile}
 use Rattle.f11_writes.specs.Kept.{file_in}
@@ -43,7 +44,7 @@ cut-few (run ∷ runs) blocks = go (eqb blocks 0) (leb blocks run.1) (cut-few ru
     go false true few = omega arith
     go false false few = omega (arith, few)
 
-pub cuts-off : (keep : ℕ) (old mid new : List ℕ) (none : FileId) → none.number ≡ 0 → IsTrue (holds_header old) → CutsBlocks old mid keep → SetsLink mid new none → CutsOff keep old new
+pub cuts-off : (keep : ℕ) (old mid new : List ℕ) (none : FileId) → none ≡ no_id → IsTrue (holds_header old) → CutsBlocks old mid keep → SetsLink mid new none → CutsOff keep old new
 unfolding segment_number link_of blocks_named
 cuts-off keep old mid new none zero_is held cuts sets =
     let one = held-from mid (record (header_fields old) { map = map_area mid })
@@ -64,7 +65,7 @@ cuts-off keep old mid new none zero_is held cuts sets =
         ident_is = ap (λ (h : HeaderFields). h.ident) fields;
         attributes_are = ap (λ (h : HeaderFields). h.attributes) fields;
       };
-      no_link = ap (λ (l : FileId). l.number) sets.link.link_is ∙ zero_is;
+      no_link = sets.link.link_is ∙ ap (λ (l : FileId). record l { volume = 0 }) zero_is;
       blocks = ap blocks_in sets.pointers ∙ cuts.blocks;
       fewer =
           let same = ap (λ (rs : List (ℕ × ℕ)). length rs) (sets.pointers ∙ cuts.pointers) in

@@ -32,7 +32,7 @@ use Rattle.f11_vfy.proofs.FileLemmas.{image-files, file-headers-are}
 use Rattle.f11_writes.specs.Kept.{file_in, KeepsButFree}
 use Rattle.f11_writes.specs.OtherSlots.{KeepsOtherSlots}
 use Rattle.f11_writes.proofs.OtherSlotLemmas.{live-was, stay-before, turned}
-use Rattle.f11_files.specs.Allocation.{named_by, BeginsWith, FreesBlocks, Kills, LosesHeaders, LosesBlocks}
+use Rattle.f11_files.specs.Allocation.{named_by, BeginsWith, IsEnd, FreesBlocks, Kills, LosesHeaders, LosesBlocks}
 use Rattle.f11_files.specs.StoreOf.{as_seen, is_first, store_of}
 use Rattle.f11_files.proofs.AllocationLemmas.{named-live, named-others, named-unused}
 use Rattle.f11_files.proofs.NamedLemmas.{file-stored, seen-same}
@@ -242,6 +242,7 @@ pub record CutsThere (f n keep to : ℕ) (old new : Volume) : Type 0 where
   pub others : KeepsOtherSlots n old.table new.table
   pub live : IsLive new.table n
   pub no_link : link_number new.table n ≡ 0
+  pub ends : IsEnd (old.table.header n) (new.table.header n)
   pub blocks : blocks_named (new.table.header n) ≡ take keep (blocks_named (old.table.header n))
   pub within : keep ≤ length (blocks_named (old.table.header n))
   pub to_is : to ≡ blocks_before old.table f n + keep
@@ -320,11 +321,20 @@ module _ (f n keep to : ℕ) (v w x : Volume) (cut : CutsThere f n keep to v w) 
         | inr away ↦ live-was u t n (turned t u n cut.others) m away was
       ]
 
+  -- where it is
+  own-place : slice_get front (length behind) ≡ Some n
+  own-place =
+      let none : length behind - length behind ≡ 0 = omega arith in
+      slice_get-append_back behind (n ∷ []) (length behind) (length behind) refl (omega arith) ∙ ap (slice_get (n ∷ [])) none
+
+  listed-at : (i m : ℕ) → slice_get front i ≡ Some m → slice_get (headers_of t f) i ≡ Some m
+  listed-at i m at = ap (λ (l : List ℕ). slice_get l i) list ∙ slice_get-append_front front hs i m at
+
   listed-out : (i m : ℕ) → slice_get front i ≡ Some m → is_in hs m ≡ false
   listed-out i m at = parts-apart front hs i m (subst AreApart list (headers-apart t f cut.whole)) at
 
   module _ (loses : LosesHeaders hs w x) (same : blocks_by u hs ≡ blocks_by t hs) (whole_now : IsWholeFile now f)
-      (held : headers_of now f ≡ headers_of u f) where
+      (held : headers_of now f ≡ headers_of u f) (rest : (m : ℕ) → is_in hs m ≡ false → IsLive u m → now.header m ≡ u.header m) where
     front-now : headers_of now f ≡ front
     front-now = held ∙ ends.headers ∙ up-taken
 
@@ -368,10 +378,28 @@ module _ (f n keep to : ℕ) (v w x : Volume) (cut : CutsThere f n keep to v w) 
         let place : length front + there.0 - length front ≡ there.0 = omega arith in
         let at = slice_get-append_back front hs (length front + there.0) (length front) refl (omega arith) ∙ ap (slice_get hs) place ∙ there.1 in
         let of = (place-has t f m (length front + there.0) cut.whole (ap (λ (l : List ℕ). slice_get l (length front + there.0)) list ∙ at)).of in
-        let none : length behind - length behind ≡ 0 = omega arith in
-        let own_place : slice_get front (length behind) ≡ Some n =
-        slice_get-append_back behind (n ∷ []) (length behind) (length behind) refl (omega arith) ∙ ap (slice_get (n ∷ [])) none in
-        cut.others.header m (λ same_one. false≢true (sym (listed-out (length behind) n own_place) ∙ ap (is_in hs) (sym same_one) ∙ is)) (live_of-header of).in_use
+        cut.others.header m (λ same_one. false≢true (sym (listed-out (length behind) n own-place) ∙ ap (is_in hs) (sym same_one) ∙ is)) (live_of-header of).in_use
+
+    -- those before it stay as they were
+    before-same : (m : ℕ) → is_in (take k (headers_of t f)) m ≡ true → now.header m ≡ t.header m
+    before-same m is =
+        let there = in-at behind m (ap (λ (l : List ℕ). is_in l m) (sym taken) ∙ is) in
+        let at : slice_get front there.0 ≡ Some m = slice_get-append_front behind (n ∷ []) there.0 m there.1 in
+        let early : there.0 < length behind = slice_get_within behind there.0 m there.1 in
+        let away : m ≢ n =
+        λ same_one.
+        let one_place = headers-apart t f cut.whole there.0 (length behind) n (listed-at there.0 m at ∙ ap Some same_one) (listed-at (length behind) n own-place) in
+        omega (arith, one_place, early) in
+        rest m (listed-out there.0 m at) (listed-live there.0 m at)
+        ∙ cut.others.header m away (live_of-header (place-has t f m there.0 cut.whole (listed-at there.0 m at)).of).in_use
+
+    -- and it is the end
+    is-end : (m : ℕ) → slice_get (headers_of t f) k ≡ Some m → IsEnd (t.header m) (now.header m)
+    is-end m at =
+        let place : slice_get (headers_of t f) k ≡ Some n = ap (slice_get (headers_of t f)) (sym comes.1.count) ∙ listed-at (length behind) n own-place in
+        let same_one : n ≡ m = same_Some n m (sym place ∙ at) in
+        subst (λ (j : ℕ). IsEnd (t.header j) (now.header j)) same_one
+        (subst (IsEnd (t.header n)) (sym (rest n (listed-out (length behind) n own-place) cut.live)) cut.ends)
 
     -- a header of none of the file's
     away-from : (m : ℕ) → ¬ IsHeaderOf t f m → named_by now m ≡ named_by t m
@@ -391,6 +419,8 @@ module _ (f n keep to : ℕ) (v w x : Volume) (cut : CutsThere f n keep to v w) 
       headers = let next_one : k + 1 ≡ suc k = omega arith in held ∙ ends.headers ∙ ap (λ (c : ℕ). take c (headers_of t f)) next_one;
       needed = elim cut.needed [ inl none ↦ inl none | inr some ↦ inr (let to_is = cut.to_is in omega (arith, some, to_is)) ];
       own = begins;
+      same = before-same;
+      ends = is-end;
       gone = λ m is. goes m (ap (λ (l : List ℕ). is_in l m) (sym rest-left) ∙ is);
       killed = λ m is. let gone = ap (λ (l : List ℕ). is_in l m) (sym rest-left) ∙ is in loses.killed m gone ∙ ap dead_header (was-header m gone);
       others = away-from;

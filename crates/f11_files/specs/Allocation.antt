@@ -1,15 +1,16 @@
 -- Which blocks the headers of a volume name, and which are free, where files are made, grow, are cut and go (Files-11 On-Disk Structure Level 1,
 -- "Map Area" and "Storage Bitmap File"; profile: the lowest free blocks are taken).
-use Rattle.std.specs.Prelude.{◌≡◌, ◌≢◌, ◌⊎◌, ℕ, suc, ◌<◌, ◌≤◌, ◌||◌, true, false, List, [], ◌++◌, length, replicate, take, drop, filter, if◌then◌else◌}
-use Rattle.std.specs.List.{range_with_len}
+use Rattle.std.specs.Prelude.{◌≡◌, ◌≢◌, ◌⊎◌, ℕ, suc, ◌<◌, ◌≤◌, ◌||◌, true, false, List, [], ◌++◌, Some, length, replicate, take, drop, filter, if◌then◌else◌}
+use Rattle.std.specs.List.{range_with_len, slice_get}
 use Rattle.f11_bytes.specs.Block.{zero_block}
 use Rattle.f11_header.specs.Fields.{owner, protection, characteristics, attributes}
 use Rattle.f11_header.specs.Writing.{dead_header}
-use Rattle.f11_index.specs.HeaderBlock.{blocks_named}
+use Rattle.f11_index.specs.HeaderBlock.{link_of, blocks_named}
 use Rattle.f11_index.specs.Headers.{headers_of, is_live}
 use Rattle.f11_index.specs.Table.{Table, IsFile, IsLive, IsHeaderOf}
 use Rattle.f11_chain.specs.FileHeaders.{blocks_by, file_blocks}
 use Rattle.f11_store.specs.Changes.{is_in}
+use Rattle.f11_store.specs.Store.{no_id}
 use Rattle.f11_store.specs.declared.callers.Uic.{Uic}
 use Rattle.f11_vfy.specs.Volume.{Volume}
 use Rattle.f11_files.specs.FileLaws.{SaysAlike}
@@ -128,14 +129,22 @@ pub record LosesHeaders (headers : List ℕ) (old new : Volume) : Type 0 where
   pub killed : (n : ℕ) → is_in headers n ≡ true → Kills n old.table new.table
   pub free : FreesBlocks (blocks_by old.table headers) old new
 
+-- A header is the last of its file, with no link, and says what it said.
+pub record IsEnd (old new : List ℕ) : Type 0 where
+  pub alike : SaysAlike old new
+  pub no_link : link_of new ≡ no_id
+
 -- File f has the first of its blocks alone, so many, and the others are free. It has its first header, and those after it before which it has
--- fewer blocks than stay; they name the first of what they named. Its other headers were killed.
+-- fewer blocks than stay; they name the first of what they named, all but the last stay as they were, and that is the end. Its other headers were
+-- killed.
 pub record LosesBlocks (f to : ℕ) (old new : Volume) : Type 0 where
   pub blocks : file_blocks new.table f ≡ take to (file_blocks old.table f)
   pub more : ℕ
   pub headers : headers_of new.table f ≡ take (suc more) (headers_of old.table f)
   pub needed : (more ≡ 0) ⊎ (length (blocks_by old.table (take more (headers_of old.table f))) < to)
   pub own : (n : ℕ) → BeginsWith (named_by old.table n) (named_by new.table n)
+  pub same : (n : ℕ) → is_in (take more (headers_of old.table f)) n ≡ true → new.table.header n ≡ old.table.header n
+  pub ends : (n : ℕ) → slice_get (headers_of old.table f) more ≡ Some n → IsEnd (old.table.header n) (new.table.header n)
   pub gone : (n : ℕ) → is_in (drop (suc more) (headers_of old.table f)) n ≡ true → named_by new.table n ≡ []
   pub killed : (n : ℕ) → is_in (drop (suc more) (headers_of old.table f)) n ≡ true → Kills n old.table new.table
   pub others : (n : ℕ) → ¬ IsHeaderOf old.table f n → named_by new.table n ≡ named_by old.table n

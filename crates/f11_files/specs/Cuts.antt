@@ -15,7 +15,7 @@ use Rattle.f11_store.specs.Causes.{first_of}
 use Rattle.f11_store.specs.Changes.{with_first_blocks, Truncates}
 use Rattle.f11_store.specs.Cost.{cut_cost}
 use Rattle.f11_store.specs.Lags.{Work, one_part, file_changes}
-use Rattle.f11_store.specs.Store.{file_named}
+use Rattle.f11_store.specs.Store.{file_named, no_id}
 use Rattle.f11_store.specs.declared.files.FileId.{FileId}
 use Rattle.f11_store.specs.declared.refusals.Refusal.{Refusal}
 use Rattle.f11_writes.specs.Kept.{file_in}
@@ -45,7 +45,7 @@ pub record CutsOff (keep : ℕ) (old new : List ℕ) : Type 0 where
   pub sequence : file_sequence new ≡ file_sequence old
   pub segment : segment_number new ≡ segment_number old
   pub alike : SaysAlike old new
-  pub no_link : (link_of new).number ≡ 0
+  pub no_link : link_of new ≡ no_id
   pub blocks : blocks_named new ≡ take keep (blocks_named old)
   pub fewer : pointers_in new ≤ pointers_in old
 
