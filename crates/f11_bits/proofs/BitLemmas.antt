@@ -1,6 +1,5 @@
 -- Facts about the bits of a block, and about tests on numbers.
-use Rattle.std.proofs.Common.{◌≡◌, ℕ, ◌+◌, ◌<◌, ◌≤◌, Bool, true, false, List, refl, sym, ap, ◌∙◌, inl, inr, add-one, arith, lt-ltb}
-use Rattle.std.proofs.Common.{min}
+use Rattle.std.proofs.Common.{◌≡◌, ℕ, ◌+◌, ◌<◌, ◌≤◌, Bool, true, false, List, refl, sym, ap, ◌∙◌, inl, inr, add-one, arith, lt-ltb, min}
 use Rattle.std.proofs.lemmas.Bool.{both_ways, and_from, cases_lt}
 use Rattle.f11_bytes.specs.Bits.{bit}
 use Rattle.f11_bits.specs.Bitmap.{count_below}

@@ -5,14 +5,20 @@ use Rattle.std.specs.List.{range_with_len}
 use Rattle.f11_chain.specs.Calls.{table}
 use Rattle.f11_chain.specs.declared.blocks.FileEnd.{FileEnd}
 use Rattle.f11_dev.specs.Disk.{Disk}
+use Rattle.f11_dev.specs.Image.{Image}
 use Rattle.f11_index.proofs.HeadersLemmas.{header-placed}
 use Rattle.f11_index.specs.Calls.{SetsBit}
 use Rattle.f11_index.specs.HeaderBlock.{segment_number, link_of}
 use Rattle.f11_index.specs.Headers.{headers_of}
 use Rattle.f11_index.specs.IndexFile.{Index, slots, slot_bit, bit_of_slot, is_in_use}
+use Rattle.f11_index.specs.Kept.{index_kept}
 use Rattle.f11_index.specs.Table.{Table, table_of}
+use Rattle.f11_index.specs.declared.index_file.IndexFile.{IndexFile}
 use Rattle.f11_store.specs.Changes.{is_in}
 use Rattle.f11_store.specs.declared.files.FileId.{FileId}
+use Rattle.f11_vfy.specs.Volume.{volume_of}
+use Rattle.f11_files.specs.Allocation.{free_list}
+use Rattle.f11_files.specs.Clear.{ClearsMark}
 use Rattle.f11_files.specs.Confines.{no_header, only_header, new_header, either}
 use Rattle.f11_files.specs.Extend.{IsTailOf}
 use Rattle.f11_files.specs.Extension.{TakesSlot}
@@ -20,11 +26,12 @@ use Rattle.f11_files.specs.IndexGrowth.{HasSlotsBehind}
 use Rattle.f11_files.specs.Room.{FindsRoom}
 use Rattle.f11_files.specs.Structure.{index_in, home_of, ConfinesTo, IsFor, WritesParts, StandsAlike, StandsWithin}
 use Rattle.f11_files.specs.Tail.{growth_headers, GrowsWithin, WritesGrowth}
+use Rattle.f11_files.specs.Take.{TakesRun}
 use Rattle.f11_files.specs.declared.structure.Structure.{Structure}
 use Rattle.f11_files.specs.declared.tail.Tail.{Tail}
 use Rattle.f11_files.proofs.FirstLemmas.{table-of}
 use Rattle.f11_files.proofs.GoneLemmas.{first-listed}
-use Rattle.f11_files.proofs.PartsLemmas.{at-in, bit-alike, grows-within, in-one, in-other, of-either, of-none, of-only, stands-along, stands-same, stands-within, to-parts, to-then, to-wider}
+use Rattle.f11_files.proofs.PartsLemmas.{at-in, bit-alike, fewer-free, grows-within, in-one, in-other, of-either, of-none, of-only, out-front, parts-looked, parts-then, reserved-alike, stands-along, stands-same, stands-within, to-parts, to-then, to-wider}
 
 -- a slot that isn't in use
 in-use-then : (index : Index) (n : ℕ) → 0 < n → n ≤ slots index → slot_bit index n ≡ true → is_in_use index n ≡ true
@@ -144,3 +151,48 @@ tail-listed s f n end first last cleared old new tail for room of honest = elim 
       let there : is_in (headers_of u f.number) end.number ≡ true = at-in (headers_of u f.number) (segment_number (u.header end.number)) end.number (header-placed u f.number end.number (room.ends.is_last honest).of few) in
       ap (is_in (headers_of (table_of old.image (home_of s)) f.number)) (of.other some).0 ∙ ap (λ (v : Table). is_in (headers_of v f.number) end.number) (sym (table-of s old for honest)) ∙ there
 ]
+
+-- the blocks that were taken were free
+pub run-free : (s t : Structure) (from most lbn count : ℕ) (old taken : Disk) → IsTrue old.honest → TakesRun s t from most lbn count old taken → (l : ℕ) → is_in (free_list (volume_of old.image (home_of s))) l ≡ false
+    → is_in (range_with_len lbn count) l ≡ false
+run-free s t from most lbn count old taken honest takes l out =
+    out-front (range_with_len lbn count) (free_list (volume_of taken.image (home_of s))) l (ap (λ (xs : List ℕ). is_in xs l) (sym (takes.lowest honest)) ∙ out)
+
+-- blocks are taken, and then the file grows by them
+pub growth-run : (s t : Structure) (tail : Tail) (from most lbn count : ℕ) (old taken new : Disk) → IsTrue old.honest → TakesRun s t from most lbn count old taken → StandsAlike s t → WritesParts s no_header old taken
+    → WritesGrowth t tail (range_with_len lbn count) taken new → WritesGrowth s tail (free_list (volume_of old.image (home_of s))) old new
+growth-run s t tail from most lbn count old taken new honest takes alike one two =
+    growth-taken s t tail (free_list (volume_of old.image (home_of s))) (range_with_len lbn count) takes.index alike (run-free s t from most lbn count old taken honest takes) one two
+
+-- room was found in a file, and reserved in the index file where that is the one
+module _ (s : Structure) (index : IndexFile) (f : FileId) (n : ℕ) (end : FileEnd) (first last : List ℕ) (old read : Disk) (for : IsFor s old) (room : FindsRoom s f n end first last old read)
+    (kept : index_kept index ≡ index_in s) (honest : IsTrue old.honest) where
+  abbrev t : Structure
+  t = record s { index = index }
+
+  abbrev listed : ℕ → Bool
+  listed = is_in (headers_of (table_of old.image (home_of s)) f.number)
+
+  abbrev all : ℕ → Bool
+  all = either listed (new_header (index_in s))
+
+  abbrev free : List ℕ
+  free = free_list (volume_of old.image (home_of s))
+
+  -- the contiguous mark is cleared, or isn't
+  pub clearing-confined : {now : Disk} → WritesParts t (only_header f.number) read now → ConfinesTo s all free old now
+  clearing-confined one =
+      let is = in-one listed (new_header (index_in s)) f.number (first-listed s f first old for room.holds honest) in
+      to-parts s all all free (λ k known. known)
+      (parts-then s t all (reserved-alike s index kept) (parts-looked s all room.ends.looked.looked) (to-parts t all (only_header f.number) [] (of-only all f.number is) one))
+
+  -- and then the file grows
+  pub growing-confined : {cleared : List ℕ} {tail : Tail} {now new : Disk} → ClearsMark t f first cleared read now → IsTailOf f cleared end.number last tail → WritesParts t (only_header f.number) read now
+      → (IsTrue now.honest → WritesGrowth t tail (free_list (volume_of now.image (home_of s))) now new) → ConfinesTo s all free old new
+  growing-confined {cleared = cleared} {tail = tail} {now = now} clears of one two =
+      let looked = room.ends.looked.looked in
+      let left = free_list (volume_of now.image (home_of s)) in
+      let fewer : (l : ℕ) → is_in free l ≡ false → is_in left l ≡ false =
+      fewer-free free left 0 ((clears.gains (looked.honest ∙ honest)).free ∙ ap (λ (i : Image). free_list (volume_of i (home_of s))) looked.image) in
+      let more = growth-of s t listed tail (tail-listed s f n end first last cleared old read tail for room of honest) kept in
+      to-then s t all (growth_headers t tail) free left (stands-within s t all (growth_headers t tail) free more (reserved-alike s index kept)) fewer (clearing-confined one) (two (clears.went.honest ∙ looked.honest ∙ honest))

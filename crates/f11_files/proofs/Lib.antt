@@ -36,6 +36,7 @@ pub mod LooseLemmas
 pub mod KeptLemmas
 pub mod KillLemmas
 pub mod CutLemmas
+pub mod CutPartsLemmas
 pub mod RoomLemmas
 pub mod ZeroLemmas
 pub mod ZeroSlotLemmas

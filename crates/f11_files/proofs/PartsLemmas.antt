@@ -21,7 +21,9 @@ use Rattle.f11_index.specs.Kept.{index_kept}
 use Rattle.f11_index.specs.declared.index_file.IndexFile.{IndexFile}
 use Rattle.f11_index.proofs.InUseLemmas.{in_use-some, in_use-slot}
 use Rattle.f11_store.specs.Changes.{is_in}
+use Rattle.f11_store.specs.declared.files.FileId.{FileId}
 use Rattle.f11_files.specs.Confines.{no_header, only_header, either}
+use Rattle.f11_files.specs.First.{FindsFile}
 use Rattle.f11_files.specs.Structure.{index_in, bitmap_in, ConfinesTo, WritesParts, StandsAlike, StandsWithin}
 use Rattle.f11_files.specs.declared.structure.Structure.{Structure}
 use Rattle.f11_files.proofs.LossLemmas.{in-append, in-run}
@@ -119,6 +121,26 @@ header-wrote s headers n lbn block old new may used = slot-wrote s headers n lbn
 pub header-failed : (s : Structure) (headers : ℕ → Bool) (n lbn : ℕ) (block : List ℕ) (old new : Disk) → headers n ≡ true → is_in_use (index_in s) n ≡ true → lbn ≡ header_lbn (index_in s) n
     → (new ≡ with_transfer false old) ⊎ (new ≡ with_transfer false (with_block_at lbn block old)) → WritesParts s headers old new
 header-failed s headers n lbn block old new may used = slot-failed s headers n lbn block old new may (in_use-some (index_in s) n used) (in_use-slot (index_in s) n used)
+
+-- and no other
+pub only-wrote : (s : Structure) (n lbn : ℕ) (block : List ℕ) (old new : Disk) → is_in_use (index_in s) n ≡ true → lbn ≡ header_lbn (index_in s) n → new ≡ with_transfer true (with_block_at lbn block old)
+    → WritesParts s (only_header n) old new
+only-wrote s n lbn block old new = header-wrote s (only_header n) n lbn block old new (in-only n)
+
+pub only-failed : (s : Structure) (n lbn : ℕ) (block : List ℕ) (old new : Disk) → is_in_use (index_in s) n ≡ true → lbn ≡ header_lbn (index_in s) n
+    → (new ≡ with_transfer false old) ⊎ (new ≡ with_transfer false (with_block_at lbn block old)) → WritesParts s (only_header n) old new
+only-failed s n lbn block old new = header-failed s (only_header n) n lbn block old new (in-only n)
+
+-- a file's first header was read, and then written, or wasn't
+pub first-wrote : (s : Structure) (f : FileId) (lbn : ℕ) (block next : List ℕ) (old read new : Disk) → FindsFile (index_in s) f block old read → lbn ≡ header_lbn (index_in s) f.number
+    → new ≡ with_transfer true (with_block_at lbn next read) → WritesParts s (only_header f.number) old new
+first-wrote s f lbn block next old read new found at wrote =
+    parts-behind s (only_header f.number) found.looked (only-wrote s f.number lbn next read new found.holds.header.in_use at wrote)
+
+pub first-failed : (s : Structure) (f : FileId) (lbn : ℕ) (block next : List ℕ) (old read new : Disk) → FindsFile (index_in s) f block old read → lbn ≡ header_lbn (index_in s) f.number
+    → (new ≡ with_transfer false read) ⊎ (new ≡ with_transfer false (with_block_at lbn next read)) → WritesParts s (only_header f.number) old new
+first-failed s f lbn block next old read new found at failed =
+    parts-behind s (only_header f.number) found.looked (only-failed s f.number lbn next read new found.holds.header.in_use at failed)
 
 -- a slot's bit
 pub bit-went : (s : Structure) (headers : ℕ → Bool) (value : Bool) (n : ℕ) {old new : Disk} {most faults : ℕ} → 0 < n → n ≤ slots (index_in s) → Went (HasBitWritten value n (index_in s) old.image) old new most faults → WritesParts s headers old new

@@ -1,10 +1,9 @@
 -- The attributes of a copy.
-use Rattle.std.proofs.Common.{◌≡◌, ℕ, ◌+◌, ◌-◌, ◌*◌, ◌/◌, ◌%◌, List, ◌∷◌, ◌++◌, length, take, Some, refl, ap, ◌∙◌, arith, length-append}
+use Rattle.std.proofs.Common.{◌≡◌, ℕ, ◌+◌, ◌-◌, ◌*◌, ◌/◌, ◌%◌, List, ◌∷◌, ◌++◌, length, take, Some, refl, ap, ◌∙◌, arith, length-append, eqb, ne_eqb}
 use Rattle.std.specs.Prelude.{option_and_then, replicate}
 use Rattle.std.specs.List.{concat}
 use Rattle.std.proofs.Math.Seq.{take-append_seam}
 use Rattle.std.proofs.lemmas.Bool.{cond-false}
-use Rattle.std.proofs.Common.{eqb, ne_eqb}
 use Rattle.f11_bytes.specs.Words.{long, word, word_bytes}
 use Rattle.f11_store.specs.Directory.{with_end}
 use Rattle.f11_store.specs.File.{File, end_of, length_of, stated_end}

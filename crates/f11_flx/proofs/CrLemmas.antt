@@ -1,7 +1,6 @@
 -- Texts that end with CR.
-use Rattle.std.proofs.Common.{◌≡◌, ℕ, ◌+◌, ◌<◌, ◌≤◌, Bool, true, false, eqb, ltb, ◌&&◌, ◌||◌, cond, List, [], ◌∷◌, ◌++◌, length, refl, ap, ◌∙◌, arith, length-append, lt-ltb}
+use Rattle.std.proofs.Common.{◌≡◌, ℕ, ◌+◌, ◌<◌, ◌≤◌, Bool, true, false, eqb, ltb, ◌&&◌, ◌||◌, cond, List, [], ◌∷◌, ◌++◌, length, refl, ap, ◌∙◌, arith, length-append, lt-ltb, inl, inr}
 use Rattle.std.proofs.lemmas.Bool.{or_from, or_left, and_left, and_right, cond-false, cases_Bool}
-use Rattle.std.proofs.Common.{inl, inr}
 use Rattle.f11_flx.specs.Lines.{ends_with_cr, goes_on_with_lf, has_crlf, before_crlf, behind_crlf, has_long_line, lines_of}
 use Rattle.f11_flx.specs.Stage.{with_cr}
 use Rattle.f11_flx.proofs.LineLemmas.{is_crlf, has_crlf-parts, lines_of-first}

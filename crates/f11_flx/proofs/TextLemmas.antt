@@ -1,12 +1,11 @@
 -- The text of a file's records, a byte read at a time.
 use Rattle.std.proofs.Common.{◌≡◌, ℕ, zero, suc, ◌+◌, ◌-◌, ◌*◌, ◌%◌, ◌<◌, ◌≤◌, Bool, true, false, eqb, IsTrue, List, [], ◌∷◌, ◌++◌, length, take, drop, Option, Some, None, refl, sym, ap, ◌∙◌, arith, append_assoc}
-use Rattle.std.specs.Prelude.{slice_range, option_map}
+use Rattle.std.specs.Prelude.{slice_range, option_map, option_and_then}
 use Rattle.std.proofs.lemmas.Bool.{cond_both}
 use Rattle.std.proofs.lemmas.Bool.Decides.{nat_tests}
 use Rattle.std.proofs.lemmas.Iterator.Adapters.{option_map_id}
 use Rattle.f11_store.specs.File.{File, end_of}
 use Rattle.std.specs.List.{concat}
-use Rattle.std.specs.Prelude.{option_and_then}
 use Rattle.std.proofs.lemmas.List.{length-take-le}
 use Rattle.f11_flx.specs.Lines.{text_of}
 use Rattle.f11_flx.specs.Place.{text_in, text_from, pads, has_place, is_ending, ending_at, ReadsByte, RefusesByte}

@@ -1,6 +1,6 @@
 -- The entries of a segment.
 use Rattle.std.proofs.Common.{◌≡◌, ◌↔◌, ℕ, ◌+◌, ◌*◌, ◌<◌, ◌≤◌, true, false, Bool, IsTrue, nat_lt, ◌&&◌, List, [], length, get_or, map, slice_index, refl, sym, ◌∙◌, ap, arith}
-use Rattle.std.specs.List.{range_with_len, position_or_len}
+use Rattle.std.specs.List.{range_with_len, position_or_len, Any}
 use Rattle.std.proofs.Math.Nat.{le-div_iff_mul-le, mul-le-mul_right, mul-le-mul_left, div-mul-le_self}
 use Rattle.std.proofs.lemmas.List.{length-map, length-take, length-take-le, get_or-take}
 use Rattle.std.proofs.lemmas.List.Edits.{get_or-between}
@@ -8,7 +8,6 @@ use Rattle.std.proofs.lemmas.List.FromFn.{length-range_with_len, get_or-range_wi
 use Rattle.std.proofs.lemmas.List.Sums.{position_or_len_is, sum_by_more, fails_before_first}
 use Rattle.rt11_volume.specs.Entry.{entry_size, status, is_end, area_length}
 use Rattle.rt11_volume.specs.Segment.{Segment, entry_place, entry_words, entry_room, entries, area_start, HasEnd}
-use Rattle.std.specs.List.{Any}
 use Rattle.std.proofs.lemmas.Bool.{and_parts, and_from, ltb-true, lt-ltb}
 use Rattle.std.proofs.lemmas.List.Folds.{Any-from_list_any, list_any-from_Any}
 use Rattle.rt11_volume.specs.Judging.{has_end}

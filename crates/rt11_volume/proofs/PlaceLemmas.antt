@@ -4,11 +4,10 @@ use Rattle.std.specs.List.{slice_get}
 use Rattle.std.proofs.lemmas.List.{length-map, get_or-map}
 use Rattle.std.proofs.lemmas.Option.{slice_get_within, get_or_from_slice_get, slice_get-get_or}
 use Rattle.f11_dev.specs.Image.{Image}
-use Rattle.rt11_volume.specs.Directory.{walked, goes_on, next_of, visited, is_extra_wrong, segment_of, end_before}
+use Rattle.rt11_volume.specs.Directory.{walked, goes_on, next_of, visited, is_extra_wrong, segment_of, end_before, are_extra_wrong}
 use Rattle.rt11_volume.specs.InHand.{visit_of, visits, visit_at, no_visit}
 use Rattle.rt11_volume.specs.Judging.{segment_at, end_ahead, is_wrong_at}
 use Rattle.rt11_volume.specs.Segment.{segment_count, extra_bytes, areas_end, segment_with}
-use Rattle.rt11_volume.specs.Directory.{are_extra_wrong}
 use Rattle.rt11_volume.specs.declared.directory.Visited.{Visited}
 
 -- a walk that began at segment 1 begins there still

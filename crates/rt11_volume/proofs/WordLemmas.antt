@@ -1,6 +1,6 @@
 -- The words of a segment's two blocks.
 use Rattle.std.proofs.Common.{◌≡◌, ◌≢◌, ◌⊎◌, inl, inr, ℕ, ◌+◌, ◌-◌, ◌*◌, ◌<◌, ◌≤◌, List, ◌++◌, length, get_or, map, slice_index, Some, sym, ◌∙◌, ap, arith}
-use Rattle.std.specs.List.{range_with_len}
+use Rattle.std.specs.List.{range_with_len, slice_get}
 use Rattle.std.proofs.lemmas.Bool.{cases_eq, cases_lt}
 use Rattle.std.proofs.lemmas.Grind.{same_number_lists}
 use Rattle.std.proofs.lemmas.List.{get_or_append_left, get_or-map, get_or_past, length-map, length-set, get_or-set_same, get_or-set_other}
@@ -11,7 +11,6 @@ use Rattle.f11_bytes.specs.Words.{word, with_word}
 use Rattle.f11_bytes.proofs.WordLemmas.{word-with_word, word-with_word_apart, length-with_word}
 use Rattle.f11_dev.specs.Image.{Image}
 use Rattle.f11_dev.proofs.ImageLemmas.{image_block-read}
-use Rattle.std.specs.List.{slice_get}
 use Rattle.rt11_volume.specs.Segment.{words_of, segment_words}
 
 -- word i of some bytes

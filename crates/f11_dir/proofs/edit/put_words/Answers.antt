@@ -1,8 +1,7 @@
 use Rattle.std.proofs.Common.{◌≡◌, ◌+◌, ◌*◌, get_or, length, take, ap, ◌∙◌, arith}
 use Rattle.std.specs.List.{flat_map}
 use Rattle.std.proofs.lemmas.List.{length-take-le}
-use Rattle.f11_bytes.specs.Words.{with_word}
-use Rattle.f11_bytes.specs.Words.{word_bytes}
+use Rattle.f11_bytes.specs.Words.{with_word, word_bytes}
 use Rattle.f11_store.specs.Directory.{record_in}
 use Rattle.f11_store.proofs.RecordLemmas.{record_in-other}
 use Rattle.f11_bytes.proofs.PartLemmas.{with_bytes-more, length-words}

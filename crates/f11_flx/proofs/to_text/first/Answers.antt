@@ -1,9 +1,8 @@
-use Rattle.std.proofs.Common.{◌<◌, ◌-◌, ap, sym, subst, arith}
+use Rattle.std.proofs.Common.{◌<◌, ◌-◌, ap, sym, subst, arith, Some, None, false}
 use Rattle.f11_flx.specs.Place.{ReadsByte, RefusesByte}
 use Rattle.f11_flx.specs.Records.{some_of}
 use Rattle.f11_flx.specs.declared.layout.Layout.{Layout}
 use Rattle.f11_flx.specs.declared.place.Place.TheVariants as place
-use Rattle.std.proofs.Common.{Some, None, false}
 use Rattle.f11_flx.proofs.TextLemmas.{reads-fixed, reads-low, refuses-fixed, refuses-low}
 use Rattle.f11_flx.proofs.to_text.first.Goals as goal
 

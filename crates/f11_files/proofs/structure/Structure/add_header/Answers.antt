@@ -1,4 +1,4 @@
-use Rattle.std.proofs.Common.{refl, arith}
+use Rattle.std.proofs.Common.{refl, arith, []}
 use Rattle.f11_files.proofs.AddHeaderLemmas.{fails-link, failed-link-stays, appends-linked}
 use Rattle.f11_files.proofs.NewHeaderLemmas.{too-many, some-free, fails-enter}
 use Rattle.f11_files.proofs.AnswerLemmas.{handed}
@@ -6,7 +6,6 @@ use Rattle.f11_files.proofs.ExtensionBlockLemmas.{segment-said}
 use Rattle.f11_files.proofs.FreeingLemmas.{stays-for}
 use Rattle.f11_files.proofs.PartsLemmas.{to-parts}
 use Rattle.f11_files.proofs.GrowthPartsLemmas.{grows-linked, grows-taken, of-new}
-use Rattle.std.proofs.Common.{[]}
 use Rattle.f11_files.specs.Confines.{new_header}
 use Rattle.f11_files.specs.Structure.{index_in}
 use Rattle.f11_files.proofs.structure.Structure.add_header.Goals as goal

@@ -2,14 +2,8 @@ use Rattle.f11_files.proofs.AddRunLemmas.{fails-take, run-may, fails-append, add
 use Rattle.f11_files.proofs.PieceLemmas.{may-free}
 use Rattle.f11_files.proofs.TakenRunLemmas.{run-last}
 use Rattle.f11_files.proofs.AnswerLemmas.{handed}
-use Rattle.std.proofs.Common.{◌≡◌, ◌∙◌, ℕ, false, List, sym, ap}
-use Rattle.std.specs.List.{range_with_len}
-use Rattle.f11_store.specs.Changes.{is_in}
-use Rattle.f11_vfy.specs.Volume.{volume_of}
-use Rattle.f11_files.specs.Allocation.{free_list}
-use Rattle.f11_files.specs.Structure.{home_of}
-use Rattle.f11_files.proofs.PartsLemmas.{of-none, out-front, to-parts}
-use Rattle.f11_files.proofs.GrowthPartsLemmas.{grows-marked, grows-then, growth-taken}
+use Rattle.f11_files.proofs.PartsLemmas.{of-none, to-parts}
+use Rattle.f11_files.proofs.GrowthPartsLemmas.{grows-marked, grows-then, growth-run}
 use Rattle.std.proofs.Common.{[]}
 use Rattle.f11_files.specs.Confines.{no_header}
 use Rattle.f11_files.specs.Tail.{growth_headers}
@@ -41,24 +35,10 @@ returns-in_err-lbn-clause-confined g c = λ honest.
     to-parts c.args.self.now all no_header _ (of-none all) c.take_run.ensures.confined
 
 pub returns-in_err-append_run-clause-confined : goal.returns-in_err-append_run-clause-confined
-returns-in_err-append_run-clause-confined g c = λ honest.
-    let s = c.args.self.now in
-    let t = c.take_run.new.self in
-    let taken = c.in_ok-lbn.ensures.taken in
-    let run = range_with_len c.in_ok-lbn.lbn c.in_ok-lbn.count in
-    let all = free_list (volume_of (g.D.Device.disk c.args.device.now).image (home_of s)) in
-    let fewer : (l : ℕ) → is_in all l ≡ false → is_in run l ≡ false = λ l out. out-front _ _ l (ap (λ (xs : List ℕ). is_in xs l) (sym (taken.lowest honest)) ∙ out) in
-    growth-taken s t c.args.tail.now all run taken.index c.take_run.ensures.places fewer c.take_run.ensures.confined c.append_run.ensures.confined
+returns-in_err-append_run-clause-confined g c = λ honest. growth-run c.args.self.now c.take_run.new.self c.args.tail.now _ _ _ _ _ _ _ honest c.in_ok-lbn.ensures.taken c.take_run.ensures.places c.take_run.ensures.confined c.append_run.ensures.confined
 
 pub returns-clause-confined : goal.returns-clause-confined
-returns-clause-confined g c = λ honest.
-    let s = c.args.self.now in
-    let t = c.take_run.new.self in
-    let taken = c.in_ok-lbn.ensures.taken in
-    let run = range_with_len c.in_ok-lbn.lbn c.in_ok-lbn.count in
-    let all = free_list (volume_of (g.D.Device.disk c.args.device.now).image (home_of s)) in
-    let fewer : (l : ℕ) → is_in all l ≡ false → is_in run l ≡ false = λ l out. out-front _ _ l (ap (λ (xs : List ℕ). is_in xs l) (sym (taken.lowest honest)) ∙ out) in
-    growth-taken s t c.args.tail.now all run taken.index c.take_run.ensures.places fewer c.take_run.ensures.confined c.append_run.ensures.confined
+returns-clause-confined g c = λ honest. growth-run c.args.self.now c.take_run.new.self c.args.tail.now _ _ _ _ _ _ _ honest c.in_ok-lbn.ensures.taken c.take_run.ensures.places c.take_run.ensures.confined c.append_run.ensures.confined
 
 pub returns-clause-places : goal.returns-clause-places
 returns-clause-places g c =

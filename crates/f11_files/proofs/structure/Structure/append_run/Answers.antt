@@ -1,4 +1,4 @@
-use Rattle.std.proofs.Common.{[], refl}
+use Rattle.std.proofs.Common.{[], refl, ap}
 use Rattle.std.proofs.lemmas.Result.{IfErr-weaker, on_ok_weaker}
 use Rattle.std.specs.List.{range_with_len}
 use Rattle.f11_files.proofs.AppendRunLemmas.{sound-moment, fails-zeros, named-stays, now-own, now-may, appends-header, fails-header, fails-named, appends-named}
@@ -6,7 +6,6 @@ use Rattle.f11_files.proofs.GrowingLemmas.{breaks-stays}
 use Rattle.f11_files.proofs.ZeroedLemmas.{mid-for, mid-last, mid-given, now-for, now-last, now-given, now-full}
 use Rattle.f11_files.proofs.PartsLemmas.{of-none, to-wider}
 use Rattle.f11_files.proofs.GrowthPartsLemmas.{grows-same, grows-then, growth-named, growth-then}
-use Rattle.std.proofs.Common.{ap}
 use Rattle.f11_files.specs.Confines.{no_header}
 use Rattle.f11_files.specs.Tail.{growth_headers}
 use Rattle.f11_files.specs.declared.tail.Tail.{Tail}

@@ -4,7 +4,7 @@ use Rattle.f11_files.specs.Structure.{index_in}
 use Rattle.f11_files.proofs.BuryLemmas.{fails-killed, fails-bit, buries, buried-stays}
 use Rattle.f11_files.proofs.FreeingLemmas.{broken-stays}
 use Rattle.f11_files.proofs.FirstLemmas.{place-within}
-use Rattle.f11_files.proofs.PartsLemmas.{bit-alike, bit-went, header-failed, header-wrote, in-only, parts-then, stands-same}
+use Rattle.f11_files.proofs.PartsLemmas.{bit-alike, bit-went, parts-then, stands-same, only-failed, only-wrote}
 use Rattle.f11_files.specs.Confines.{only_header}
 use Rattle.f11_files.proofs.structure.Structure.bury.Goals as goal
 
@@ -52,12 +52,12 @@ returns-in-Err-clear-clause-stays g c =
     c.in-Err-clear.ensures.failed)
 
 pub returns-in-Err-clause-confined : goal.returns-in-Err-clause-confined
-returns-in-Err-clause-confined g c = header-failed c.args.self.now (only_header c.args.n) c.args.n _ _ _ _ (in-only c.args.n) c.requires.holds.in_use c.lbn_of_header.ensures c.in-Err.ensures.writes.err
+returns-in-Err-clause-confined g c = only-failed c.args.self.now c.args.n _ _ _ _ c.requires.holds.in_use c.lbn_of_header.ensures c.in-Err.ensures.writes.err
 
 pub returns-in-Ok-clear-clause-confined : goal.returns-in-Ok-clear-clause-confined
 returns-in-Ok-clear-clause-confined g c =
     parts-then c.args.self.now c.args.self.now (only_header c.args.n) (stands-same c.args.self.now)
-    (header-wrote c.args.self.now (only_header c.args.n) c.args.n _ _ _ _ (in-only c.args.n) c.requires.holds.in_use c.lbn_of_header.ensures c.in-Ok.ensures.writes.ok)
+    (only-wrote c.args.self.now c.args.n _ _ _ _ c.requires.holds.in_use c.lbn_of_header.ensures c.in-Ok.ensures.writes.ok)
     (bit-went c.args.self.now (only_header c.args.n) false c.args.n (in_use-some (index_in c.args.self.now) c.args.n c.requires.holds.in_use) (in_use-slot (index_in c.args.self.now) c.args.n c.requires.holds.in_use) c.in-Ok-clear.ensures.done.went)
 
 pub returns-in-Ok-clear-clause-places : goal.returns-in-Ok-clear-clause-places
@@ -66,5 +66,5 @@ returns-in-Ok-clear-clause-places g c = bit-alike c.args.self.now (record c.args
 pub returns-in-Err-clear-clause-confined : goal.returns-in-Err-clear-clause-confined
 returns-in-Err-clear-clause-confined g c =
     parts-then c.args.self.now c.args.self.now (only_header c.args.n) (stands-same c.args.self.now)
-    (header-wrote c.args.self.now (only_header c.args.n) c.args.n _ _ _ _ (in-only c.args.n) c.requires.holds.in_use c.lbn_of_header.ensures c.in-Ok.ensures.writes.ok)
+    (only-wrote c.args.self.now c.args.n _ _ _ _ c.requires.holds.in_use c.lbn_of_header.ensures c.in-Ok.ensures.writes.ok)
     (bit-went c.args.self.now (only_header c.args.n) false c.args.n (in_use-some (index_in c.args.self.now) c.args.n c.requires.holds.in_use) (in_use-slot (index_in c.args.self.now) c.args.n c.requires.holds.in_use) c.in-Err-clear.ensures.failed)

@@ -4,8 +4,7 @@ use Rattle.f11_files.specs.Clear.{ClearsMark}
 use Rattle.f11_files.specs.Structure.{index_in}
 use Rattle.f11_files.proofs.ClearLemmas.{clears-none, clears-mark, fails-clear}
 use Rattle.f11_files.proofs.FirstLemmas.{place-within}
-use Rattle.f11_files.proofs.PartsLemmas.{header-failed, header-wrote, in-only}
-use Rattle.f11_files.specs.Confines.{only_header}
+use Rattle.f11_files.proofs.PartsLemmas.{only-failed, only-wrote}
 use Rattle.f11_files.proofs.structure.Structure.clear_mark.Goals as goal
 
 pub returns-then-not-clear_contiguous-clause-clears : goal.returns-then-not-clear_contiguous-clause-clears
@@ -33,7 +32,7 @@ returns-in-Err-clause-failed g c =
     _ _ c.lbn_of_header.ensures c.in-Err.ensures.writes.err
 
 pub returns-in-Ok-clause-confined : goal.returns-in-Ok-clause-confined
-returns-in-Ok-clause-confined g c = header-wrote c.args.self.now (only_header c.args.f.number) c.args.f.number _ _ _ _ (in-only c.args.f.number) c.requires.holds.header.in_use c.lbn_of_header.ensures c.in-Ok.ensures.writes.ok
+returns-in-Ok-clause-confined g c = only-wrote c.args.self.now c.args.f.number _ _ _ _ c.requires.holds.header.in_use c.lbn_of_header.ensures c.in-Ok.ensures.writes.ok
 
 pub returns-in-Err-clause-confined : goal.returns-in-Err-clause-confined
-returns-in-Err-clause-confined g c = header-failed c.args.self.now (only_header c.args.f.number) c.args.f.number _ _ _ _ (in-only c.args.f.number) c.requires.holds.header.in_use c.lbn_of_header.ensures c.in-Err.ensures.writes.err
+returns-in-Err-clause-confined g c = only-failed c.args.self.now c.args.f.number _ _ _ _ c.requires.holds.header.in_use c.lbn_of_header.ensures c.in-Err.ensures.writes.err

@@ -1,9 +1,8 @@
-use Rattle.std.proofs.Common.{◌∙◌, arith}
+use Rattle.std.proofs.Common.{◌∙◌, arith, ◌≡◌, ℕ, false, IsTrue, ap, [], refl}
 use Rattle.f11_files.proofs.AnswerLemmas.{handed}
 use Rattle.f11_files.proofs.ExtendByLemmas.{extending-none, sound-moment, next-own, next-may, next-below, fails-run, extending-more, extending-done}
 use Rattle.f11_files.proofs.FreeingLemmas.{handed-stays, stays-for}
 use Rattle.f11_files.proofs.GrowingLemmas.{breaks-stays}
-use Rattle.std.proofs.Common.{◌≡◌, ℕ, false, IsTrue, ap}
 use Rattle.f11_home.specs.Home.{HomeFields}
 use Rattle.f11_store.specs.Changes.{is_in}
 use Rattle.f11_vfy.specs.Volume.{volume_of}
@@ -11,7 +10,6 @@ use Rattle.f11_files.specs.Allocation.{free_list}
 use Rattle.f11_files.specs.Structure.{home_of}
 use Rattle.f11_files.proofs.PartsLemmas.{fewer-free, parts-none, to-parts}
 use Rattle.f11_files.proofs.GrowthPartsLemmas.{grows-then, growth-then}
-use Rattle.std.proofs.Common.{[], refl}
 use Rattle.f11_files.specs.Tail.{growth_headers}
 use Rattle.f11_files.proofs.structure.Structure.extend_by.Goals as goal
 

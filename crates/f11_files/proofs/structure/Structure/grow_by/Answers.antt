@@ -1,9 +1,8 @@
-use Rattle.std.proofs.Common.{◌∙◌, arith}
+use Rattle.std.proofs.Common.{◌∙◌, arith, ◌≡◌, ℕ, false, IsTrue, ap}
 use Rattle.f11_files.proofs.AnswerLemmas.{handed}
 use Rattle.f11_files.proofs.GrowByLemmas.{growing-none, sound-moment, next-index, next-may, next-below, fails-run, growing-more, growing-done}
 use Rattle.f11_files.proofs.FreeingLemmas.{handed-stays, stays-for}
 use Rattle.f11_files.proofs.GrowingLemmas.{breaks-stays}
-use Rattle.std.proofs.Common.{◌≡◌, ℕ, false, IsTrue, ap}
 use Rattle.f11_home.specs.Home.{HomeFields}
 use Rattle.f11_store.specs.Changes.{is_in}
 use Rattle.f11_vfy.specs.Volume.{volume_of}

@@ -7,21 +7,7 @@ use Rattle.f11_files.proofs.ClearedLemmas.{holds-last}
 use Rattle.f11_files.proofs.FreeingLemmas.{handed-stays, stays-then}
 use Rattle.f11_files.proofs.GrowIndexLemmas.{reserved-for, reserved-finds, as-grow, no-want, read-cost, wants-memory, fails-clearing, stays-clearing, may-grow, fails-growing, grows-file, slots-after}
 use Rattle.f11_files.proofs.WriteLemmas.{fails-unread}
-use Rattle.std.proofs.Common.{◌≡◌, ◌∙◌, ℕ, false, ap}
-use Rattle.f11_dev.specs.Image.{Image}
-use Rattle.f11_store.specs.Changes.{is_in}
-use Rattle.f11_vfy.specs.Volume.{volume_of}
-use Rattle.f11_files.specs.Allocation.{free_list}
-use Rattle.f11_files.specs.Structure.{home_of}
-use Rattle.f11_files.proofs.PartsLemmas.{fewer-free, in-one, of-only, parts-looked, parts-then, reserved-alike, stands-within, to-parts, to-then}
-use Rattle.f11_files.proofs.GrowthPartsLemmas.{growth-of, tail-listed}
-use Rattle.std.proofs.Common.{[]}
-use Rattle.f11_index.specs.Headers.{headers_of}
-use Rattle.f11_index.specs.Table.{table_of}
-use Rattle.f11_files.specs.Confines.{either, new_header, only_header}
-use Rattle.f11_files.specs.Structure.{index_in}
-use Rattle.f11_files.specs.Tail.{growth_headers}
-use Rattle.f11_files.proofs.GoneLemmas.{first-listed}
+use Rattle.f11_files.proofs.GrowthPartsLemmas.{clearing-confined, growing-confined}
 use Rattle.f11_files.proofs.structure.Structure.grow_index.Goals as goal
 
 pub returns-in_err-end-clause-refused : goal.returns-in_err-end-clause-refused
@@ -80,62 +66,14 @@ returns-clause-grown g c = (
 )
 
 pub returns-in-Err-clear_mark-clause-confined : goal.returns-in-Err-clear_mark-clause-confined
-returns-in-Err-clear_mark-clause-confined g c = λ honest.
-    let s = c.args.self.now in
-    let t = record s { index = c.reserve.new.self } in
-    let kept = c.reserve.ensures.kept in
-    let alike = reserved-alike s c.reserve.new.self kept in
-    let room = c.in_ok-end.ensures.room.room in
-    let looked = room.ends.looked.looked in
-    let listed = is_in (headers_of (table_of (g.D.Device.disk c.args.device.now).image (home_of s)) 1) in
-    let all = either listed (new_header (index_in s)) in
-    let is = in-one listed (new_header (index_in s)) 1 (first-listed s index_id _ _ c.requires.is_for room.holds honest) in
-    let one = parts-then s t all alike (parts-looked s all looked) (to-parts t all (only_header 1) [] (of-only all 1 is) (rw c.index_id.ensures at c.clear_mark.ensures.confined)) in
-    let free = free_list (volume_of (g.D.Device.disk c.args.device.now).image (home_of s)) in
-    to-parts s all all free (λ n known. known) one
+returns-in-Err-clear_mark-clause-confined g c = λ honest. clearing-confined c.args.self.now c.reserve.new.self index_id c.args.n _ _ _ _ _ c.requires.is_for c.in_ok-end.ensures.room.room c.reserve.ensures.kept honest (rw c.index_id.ensures at c.clear_mark.ensures.confined)
 
 pub returns-in_err-grow_by-clause-confined : goal.returns-in_err-grow_by-clause-confined
 returns-in_err-grow_by-clause-confined g c = λ honest.
-    let s = c.args.self.now in
-    let t = record s { index = c.reserve.new.self } in
-    let kept = c.reserve.ensures.kept in
-    let alike = reserved-alike s c.reserve.new.self kept in
-    let room = c.in_ok-end.ensures.room.room in
-    let looked = room.ends.looked.looked in
-    let listed = is_in (headers_of (table_of (g.D.Device.disk c.args.device.now).image (home_of s)) 1) in
-    let all = either listed (new_header (index_in s)) in
-    let is = in-one listed (new_header (index_in s)) 1 (first-listed s index_id _ _ c.requires.is_for room.holds honest) in
-    let one = parts-then s t all alike (parts-looked s all looked) (to-parts t all (only_header 1) [] (of-only all 1 is) (rw c.index_id.ensures at c.clear_mark.ensures.confined)) in
-    let free = free_list (volume_of (g.D.Device.disk c.args.device.now).image (home_of s)) in
-    let clears = c.in-Ok-clear_mark.ensures.clears in
-    let now = g.D.Device.disk c.clear_mark.new.device in
-    let left = free_list (volume_of now.image (home_of s)) in
-    let sure = clears.went.honest ∙ looked.honest ∙ honest in
-    let fewer : (l : ℕ) → is_in free l ≡ false → is_in left l ≡ false =
-    fewer-free free left 0 ((clears.gains (looked.honest ∙ honest)).free ∙ ap (λ (i : Image). free_list (volume_of i (home_of s))) looked.image) in
-    let last = tail-listed s index_id c.args.n _ _ _ _ _ _ _ c.requires.is_for room (rw c.index_id-2.ensures at c.tail_of-tail.ensures.tail) honest in
-    let more = growth-of s t listed c.tail_of-tail.result last kept in
-    to-then s t all (growth_headers t c.tail_of-tail.result) free left (stands-within s t all (growth_headers t c.tail_of-tail.result) free more alike) fewer (to-parts s all all free (λ n known. known) one) (c.grow_by.ensures.confined sure)
+    growing-confined c.args.self.now c.reserve.new.self index_id c.args.n _ _ _ _ _ c.requires.is_for c.in_ok-end.ensures.room.room c.reserve.ensures.kept honest (rw c.index_id.ensures at c.in-Ok-clear_mark.ensures.clears) (rw c.index_id-2.ensures at c.tail_of-tail.ensures.tail)
+    (rw c.index_id.ensures at c.clear_mark.ensures.confined) c.grow_by.ensures.confined
 
 pub returns-clause-confined : goal.returns-clause-confined
 returns-clause-confined g c = λ honest.
-    let s = c.args.self.now in
-    let t = record s { index = c.reserve.new.self } in
-    let kept = c.reserve.ensures.kept in
-    let alike = reserved-alike s c.reserve.new.self kept in
-    let room = c.in_ok-end.ensures.room.room in
-    let looked = room.ends.looked.looked in
-    let listed = is_in (headers_of (table_of (g.D.Device.disk c.args.device.now).image (home_of s)) 1) in
-    let all = either listed (new_header (index_in s)) in
-    let is = in-one listed (new_header (index_in s)) 1 (first-listed s index_id _ _ c.requires.is_for room.holds honest) in
-    let one = parts-then s t all alike (parts-looked s all looked) (to-parts t all (only_header 1) [] (of-only all 1 is) (rw c.index_id.ensures at c.clear_mark.ensures.confined)) in
-    let free = free_list (volume_of (g.D.Device.disk c.args.device.now).image (home_of s)) in
-    let clears = c.in-Ok-clear_mark.ensures.clears in
-    let now = g.D.Device.disk c.clear_mark.new.device in
-    let left = free_list (volume_of now.image (home_of s)) in
-    let sure = clears.went.honest ∙ looked.honest ∙ honest in
-    let fewer : (l : ℕ) → is_in free l ≡ false → is_in left l ≡ false =
-    fewer-free free left 0 ((clears.gains (looked.honest ∙ honest)).free ∙ ap (λ (i : Image). free_list (volume_of i (home_of s))) looked.image) in
-    let last = tail-listed s index_id c.args.n _ _ _ _ _ _ _ c.requires.is_for room (rw c.index_id-2.ensures at c.tail_of-tail.ensures.tail) honest in
-    let more = growth-of s t listed c.tail_of-tail.result last kept in
-    to-then s t all (growth_headers t c.tail_of-tail.result) free left (stands-within s t all (growth_headers t c.tail_of-tail.result) free more alike) fewer (to-parts s all all free (λ n known. known) one) (c.grow_by.ensures.confined sure)
+    growing-confined c.args.self.now c.reserve.new.self index_id c.args.n _ _ _ _ _ c.requires.is_for c.in_ok-end.ensures.room.room c.reserve.ensures.kept honest (rw c.index_id.ensures at c.in-Ok-clear_mark.ensures.clears) (rw c.index_id-2.ensures at c.tail_of-tail.ensures.tail)
+    (rw c.index_id.ensures at c.clear_mark.ensures.confined) c.grow_by.ensures.confined

@@ -3,8 +3,7 @@ use Rattle.f11_index.proofs.InUseLemmas.{in_use-some, in_use-slot}
 use Rattle.f11_files.specs.Structure.{index_in}
 use Rattle.f11_files.proofs.LinkSlotsLemmas.{links-slots, links-stays, fails-slots}
 use Rattle.f11_files.proofs.FirstLemmas.{place-within}
-use Rattle.f11_files.proofs.PartsLemmas.{header-failed, header-wrote, in-only}
-use Rattle.f11_files.specs.Confines.{only_header}
+use Rattle.f11_files.proofs.PartsLemmas.{only-failed, only-wrote}
 use Rattle.f11_files.proofs.structure.Structure.link_slots.Goals as goal
 
 pub lbn_of_header-requires-clause-some : goal.lbn_of_header-requires-clause-some
@@ -34,10 +33,10 @@ returns-clause-stays g c =
     c.grow.new.self c.grow.ensures.grown c.grow.ensures.room c.in-Ok.ensures.writes.ok
 
 pub returns-in-Err-clause-confined : goal.returns-in-Err-clause-confined
-returns-in-Err-clause-confined g c = header-failed c.args.self.now (only_header c.args.tail.now.number) c.args.tail.now.number _ _ _ _ (in-only c.args.tail.now.number) c.requires.last.header.in_use c.lbn_of_header.ensures c.in-Err.ensures.writes.err
+returns-in-Err-clause-confined g c = only-failed c.args.self.now c.args.tail.now.number _ _ _ _ c.requires.last.header.in_use c.lbn_of_header.ensures c.in-Err.ensures.writes.err
 
 pub returns-clause-confined : goal.returns-clause-confined
-returns-clause-confined g c = header-wrote c.args.self.now (only_header c.args.tail.now.number) c.args.tail.now.number _ _ _ _ (in-only c.args.tail.now.number) c.requires.last.header.in_use c.lbn_of_header.ensures c.in-Ok.ensures.writes.ok
+returns-clause-confined g c = only-wrote c.args.self.now c.args.tail.now.number _ _ _ _ c.requires.last.header.in_use c.lbn_of_header.ensures c.in-Ok.ensures.writes.ok
 
 pub returns-clause-places : goal.returns-clause-places
 returns-clause-places g c = record { index = c.grow.ensures.grown; bitmap = refl }

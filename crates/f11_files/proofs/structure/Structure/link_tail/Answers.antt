@@ -3,8 +3,7 @@ use Rattle.f11_index.proofs.InUseLemmas.{in_use-some, in_use-slot}
 use Rattle.f11_files.specs.Structure.{index_in}
 use Rattle.f11_files.proofs.LinkTailLemmas.{links-tail, fails-link}
 use Rattle.f11_files.proofs.FirstLemmas.{place-within}
-use Rattle.f11_files.proofs.PartsLemmas.{header-failed, header-wrote, in-only}
-use Rattle.f11_files.specs.Confines.{only_header}
+use Rattle.f11_files.proofs.PartsLemmas.{only-failed, only-wrote}
 use Rattle.f11_files.proofs.structure.Structure.link_tail.Goals as goal
 
 pub lbn_of_header-requires-clause-some : goal.lbn_of_header-requires-clause-some
@@ -27,7 +26,7 @@ returns-in-Err-clause-failed g c =
     _ _ c.lbn_of_header.ensures c.in-Err.ensures.writes.err
 
 pub returns-in-Ok-clause-confined : goal.returns-in-Ok-clause-confined
-returns-in-Ok-clause-confined g c = header-wrote c.args.self.now (only_header c.args.tail.now.number) c.args.tail.now.number _ _ _ _ (in-only c.args.tail.now.number) c.requires.last.header.in_use c.lbn_of_header.ensures c.in-Ok.ensures.writes.ok
+returns-in-Ok-clause-confined g c = only-wrote c.args.self.now c.args.tail.now.number _ _ _ _ c.requires.last.header.in_use c.lbn_of_header.ensures c.in-Ok.ensures.writes.ok
 
 pub returns-in-Err-clause-confined : goal.returns-in-Err-clause-confined
-returns-in-Err-clause-confined g c = header-failed c.args.self.now (only_header c.args.tail.now.number) c.args.tail.now.number _ _ _ _ (in-only c.args.tail.now.number) c.requires.last.header.in_use c.lbn_of_header.ensures c.in-Err.ensures.writes.err
+returns-in-Err-clause-confined g c = only-failed c.args.self.now c.args.tail.now.number _ _ _ _ c.requires.last.header.in_use c.lbn_of_header.ensures c.in-Err.ensures.writes.err

@@ -5,8 +5,7 @@ use Rattle.f11_store.specs.Changes.{with_delete_mark}
 use Rattle.f11_files.specs.Structure.{index_in}
 use Rattle.f11_files.proofs.AlterLemmas.{alters, altered-stays, fails-alter, fails-altered}
 use Rattle.f11_files.proofs.FirstLemmas.{place-within}
-use Rattle.f11_files.proofs.PartsLemmas.{header-failed, header-wrote, in-only, parts-behind}
-use Rattle.f11_files.specs.Confines.{only_header}
+use Rattle.f11_files.proofs.PartsLemmas.{first-failed, first-wrote}
 use Rattle.f11_files.proofs.structure.Structure.mark.Goals as goal
 
 pub lbn_of_header-requires-clause-slot : goal.lbn_of_header-requires-clause-slot
@@ -38,13 +37,7 @@ returns-in-Err-clause-stays g c =
     c.in-Err.ensures.writes.err
 
 pub returns-in-Ok-clause-confined : goal.returns-in-Ok-clause-confined
-returns-in-Ok-clause-confined g c =
-    let found = c.in_ok-read_first.ensures.found in
-    parts-behind c.args.self.now (only_header c.args.f.number) found.looked
-    (header-wrote c.args.self.now (only_header c.args.f.number) c.args.f.number _ _ _ _ (in-only c.args.f.number) found.holds.header.in_use c.lbn_of_header.ensures c.in-Ok.ensures.writes.ok)
+returns-in-Ok-clause-confined g c = first-wrote c.args.self.now c.args.f _ _ _ _ _ _ c.in_ok-read_first.ensures.found c.lbn_of_header.ensures c.in-Ok.ensures.writes.ok
 
 pub returns-in-Err-clause-confined : goal.returns-in-Err-clause-confined
-returns-in-Err-clause-confined g c =
-    let found = c.in_ok-read_first.ensures.found in
-    parts-behind c.args.self.now (only_header c.args.f.number) found.looked
-    (header-failed c.args.self.now (only_header c.args.f.number) c.args.f.number _ _ _ _ (in-only c.args.f.number) found.holds.header.in_use c.lbn_of_header.ensures c.in-Err.ensures.writes.err)
+returns-in-Err-clause-confined g c = first-failed c.args.self.now c.args.f _ _ _ _ _ _ c.in_ok-read_first.ensures.found c.lbn_of_header.ensures c.in-Err.ensures.writes.err

@@ -3,8 +3,7 @@ use Rattle.f11_index.proofs.InUseLemmas.{in_use-some, in_use-slot}
 use Rattle.f11_files.specs.Structure.{index_in}
 use Rattle.f11_files.proofs.NameRunLemmas.{names-run, fails-name}
 use Rattle.f11_files.proofs.FirstLemmas.{place-within}
-use Rattle.f11_files.proofs.PartsLemmas.{header-failed, header-wrote, in-only}
-use Rattle.f11_files.specs.Confines.{only_header}
+use Rattle.f11_files.proofs.PartsLemmas.{only-failed, only-wrote}
 use Rattle.f11_files.proofs.structure.Structure.name_run.Goals as goal
 
 pub lbn_of_header-requires-clause-some : goal.lbn_of_header-requires-clause-some
@@ -27,7 +26,7 @@ returns-in-Err-write-clause-failed g c =
     _ _ c.lbn_of_header.ensures c.in-Err-write.ensures.writes.err
 
 pub returns-in-Ok-write-clause-confined : goal.returns-in-Ok-write-clause-confined
-returns-in-Ok-write-clause-confined g c = header-wrote c.args.self.now (only_header c.args.tail.now.number) c.args.tail.now.number _ _ _ _ (in-only c.args.tail.now.number) c.requires.last.header.in_use c.lbn_of_header.ensures c.in-Ok-write.ensures.writes.ok
+returns-in-Ok-write-clause-confined g c = only-wrote c.args.self.now c.args.tail.now.number _ _ _ _ c.requires.last.header.in_use c.lbn_of_header.ensures c.in-Ok-write.ensures.writes.ok
 
 pub returns-in-Err-write-clause-confined : goal.returns-in-Err-write-clause-confined
-returns-in-Err-write-clause-confined g c = header-failed c.args.self.now (only_header c.args.tail.now.number) c.args.tail.now.number _ _ _ _ (in-only c.args.tail.now.number) c.requires.last.header.in_use c.lbn_of_header.ensures c.in-Err-write.ensures.writes.err
+returns-in-Err-write-clause-confined g c = only-failed c.args.self.now c.args.tail.now.number _ _ _ _ c.requires.last.header.in_use c.lbn_of_header.ensures c.in-Err-write.ensures.writes.err

@@ -3,8 +3,7 @@ use Rattle.f11_index.proofs.InUseLemmas.{in_use-some, in_use-slot}
 use Rattle.f11_files.specs.Structure.{index_in}
 use Rattle.f11_files.proofs.NameSlotsLemmas.{names-slots, names-stays, fails-slots}
 use Rattle.f11_files.proofs.FirstLemmas.{place-within}
-use Rattle.f11_files.proofs.PartsLemmas.{header-failed, header-wrote, in-only}
-use Rattle.f11_files.specs.Confines.{only_header}
+use Rattle.f11_files.proofs.PartsLemmas.{only-failed, only-wrote}
 use Rattle.f11_files.proofs.structure.Structure.name_slots.Goals as goal
 
 pub lbn_of_header-requires-clause-some : goal.lbn_of_header-requires-clause-some
@@ -32,10 +31,10 @@ returns-clause-stays g c =
     c.requires.index c.requires.within c.requires.slots _ _ c.lbn_of_header.ensures c.grow.new.self c.grow.ensures.grown c.grow.ensures.room c.in-Ok-write.ensures.writes.ok
 
 pub returns-in-Err-write-clause-confined : goal.returns-in-Err-write-clause-confined
-returns-in-Err-write-clause-confined g c = header-failed c.args.self.now (only_header c.args.tail.now.number) c.args.tail.now.number _ _ _ _ (in-only c.args.tail.now.number) c.requires.last.header.in_use c.lbn_of_header.ensures c.in-Err-write.ensures.writes.err
+returns-in-Err-write-clause-confined g c = only-failed c.args.self.now c.args.tail.now.number _ _ _ _ c.requires.last.header.in_use c.lbn_of_header.ensures c.in-Err-write.ensures.writes.err
 
 pub returns-clause-confined : goal.returns-clause-confined
-returns-clause-confined g c = header-wrote c.args.self.now (only_header c.args.tail.now.number) c.args.tail.now.number _ _ _ _ (in-only c.args.tail.now.number) c.requires.last.header.in_use c.lbn_of_header.ensures c.in-Ok-write.ensures.writes.ok
+returns-clause-confined g c = only-wrote c.args.self.now c.args.tail.now.number _ _ _ _ c.requires.last.header.in_use c.lbn_of_header.ensures c.in-Ok-write.ensures.writes.ok
 
 pub returns-clause-places : goal.returns-clause-places
 returns-clause-places g c = λ _. (refl, record { index = c.grow.ensures.grown; bitmap = refl })

@@ -3,18 +3,11 @@ use Rattle.f11_dev.specs.Image.{Image}
 use Rattle.f11_index.proofs.InUseLemmas.{in_use-some, in_use-slot}
 use Rattle.f11_files.specs.Structure.{index_in}
 use Rattle.f11_files.proofs.AnswerLemmas.{handed}
-use Rattle.f11_files.proofs.CutLemmas.{listed, behind-listed, fails-written, written-for, spare-now, fails-giving, behind-hangs, fails-behind, cuts-file}
+use Rattle.f11_files.proofs.CutLemmas.{fails-written, written-for, spare-now, fails-giving, behind-hangs, fails-behind, cuts-file}
 use Rattle.f11_files.proofs.FreeingLemmas.{stays-for, stays-then}
 use Rattle.f11_files.proofs.WriteLemmas.{failed-stays}
 use Rattle.f11_files.proofs.FirstLemmas.{place-within}
-use Rattle.f11_files.proofs.PartsLemmas.{header-failed, header-wrote, of-none, parts-behind, parts-then, stands-same, to-parts}
-use Rattle.std.proofs.Common.{◌∙◌, []}
-use Rattle.f11_dev.specs.Disk.{Disk}
-use Rattle.f11_index.specs.Headers.{headers_of}
-use Rattle.f11_index.specs.Table.{table_of}
-use Rattle.f11_store.specs.Changes.{is_in}
-use Rattle.f11_files.specs.Confines.{no_header}
-use Rattle.f11_files.specs.Structure.{home_of}
+use Rattle.f11_files.proofs.CutPartsLemmas.{cut-dropped, cut-failed, cut-given}
 use Rattle.f11_files.proofs.structure.Structure.truncate.Goals as goal
 
 pub lbn_of_header-requires-clause-some : goal.lbn_of_header-requires-clause-some
@@ -84,51 +77,22 @@ returns-clause-stays g c = stays-then c.in_ok-give_from.ensures.stays.home (rw c
 
 pub returns-in-Err-clause-confined : goal.returns-in-Err-clause-confined
 returns-in-Err-clause-confined g c = λ honest.
-    let s = c.args.self.now in
-    let found = c.in_ok-n.ensures.found in
-    let n = c.in_ok-n.n in
-    let all = is_in (headers_of (table_of (g.D.Device.disk c.args.device.now).image (home_of s)) c.args.f.number) in
-    let is = listed s c.args.f c.args.to n _ _ _ _ _ _ c.requires.is_for c.requires.own found c.cut_off.ensures c.lbn_of_header.ensures (g.met.D.Device.is_image c.args.device.now) honest in
-    parts-behind s all found.looked (header-failed s all n _ _ _ _ is found.header.in_use c.lbn_of_header.ensures c.in-Err.ensures.writes.err)
+    cut-failed c.args.self.now c.args.f c.args.to _ _ _ _ _ _ _ c.requires.is_for c.requires.own c.in_ok-n.ensures.found c.cut_off.ensures c.lbn_of_header.ensures
+    (g.met.D.Device.is_image c.args.device.now) honest _ c.in-Err.ensures.writes.err
 
 pub returns-in_err-give_from-clause-confined : goal.returns-in_err-give_from-clause-confined
 returns-in_err-give_from-clause-confined g c = λ honest.
-    let s = c.args.self.now in
-    let found = c.in_ok-n.ensures.found in
-    let n = c.in_ok-n.n in
-    let all = is_in (headers_of (table_of (g.D.Device.disk c.args.device.now).image (home_of s)) c.args.f.number) in
-    let is = listed s c.args.f c.args.to n _ _ _ _ _ _ c.requires.is_for c.requires.own found c.cut_off.ensures c.lbn_of_header.ensures (g.met.D.Device.is_image c.args.device.now) honest in
-    let cut = parts-behind s all found.looked (header-wrote s all n _ _ _ _ is found.header.in_use c.lbn_of_header.ensures c.in-Ok.ensures.writes.ok) in
-    parts-then s s all (stands-same s) cut (to-parts s all no_header [] (of-none all) c.give_from.ensures.confined)
+    cut-given c.args.self.now c.args.f c.args.to _ _ _ _ _ _ _ c.requires.is_for c.requires.own c.in_ok-n.ensures.found c.cut_off.ensures c.lbn_of_header.ensures
+    (g.met.D.Device.is_image c.args.device.now) honest _ c.in-Ok.ensures.writes.ok c.give_from.ensures.confined
 
 pub returns-in_err-drop_behind-clause-confined : goal.returns-in_err-drop_behind-clause-confined
 returns-in_err-drop_behind-clause-confined g c = λ honest.
-    let s = c.args.self.now in
-    let found = c.in_ok-n.ensures.found in
-    let n = c.in_ok-n.n in
-    let all = is_in (headers_of (table_of (g.D.Device.disk c.args.device.now).image (home_of s)) c.args.f.number) in
-    let is = listed s c.args.f c.args.to n _ _ _ _ _ _ c.requires.is_for c.requires.own found c.cut_off.ensures c.lbn_of_header.ensures (g.met.D.Device.is_image c.args.device.now) honest in
-    let cut = parts-behind s all found.looked (header-wrote s all n _ _ _ _ is found.header.in_use c.lbn_of_header.ensures c.in-Ok.ensures.writes.ok) in
-    let t = c.give_from.new.self in
-    let given = c.in_ok-give_from.ensures.given in
-    let more = behind-listed s c.args.f c.args.to n _ _ _ _ _ _ c.requires.is_for c.requires.own found c.cut_off.ensures c.lbn_of_header.ensures (g.met.D.Device.is_image c.args.device.now) _ c.in-Ok.ensures.writes.ok
-    t _ given c.in_ok-give_from.ensures.stays.home (g.met.D.Device.is_image c.give_from.new.device) honest in
-    let one = parts-then s s all (stands-same s) cut (to-parts s all no_header [] (of-none all) c.give_from.ensures.confined) in
-    let sure = given.writes.went.honest ∙ ap (λ (d : Disk). d.honest) c.in-Ok.ensures.writes.ok ∙ found.looked.honest ∙ honest in
-    parts-then s t all c.in_ok-give_from.ensures.places one (to-parts t all _ [] more (c.drop_behind.ensures.confined sure))
+    cut-dropped c.args.self.now c.args.f c.args.to _ _ _ _ _ _ _ c.requires.is_for c.requires.own c.in_ok-n.ensures.found c.cut_off.ensures c.lbn_of_header.ensures
+    (g.met.D.Device.is_image c.args.device.now) honest _ c.in-Ok.ensures.writes.ok c.give_from.new.self _ _ c.in_ok-give_from.ensures.given c.in_ok-give_from.ensures.stays.home
+    (g.met.D.Device.is_image c.give_from.new.device) c.in_ok-give_from.ensures.places c.give_from.ensures.confined c.drop_behind.ensures.confined
 
 pub returns-clause-confined : goal.returns-clause-confined
 returns-clause-confined g c = λ honest.
-    let s = c.args.self.now in
-    let found = c.in_ok-n.ensures.found in
-    let n = c.in_ok-n.n in
-    let all = is_in (headers_of (table_of (g.D.Device.disk c.args.device.now).image (home_of s)) c.args.f.number) in
-    let is = listed s c.args.f c.args.to n _ _ _ _ _ _ c.requires.is_for c.requires.own found c.cut_off.ensures c.lbn_of_header.ensures (g.met.D.Device.is_image c.args.device.now) honest in
-    let cut = parts-behind s all found.looked (header-wrote s all n _ _ _ _ is found.header.in_use c.lbn_of_header.ensures c.in-Ok.ensures.writes.ok) in
-    let t = c.give_from.new.self in
-    let given = c.in_ok-give_from.ensures.given in
-    let more = behind-listed s c.args.f c.args.to n _ _ _ _ _ _ c.requires.is_for c.requires.own found c.cut_off.ensures c.lbn_of_header.ensures (g.met.D.Device.is_image c.args.device.now) _ c.in-Ok.ensures.writes.ok
-    t _ given c.in_ok-give_from.ensures.stays.home (g.met.D.Device.is_image c.give_from.new.device) honest in
-    let one = parts-then s s all (stands-same s) cut (to-parts s all no_header [] (of-none all) c.give_from.ensures.confined) in
-    let sure = given.writes.went.honest ∙ ap (λ (d : Disk). d.honest) c.in-Ok.ensures.writes.ok ∙ found.looked.honest ∙ honest in
-    parts-then s t all c.in_ok-give_from.ensures.places one (to-parts t all _ [] more (c.drop_behind.ensures.confined sure))
+    cut-dropped c.args.self.now c.args.f c.args.to _ _ _ _ _ _ _ c.requires.is_for c.requires.own c.in_ok-n.ensures.found c.cut_off.ensures c.lbn_of_header.ensures
+    (g.met.D.Device.is_image c.args.device.now) honest _ c.in-Ok.ensures.writes.ok c.give_from.new.self _ _ c.in_ok-give_from.ensures.given c.in_ok-give_from.ensures.stays.home
+    (g.met.D.Device.is_image c.give_from.new.device) c.in_ok-give_from.ensures.places c.give_from.ensures.confined c.drop_behind.ensures.confined
