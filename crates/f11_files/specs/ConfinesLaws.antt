@@ -12,7 +12,7 @@ use Rattle.f11_vfy.specs.Space.{bitmap_file, storage_bitmap}
 use Rattle.f11_vfy.specs.Volume.{volume_of, IsNamed}
 use Rattle.f11_files.specs.Confines.{IsNoPart}
 
--- a block of a volume that is none of those, whichever headers they write
+-- a block of a volume that is none of those, whichever headers a call may change
 abbrev pub IsSpared : Image → HomeFields → ℕ → Type 0
 IsSpared image home lbn = (headers : ℕ → Bool) → IsNoPart headers (index_of image home) (storage_bitmap image home) lbn
 
@@ -30,7 +30,7 @@ ControlBlockIsSpared =
     (image : Image) (home : HomeFields) (lbn : ℕ) → HasSoundVolume image home → slice_get (bitmap_file (table_of image home)) 0 ≡ Some lbn →
     IsSpared image home lbn
 
--- nor a block of another file than those two,
+-- nor a block of a file from 3 on,
 abbrev pub FileBlockIsSpared : Type 0
 FileBlockIsSpared =
     (image : Image) (home : HomeFields) (f i lbn : ℕ) → HasSoundVolume image home → IsFile (table_of image home) f → 3 ≤ f →

@@ -162,7 +162,7 @@ pub fn allocation()
     ensures free { allocation.FreeBlocksAreStored }
 {}
 
-/// Which blocks of a sound volume calls don't write on their own account.
+/// Which blocks of a sound volume calls don't change on their own account.
 pub fn spared_blocks()
     ensures boot { confines.BootBlockIsSpared }
     ensures home { confines.HomeBlockIsSpared }

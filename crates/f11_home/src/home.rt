@@ -128,8 +128,8 @@ impl Home {
     }
 }
 
-/// Finds the home block: the first valid one of LBN 1, 256, 512 and each further multiple of 256 below the
-/// device's end. It reads each candidate up to the one found, once.
+/// Finds the home block, which stands at LBN 1 or at a multiple of 256: they are read in ascending order, each once, up to
+/// the first that is valid or the last that the device has.
 ///
 /// # Errors
 ///
