@@ -1,4 +1,4 @@
--- Which headers are written where a file is cut.
+-- Which headers are written where a file is cut, or deleted.
 use Rattle.std.proofs.Common.{◌≡◌, ◌⊎◌, ◌≤◌, ◌∙◌, ℕ, Bool, true, false, IsTrue, List, [], drop}
 use Rattle.f11_dev.specs.Disk.{Disk, with_transfer, with_block_at}
 use Rattle.f11_dev.specs.Image.{IsImage}
@@ -8,14 +8,23 @@ use Rattle.f11_index.specs.IndexFile.{header_lbn}
 use Rattle.f11_index.specs.Table.{table_of}
 use Rattle.f11_store.specs.Changes.{is_in}
 use Rattle.f11_store.specs.declared.files.FileId.{FileId}
-use Rattle.f11_files.specs.Confines.{no_header}
+use Rattle.f11_files.specs.Confines.{no_header, only_header}
 use Rattle.f11_files.specs.Cuts.{FindsLastKept, CutsOff}
 use Rattle.f11_files.specs.Drops.{GivesBlocks, headers_behind}
 use Rattle.f11_files.specs.FileLaws.{pointers_in}
+use Rattle.f11_files.specs.First.{FindsFile}
 use Rattle.f11_files.specs.Structure.{index_in, home_of, IsFor, StandsAlike, WritesParts}
 use Rattle.f11_files.specs.declared.structure.Structure.{Structure}
 use Rattle.f11_files.proofs.CutLemmas.{behind-listed, honest-now, listed}
-use Rattle.f11_files.proofs.PartsLemmas.{header-failed, header-wrote, of-none, parts-behind, parts-then, stands-same, to-parts}
+use Rattle.f11_files.proofs.GoneLemmas.{first-listed}
+use Rattle.f11_files.proofs.PartsLemmas.{header-failed, header-wrote, of-none, of-only, parts-behind, parts-then, stands-same, to-parts}
+
+-- its first header was read, and then written
+pub first-parts : (s : Structure) (f : FileId) (block : List ℕ) (old read : Disk) {now : Disk} → IsFor s old → FindsFile (index_in s) f block old read → IsTrue old.honest → WritesParts s (only_header f.number) read now
+    → WritesParts s (is_in (headers_of (table_of old.image (home_of s)) f.number)) old now
+first-parts s f block old read for found honest one =
+    let all = is_in (headers_of (table_of old.image (home_of s)) f.number) in
+    parts-behind s all found.looked (to-parts s all (only_header f.number) [] (of-only all f.number (first-listed s f block old for found.holds honest)) one)
 
 -- the last header that stays was found
 module _ (s : Structure) (f : FileId) (to n keep lbn : ℕ) (block cut : List ℕ) (old read : Disk) (for : IsFor s old) (own : 4 ≤ f.number)

@@ -1,6 +1,6 @@
 -- Which headers are written where a file grows.
-use Rattle.std.proofs.Common.{◌≡◌, ℕ, zero, suc, ◌<◌, ◌≤◌, ◌&&◌, ◌||◌, ◌==◌, nat_le, ◌∙◌, Bool, true, false, not, IsTrue, List, [], refl, sym, ap, subst, inl, inr, arith}
-use Rattle.std.proofs.lemmas.Bool.{cases_Bool, cases_eq, false≢true, le-leb, lt-ltb}
+use Rattle.std.proofs.Common.{◌≡◌, ℕ, zero, suc, ◌<◌, ◌||◌, ◌==◌, ◌∙◌, Bool, true, false, not, IsTrue, List, [], refl, sym, ap, subst, inl, inr, arith}
+use Rattle.std.proofs.lemmas.Bool.{cases_eq, false≢true}
 use Rattle.std.specs.List.{range_with_len}
 use Rattle.f11_chain.specs.Calls.{table}
 use Rattle.f11_chain.specs.declared.blocks.FileEnd.{FileEnd}
@@ -10,7 +10,7 @@ use Rattle.f11_index.proofs.HeadersLemmas.{header-placed}
 use Rattle.f11_index.specs.Calls.{SetsBit}
 use Rattle.f11_index.specs.HeaderBlock.{segment_number, link_of}
 use Rattle.f11_index.specs.Headers.{headers_of}
-use Rattle.f11_index.specs.IndexFile.{Index, slots, slot_bit, bit_of_slot, is_in_use}
+use Rattle.f11_index.specs.IndexFile.{Index, slot_bit, bit_of_slot}
 use Rattle.f11_index.specs.Kept.{index_kept}
 use Rattle.f11_index.specs.Table.{Table, table_of}
 use Rattle.f11_index.specs.declared.index_file.IndexFile.{IndexFile}
@@ -32,18 +32,6 @@ use Rattle.f11_files.specs.declared.tail.Tail.{Tail}
 use Rattle.f11_files.proofs.FirstLemmas.{table-of}
 use Rattle.f11_files.proofs.GoneLemmas.{first-listed}
 use Rattle.f11_files.proofs.PartsLemmas.{at-in, bit-alike, fewer-free, grows-within, in-one, in-other, of-either, of-none, of-only, out-front, parts-looked, parts-then, reserved-alike, stands-along, stands-same, stands-within, to-parts, to-then, to-wider}
-
--- a slot that isn't in use
-in-use-then : (index : Index) (n : ℕ) → 0 < n → n ≤ slots index → slot_bit index n ≡ true → is_in_use index n ≡ true
-unfolding is_in_use
-in-use-then index n some slot bit =
-    ap (λ (b : Bool). b && (nat_le n (slots index) && slot_bit index n)) (lt-ltb 0 n some) ∙ ap (λ (b : Bool). b && slot_bit index n) (le-leb n (slots index) slot) ∙ bit
-
-pub unused-new : (index : Index) (n : ℕ) → 0 < n → n ≤ slots index → is_in_use index n ≡ false → new_header index n ≡ true
-unused-new index n some slot unused = elim (cases_Bool (slot_bit index n)) [
-  | inl is ↦ absurd (false≢true (sym unused ∙ in-use-then index n some slot is))
-  | inr none ↦ ap not none
-]
 
 -- slots that aren't in use once one is taken weren't before
 number-new : (before after : Index) (n m : ℕ) → 0 < m → SetsBit true n before after → new_header after m ≡ true → new_header before m ≡ true
@@ -120,17 +108,25 @@ pub growth-then : (s t : Structure) (tail later : Tail) (others more : List ℕ)
     → WritesGrowth s tail others a c
 growth-then s t tail later others more stands fewer one two = to-then s t (growth_headers s tail) (growth_headers t later) others more stands fewer one two
 
+-- no header is written: bits of the bitmap,
+pub growth-marked : (s : Structure) (tail : Tail) (others : List ℕ) {a b : Disk} → WritesParts s no_header a b → WritesGrowth s tail others a b
+growth-marked s tail others one = to-parts s (growth_headers s tail) no_header others (of-none (growth_headers s tail)) one
+
+-- or zeros
+pub growth-zeroed : (s : Structure) (tail : Tail) (run : List ℕ) {a b : Disk} → ConfinesTo s no_header run a b → WritesGrowth s tail run a b
+growth-zeroed s tail run one = to-wider s (growth_headers s tail) no_header run run (of-none (growth_headers s tail)) (λ l out. out) one
+
 -- zeros are written, and then the last header
 pub growth-named : (s : Structure) (tail : Tail) (run : List ℕ) {a b c : Disk} → ConfinesTo s no_header run a b → WritesParts s (only_header tail.number) b c → WritesGrowth s tail run a c
 growth-named s tail run one two =
     let all = growth_headers s tail in
-    to-then s s all (only_header tail.number) run [] (stands-within s s all (only_header tail.number) run (of-tail s tail) (stands-same s)) (λ l _. refl) (to-wider s all no_header run run (of-none all) (λ l out. out) one) two
+    to-then s s all (only_header tail.number) run [] (stands-within s s all (only_header tail.number) run (of-tail s tail) (stands-same s)) (λ l _. refl) (growth-zeroed s tail run one) two
 
 -- blocks are marked used, and then it grows by them
 pub growth-taken : (s t : Structure) (tail : Tail) (others run : List ℕ) {a b c : Disk} → index_in t ≡ index_in s → StandsAlike s t → ((l : ℕ) → is_in others l ≡ false → is_in run l ≡ false) → WritesParts s no_header a b → WritesGrowth t tail run b c
     → WritesGrowth s tail others a c
 growth-taken s t tail others run same alike fewer one two =
-    growth-then s t tail tail others run (grows-marked s t tail others same alike) fewer (to-parts s (growth_headers s tail) no_header others (of-none (growth_headers s tail)) one) two
+    growth-then s t tail tail others run (grows-marked s t tail others same alike) fewer (growth-marked s tail others one) two
 
 -- the headers of a file that grows are those that it had, and new ones
 pub growth-of : (s t : Structure) (listed : ℕ → Bool) (tail : Tail) → listed tail.number ≡ true → index_in t ≡ index_in s → (n : ℕ) → growth_headers t tail n ≡ true → either listed (new_header (index_in s)) n ≡ true

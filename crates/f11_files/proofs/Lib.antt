@@ -16,6 +16,7 @@ pub mod CreateLemmas
 pub mod SpaceLemmas
 pub mod StoreLemmas
 pub mod SlotLemmas
+pub mod SlotPartsLemmas
 pub mod InstanceLemmas
 pub mod FieldLemmas
 pub mod FileLemmas

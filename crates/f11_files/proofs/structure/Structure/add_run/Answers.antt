@@ -2,11 +2,8 @@ use Rattle.f11_files.proofs.AddRunLemmas.{fails-take, run-may, fails-append, add
 use Rattle.f11_files.proofs.PieceLemmas.{may-free}
 use Rattle.f11_files.proofs.TakenRunLemmas.{run-last}
 use Rattle.f11_files.proofs.AnswerLemmas.{handed}
-use Rattle.f11_files.proofs.PartsLemmas.{of-none, to-parts}
-use Rattle.f11_files.proofs.GrowthPartsLemmas.{grows-marked, grows-then, growth-run}
+use Rattle.f11_files.proofs.GrowthPartsLemmas.{grows-marked, grows-then, growth-run, growth-marked}
 use Rattle.std.proofs.Common.{[]}
-use Rattle.f11_files.specs.Confines.{no_header}
-use Rattle.f11_files.specs.Tail.{growth_headers}
 use Rattle.f11_files.proofs.structure.Structure.add_run.Goals as goal
 
 pub returns-in_err-lbn-clause-refused : goal.returns-in_err-lbn-clause-refused
@@ -30,9 +27,7 @@ returns-clause-added g c =
     (rw c.in_ok-append_run.was at c.append_run.ensures.stays)
 
 pub returns-in_err-lbn-clause-confined : goal.returns-in_err-lbn-clause-confined
-returns-in_err-lbn-clause-confined g c = λ honest.
-    let all = growth_headers c.args.self.now c.args.tail.now in
-    to-parts c.args.self.now all no_header _ (of-none all) c.take_run.ensures.confined
+returns-in_err-lbn-clause-confined g c = λ _. growth-marked c.args.self.now c.args.tail.now _ c.take_run.ensures.confined
 
 pub returns-in_err-append_run-clause-confined : goal.returns-in_err-append_run-clause-confined
 returns-in_err-append_run-clause-confined g c = λ honest. growth-run c.args.self.now c.take_run.new.self c.args.tail.now _ _ _ _ _ _ _ honest c.in_ok-lbn.ensures.taken c.take_run.ensures.places c.take_run.ensures.confined c.append_run.ensures.confined

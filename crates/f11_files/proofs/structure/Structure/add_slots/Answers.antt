@@ -3,10 +3,7 @@ use Rattle.f11_files.proofs.IndexPieceLemmas.{as-file}
 use Rattle.f11_files.proofs.PieceLemmas.{may-free}
 use Rattle.f11_files.proofs.TakenRunLemmas.{run-last}
 use Rattle.f11_files.proofs.AnswerLemmas.{handed}
-use Rattle.f11_files.proofs.PartsLemmas.{of-none, to-parts}
-use Rattle.f11_files.proofs.GrowthPartsLemmas.{grows-marked, grows-then, growth-run, run-free}
-use Rattle.f11_files.specs.Confines.{no_header}
-use Rattle.f11_files.specs.Tail.{growth_headers}
+use Rattle.f11_files.proofs.GrowthPartsLemmas.{grows-marked, grows-then, growth-run, run-free, growth-marked}
 use Rattle.f11_files.proofs.structure.Structure.add_slots.Goals as goal
 
 pub returns-in_err-lbn-clause-refused : goal.returns-in_err-lbn-clause-refused
@@ -30,9 +27,7 @@ returns-clause-added g c =
     (rw c.in_ok-append_slots.was at c.append_slots.ensures.stays)
 
 pub returns-in_err-lbn-clause-confined : goal.returns-in_err-lbn-clause-confined
-returns-in_err-lbn-clause-confined g c = λ honest.
-    let all = growth_headers c.args.self.now c.args.tail.now in
-    to-parts c.args.self.now all no_header _ (of-none all) c.take_run.ensures.confined
+returns-in_err-lbn-clause-confined g c = λ _. growth-marked c.args.self.now c.args.tail.now _ c.take_run.ensures.confined
 
 pub returns-in_err-append_slots-clause-confined : goal.returns-in_err-append_slots-clause-confined
 returns-in_err-append_slots-clause-confined g c = λ honest. growth-run c.args.self.now c.take_run.new.self c.args.tail.now _ _ _ _ _ _ _ honest c.in_ok-lbn.ensures.taken c.take_run.ensures.places c.take_run.ensures.confined c.append_slots.ensures.confined

@@ -4,10 +4,7 @@ use Rattle.std.specs.List.{range_with_len}
 use Rattle.f11_files.proofs.AppendRunLemmas.{sound-moment, fails-zeros, named-stays, now-own, now-may, appends-header, fails-header, fails-named, appends-named}
 use Rattle.f11_files.proofs.GrowingLemmas.{breaks-stays}
 use Rattle.f11_files.proofs.ZeroedLemmas.{mid-for, mid-last, mid-given, now-for, now-last, now-given, now-full}
-use Rattle.f11_files.proofs.PartsLemmas.{of-none, to-wider}
-use Rattle.f11_files.proofs.GrowthPartsLemmas.{grows-same, grows-then, growth-named, growth-then}
-use Rattle.f11_files.specs.Confines.{no_header}
-use Rattle.f11_files.specs.Tail.{growth_headers}
+use Rattle.f11_files.proofs.GrowthPartsLemmas.{grows-same, grows-then, growth-named, growth-then, growth-zeroed}
 use Rattle.f11_files.specs.declared.tail.Tail.{Tail}
 use Rattle.f11_files.proofs.structure.Structure.append_run.Goals as goal
 
@@ -75,10 +72,7 @@ pub returns-clause-stays : goal.returns-clause-stays
 returns-clause-stays g c = c.add_header.ensures.stays
 
 pub returns-in-Err-clause-confined : goal.returns-in-Err-clause-confined
-returns-in-Err-clause-confined g c =
-    let all = growth_headers c.args.self.now c.args.tail.now in
-    let run = range_with_len c.args.lbn c.args.count in
-    to-wider c.args.self.now all no_header run run (of-none all) (λ l out. out) c.zero_run.ensures.confined
+returns-in-Err-clause-confined g c = growth-zeroed c.args.self.now c.args.tail.now _ c.zero_run.ensures.confined
 
 pub returns-in-Err-name_run-clause-confined : goal.returns-in-Err-name_run-clause-confined
 returns-in-Err-name_run-clause-confined g c = growth-named c.args.self.now c.args.tail.now (range_with_len c.args.lbn c.args.count) c.zero_run.ensures.confined c.name_run.ensures.confined

@@ -4,8 +4,8 @@ use Rattle.f11_files.specs.Structure.{index_in}
 use Rattle.f11_files.proofs.BuryLemmas.{fails-killed, fails-bit, buries, buried-stays}
 use Rattle.f11_files.proofs.FreeingLemmas.{broken-stays}
 use Rattle.f11_files.proofs.FirstLemmas.{place-within}
-use Rattle.f11_files.proofs.PartsLemmas.{bit-alike, bit-went, parts-then, stands-same, only-failed, only-wrote}
-use Rattle.f11_files.specs.Confines.{only_header}
+use Rattle.f11_files.proofs.PartsLemmas.{bit-alike, only-failed}
+use Rattle.f11_files.proofs.SlotPartsLemmas.{slot-buried}
 use Rattle.f11_files.proofs.structure.Structure.bury.Goals as goal
 
 pub lbn_of_header-requires-clause-some : goal.lbn_of_header-requires-clause-some
@@ -55,16 +55,10 @@ pub returns-in-Err-clause-confined : goal.returns-in-Err-clause-confined
 returns-in-Err-clause-confined g c = only-failed c.args.self.now c.args.n _ _ _ _ c.requires.holds.in_use c.lbn_of_header.ensures c.in-Err.ensures.writes.err
 
 pub returns-in-Ok-clear-clause-confined : goal.returns-in-Ok-clear-clause-confined
-returns-in-Ok-clear-clause-confined g c =
-    parts-then c.args.self.now c.args.self.now (only_header c.args.n) (stands-same c.args.self.now)
-    (only-wrote c.args.self.now c.args.n _ _ _ _ c.requires.holds.in_use c.lbn_of_header.ensures c.in-Ok.ensures.writes.ok)
-    (bit-went c.args.self.now (only_header c.args.n) false c.args.n (in_use-some (index_in c.args.self.now) c.args.n c.requires.holds.in_use) (in_use-slot (index_in c.args.self.now) c.args.n c.requires.holds.in_use) c.in-Ok-clear.ensures.done.went)
+returns-in-Ok-clear-clause-confined g c = slot-buried c.args.self.now c.args.n _ _ _ _ c.requires.holds.in_use c.lbn_of_header.ensures c.in-Ok.ensures.writes.ok c.in-Ok-clear.ensures.done.went
 
 pub returns-in-Ok-clear-clause-places : goal.returns-in-Ok-clear-clause-places
 returns-in-Ok-clear-clause-places g c = bit-alike c.args.self.now (record c.args.self.now { index = c.clear.new.self }) false c.args.n c.in-Ok-clear.ensures.done.bit refl
 
 pub returns-in-Err-clear-clause-confined : goal.returns-in-Err-clear-clause-confined
-returns-in-Err-clear-clause-confined g c =
-    parts-then c.args.self.now c.args.self.now (only_header c.args.n) (stands-same c.args.self.now)
-    (only-wrote c.args.self.now c.args.n _ _ _ _ c.requires.holds.in_use c.lbn_of_header.ensures c.in-Ok.ensures.writes.ok)
-    (bit-went c.args.self.now (only_header c.args.n) false c.args.n (in_use-some (index_in c.args.self.now) c.args.n c.requires.holds.in_use) (in_use-slot (index_in c.args.self.now) c.args.n c.requires.holds.in_use) c.in-Err-clear.ensures.failed)
+returns-in-Err-clear-clause-confined g c = slot-buried c.args.self.now c.args.n _ _ _ _ c.requires.holds.in_use c.lbn_of_header.ensures c.in-Ok.ensures.writes.ok c.in-Err-clear.ensures.failed

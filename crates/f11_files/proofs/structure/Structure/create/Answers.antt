@@ -1,14 +1,12 @@
-use Rattle.std.proofs.Common.{◌<◌, true, length, refl, ap, arith}
+use Rattle.std.proofs.Common.{length, refl, ap, arith}
 use Rattle.f11_dev.specs.Disk.{Disk}
-use Rattle.f11_dev.proofs.LookedLemmas.{looked_none, looked_read, looked_failed_read}
+use Rattle.f11_dev.proofs.LookedLemmas.{looked_none, looked_failed_read}
 use Rattle.f11_index.proofs.InUseLemmas.{header-within}
 use Rattle.f11_files.specs.Structure.{index_in}
 use Rattle.f11_files.proofs.AnswerLemmas.{right-cause, right-fault, reads-looked}
 use Rattle.f11_files.proofs.CreateLemmas.{none-free, fails-first, fails-first-stays, fails-bit, fails-bit-stays, creates, created-stays}
 use Rattle.f11_files.proofs.WriteLemmas.{fails-unread}
-use Rattle.f11_files.proofs.PartsLemmas.{bit-went, parts-looked, parts-then, slot-failed, slot-wrote, stands-same}
-use Rattle.f11_files.proofs.GrowthPartsLemmas.{unused-new}
-use Rattle.f11_files.specs.Confines.{new_header}
+use Rattle.f11_files.proofs.SlotPartsLemmas.{slot-entered, slot-unwritten}
 use Rattle.f11_files.proofs.structure.Structure.create.Goals as goal
 
 pub returns-in_default-clause-refused : goal.returns-in_default-clause-refused
@@ -59,31 +57,10 @@ returns-in-Err-set-clause-stays g c = fails-bit-stays c.args.self.now c.args.own
     c.next_sequence.ensures.next _ _ c.fill_first.ensures _ c.in-Ok-write.ensures.writes.ok _ _ refl c.in-Err-set.ensures.failed
 
 pub returns-in-Err-write-clause-confined : goal.returns-in-Err-write-clause-confined
-returns-in-Err-write-clause-confined g c =
-    let s = c.args.self.now in
-    let least = c.in-Some.ensures in
-    let some : 0 < c.in-Some.number = omega (arith, least.low) in
-    let new = new_header (index_in s) in
-    let may = unused-new (index_in s) c.in-Some.number some least.high least.unused in
-    let read = parts-looked s new (looked_read _ _ c.in-Ok.ensures.reads.counts) in
-    parts-then s s new (stands-same s) read (slot-failed s new c.in-Some.number _ _ _ _ may some least.high c.lbn_of_header-lbn.ensures c.in-Err-write.ensures.writes.err)
+returns-in-Err-write-clause-confined g c = slot-unwritten c.args.self.now c.in-Some.number _ _ _ _ c.in-Some.ensures c.lbn_of_header-lbn.ensures c.in-Ok.ensures.reads.counts c.in-Err-write.ensures.writes.err
 
 pub returns-in-Ok-set-clause-confined : goal.returns-in-Ok-set-clause-confined
-returns-in-Ok-set-clause-confined g c =
-    let s = c.args.self.now in
-    let least = c.in-Some.ensures in
-    let some : 0 < c.in-Some.number = omega (arith, least.low) in
-    let new = new_header (index_in s) in
-    let may = unused-new (index_in s) c.in-Some.number some least.high least.unused in
-    let read = parts-looked s new (looked_read _ _ c.in-Ok.ensures.reads.counts) in
-    parts-then s s new (stands-same s) (parts-then s s new (stands-same s) read (slot-wrote s new c.in-Some.number _ _ _ _ may some least.high c.lbn_of_header-lbn.ensures c.in-Ok-write.ensures.writes.ok)) (bit-went s new true c.in-Some.number some least.high c.in-Ok-set.ensures.done.went)
+returns-in-Ok-set-clause-confined g c = slot-entered c.args.self.now c.in-Some.number _ _ _ _ c.in-Some.ensures c.lbn_of_header-lbn.ensures c.in-Ok.ensures.reads.counts c.in-Ok-write.ensures.writes.ok c.in-Ok-set.ensures.done.went
 
 pub returns-in-Err-set-clause-confined : goal.returns-in-Err-set-clause-confined
-returns-in-Err-set-clause-confined g c =
-    let s = c.args.self.now in
-    let least = c.in-Some.ensures in
-    let some : 0 < c.in-Some.number = omega (arith, least.low) in
-    let new = new_header (index_in s) in
-    let may = unused-new (index_in s) c.in-Some.number some least.high least.unused in
-    let read = parts-looked s new (looked_read _ _ c.in-Ok.ensures.reads.counts) in
-    parts-then s s new (stands-same s) (parts-then s s new (stands-same s) read (slot-wrote s new c.in-Some.number _ _ _ _ may some least.high c.lbn_of_header-lbn.ensures c.in-Ok-write.ensures.writes.ok)) (bit-went s new true c.in-Some.number some least.high c.in-Err-set.ensures.failed)
+returns-in-Err-set-clause-confined g c = slot-entered c.args.self.now c.in-Some.number _ _ _ _ c.in-Some.ensures c.lbn_of_header-lbn.ensures c.in-Ok.ensures.reads.counts c.in-Ok-write.ensures.writes.ok c.in-Err-set.ensures.failed

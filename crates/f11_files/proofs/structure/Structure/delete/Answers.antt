@@ -1,13 +1,13 @@
 use Rattle.std.proofs.lemmas.Result.{on_ok_weaker, IfErr-weaker}
 use Rattle.f11_files.proofs.AnswerLemmas.{handed}
-use Rattle.f11_files.proofs.GoneLemmas.{first-listed, behind-listed, gone-first, behind-hangs, deletes-file, gone-behind}
-use Rattle.f11_files.proofs.PartsLemmas.{of-only, parts-behind, parts-then, to-parts}
+use Rattle.f11_files.proofs.GoneLemmas.{behind-listed, gone-first, behind-hangs, deletes-file, gone-behind}
+use Rattle.f11_files.proofs.PartsLemmas.{parts-then, to-parts}
 use Rattle.std.proofs.Common.{◌∙◌, []}
 use Rattle.f11_index.specs.Headers.{headers_of}
 use Rattle.f11_index.specs.Table.{table_of}
 use Rattle.f11_store.specs.Changes.{is_in}
-use Rattle.f11_files.specs.Confines.{only_header}
 use Rattle.f11_files.specs.Structure.{home_of}
+use Rattle.f11_files.proofs.CutPartsLemmas.{first-parts}
 use Rattle.f11_files.proofs.structure.Structure.delete.Goals as goal
 
 pub returns-in_err-drop_header-clause-refused : goal.returns-in_err-drop_header-clause-refused
@@ -36,11 +36,7 @@ returns-clause-refused g c =
     c.drop_behind.ensures.refused
 
 pub returns-in_err-drop_header-clause-confined : goal.returns-in_err-drop_header-clause-confined
-returns-in_err-drop_header-clause-confined g c = λ honest.
-    let s = c.args.self.now in
-    let found = c.in_ok-read_first.ensures.found in
-    let all = is_in (headers_of (table_of (g.D.Device.disk c.args.device.now).image (home_of s)) c.args.f.number) in
-    parts-behind s all found.looked (to-parts s all (only_header c.args.f.number) [] (of-only all c.args.f.number (first-listed s c.args.f _ _ c.requires.is_for found.holds honest)) c.drop_header.ensures.confined)
+returns-in_err-drop_header-clause-confined g c = λ honest. first-parts c.args.self.now c.args.f _ _ _ c.requires.is_for c.in_ok-read_first.ensures.found honest c.drop_header.ensures.confined
 
 pub returns-clause-confined : goal.returns-clause-confined
 returns-clause-confined g c = λ honest.
@@ -49,6 +45,6 @@ returns-clause-confined g c = λ honest.
     let found = c.in_ok-read_first.ensures.found in
     let dropped = c.in_ok-drop_header.ensures.dropped in
     let all = is_in (headers_of (table_of (g.D.Device.disk c.args.device.now).image (home_of s)) c.args.f.number) in
-    let one = parts-behind s all found.looked (to-parts s all (only_header c.args.f.number) [] (of-only all c.args.f.number (first-listed s c.args.f _ _ c.requires.is_for found.holds honest)) c.drop_header.ensures.confined) in
     let more = behind-listed s c.args.f _ _ _ c.requires.is_for c.requires.late found (g.met.D.Device.is_image c.args.device.now) t _ dropped c.in_ok-drop_header.ensures.stays.home (g.met.D.Device.is_image c.drop_header.new.device) honest in
-    parts-then s t all c.in_ok-drop_header.ensures.places one (to-parts t all _ [] more (c.drop_behind.ensures.confined (dropped.writes.went.honest ∙ found.looked.honest ∙ honest)))
+    parts-then s t all c.in_ok-drop_header.ensures.places (first-parts s c.args.f _ _ _ c.requires.is_for c.in_ok-read_first.ensures.found honest c.drop_header.ensures.confined)
+    (to-parts t all _ [] more (c.drop_behind.ensures.confined (dropped.writes.went.honest ∙ found.looked.honest ∙ honest)))
