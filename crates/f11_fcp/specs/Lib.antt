@@ -1,0 +1,6 @@
+pub mod Accesses
+pub mod Handles
+pub mod Mounting
+pub mod Places
+pub mod Rights
+pub mod Serving
