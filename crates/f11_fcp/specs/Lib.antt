@@ -1,5 +1,6 @@
 pub mod Accesses
 pub mod Handles
+pub mod Laws
 pub mod Mounting
 pub mod Places
 pub mod Rights

@@ -1,5 +1,5 @@
 -- What serving a request tells (profile).
-use Rattle.std.specs.Prelude.{◌≡◌, ℕ, ◌||◌, Bool, true, false, List, Result, IsErrOf}
+use Rattle.std.specs.Prelude.{◌≡◌, ℕ, ◌||◌, Bool, true, false, IsTrue, List, Result, IsErrOf}
 use Rattle.f11_dev.specs.declared.device.Device.{Ghosts}
 use Rattle.f11_store.specs.declared.callers.Uic.{Uic}
 use Rattle.f11_store.specs.declared.refusals.Refusal.{Refusal}
@@ -8,6 +8,8 @@ use Rattle.f11_store.specs.declared.requests.Reply.{Reply}
 use Rattle.f11_store.specs.declared.requests.Request.{Request}
 use Rattle.f11_store.specs.declared.requests.Request.TheVariants as request
 use Rattle.f11_files.specs.Answers.{is_grave, is_refused}
+use Rattle.f11_files.specs.Open as files
+use Rattle.f11_vfy.specs.Verdict.{IsAccepted}
 use Rattle.f11_fcp.specs.Handles.{State, state_of, Handles}
 use Rattle.f11_fcp.specs.Places.{table_of}
 use Rattle.f11_fcp.specs.declared.volume.Volume.{Volume}
@@ -22,6 +24,14 @@ is_served _ = true
 -- what contracts know of a volume
 abbrev pub state_in : {D : Type 0} {met : Ghosts D} → Volume D met → State
 state_in v = state_of (table_of v.accesses) v.files
+
+-- the device
+abbrev pub device_in : {D : Type 0} {met : Ghosts D} → Volume D met → D
+device_in v = files.device_in v.files
+
+-- Where the disk is honest its image has no fault.
+abbrev pub StaysAccepted : State → Type 0
+StaysAccepted v = IsTrue v.disk.honest → IsAccepted v.disk.image
 
 -- whether a request was answered DeviceFault or Damaged
 abbrev pub is_spent : {D : Type 0} {met : Ghosts D} → Volume D met → Bool

@@ -50,9 +50,7 @@ impl Accesses {
                 self.write_attr(files, task, caller, *file, change)
             }
             Request::Space => self.space(files, task, caller),
-            Request::Find(..) | Request::Enter(..) | Request::Remove(..) => {
-                Err(Refusal::NotDirectory)
-            }
+            Request::Find(..) | Request::Enter(..) | Request::Remove(..) => unreachable!(),
         }
     }
 }

@@ -15,6 +15,7 @@ mod deaccess;
 mod delete;
 mod extend;
 mod grow_index;
+pub mod laws;
 mod release;
 mod rights;
 mod space;

@@ -33,11 +33,10 @@ pub struct Volume<D: Device> {
 
 impl<D: Device> Volume<D> {
     ghost use Rattle.std.specs.Prelude.{true, IfOk, IfErr};
-    ghost use Rattle.f11_files.specs.Open.{device_in};
     ghost use Rattle.f11_files.specs.Opened.{FailsToOpen};
     ghost use Rattle.f11_vfy.specs.Accepted.{device_of};
     ghost use Rattle.f11_fcp.specs.Mounting.{Mounts};
-    ghost use Rattle.f11_fcp.specs.Serving.{Serving, is_served, is_spent};
+    ghost use Rattle.f11_fcp.specs.Serving.{Serving, StaysAccepted, device_in, is_served, is_spent, state_in};
 
     /// Serves a request of a task.
     ///
@@ -53,6 +52,7 @@ impl<D: Device> Volume<D> {
     ) -> Result<Reply, Refusal>
         requires served { is_served request.now ≡ true }
         ensures serves { Serving task caller request.now result self.old self.new block.old block.new }
+        ensures accepted { StaysAccepted (state_in self.new) }
     {
         if self.failed {
             return Err(Refusal::VolumeFailed);
@@ -71,6 +71,7 @@ impl<D: Device> Volume<D> {
     /// Those of [`Files::open`].
     pub fn mount(alloc: Global, accepted: Accepted<D>) -> Result<Volume<D>, OpenFault<D>>
         ensures mounts { IfOk result (λ v. Mounts (D.disk (device_of accepted)) v) }
+        ensures accepted { IfOk result (λ v. StaysAccepted (state_in v)) }
         ensures refused { IfErr result (λ fault.
             FailsToOpen D.disk (D.disk (device_of accepted)) fault) }
     {
@@ -90,8 +91,8 @@ impl<D: Device> Volume<D> {
     ///
     /// The device as it is, where a request has answered `DeviceFault` or `Damaged`.
     pub fn dismount(self) -> Result<Accepted<D>, Failed<D>>
-        ensures given { IfOk result (λ a. (is_spent self ≡ false) × (device_of a ≡ device_in self.files)) }
-        ensures failed { IfErr result (λ f. (is_spent self ≡ true) × (f.0 ≡ device_in self.files)) }
+        ensures given { IfOk result (λ a. (is_spent self ≡ false) × (device_of a ≡ device_in self)) }
+        ensures failed { IfErr result (λ f. (is_spent self ≡ true) × (f.0 ≡ device_in self)) }
     {
         let Volume { files, failed, .. } = self;
         if failed {
@@ -99,5 +100,12 @@ impl<D: Device> Volume<D> {
         } else {
             Ok(files.close())
         }
+    }
+
+    /// The device as it is, to be looked at.
+    pub fn lent(&self) -> &D
+        ensures { result.now ≡ device_in self.now }
+    {
+        self.files.lent()
     }
 }
