@@ -6,6 +6,7 @@ use Rattle.f11_bits.proofs.BitmapLemmas.{free_blocks-given, free_blocks-taken}
 use Rattle.f11_dev.specs.Image.{Image}
 use Rattle.f11_home.specs.Home.{HomeFields}
 use Rattle.f11_index.specs.HeaderBlock.{segment_number}
+use Rattle.f11_index.specs.Headers.{is_live}
 use Rattle.f11_index.specs.Table.{Table, table_of, IsFile}
 use Rattle.f11_index.proofs.NextLemmas.{live-tested}
 use Rattle.f11_store.specs.Changes.{with_block, with_change}
@@ -16,7 +17,7 @@ use Rattle.f11_vfy.specs.Space.{storage_bitmap}
 use Rattle.f11_vfy.specs.Volume.{Volume, volume_of}
 use Rattle.f11_writes.specs.Kept.{file_in, KeepsVolume, KeepsFiles, WritesBlock, KeepsButFree}
 use Rattle.f11_files.specs.StoreOf.{is_first, as_seen, file_at, last_given, store_of}
-use Rattle.f11_files.specs.StoreLaws.{FirstIsTested}
+use Rattle.f11_files.specs.StoreLaws.{FirstIsTested, UnusedIsEmpty}
 
 pub first-is-tested : FirstIsTested
 unfolding is_first
@@ -24,6 +25,10 @@ first-is-tested t n = (
   λ is. let both = and_parts _ _ is in record { live = (live-tested t n).0 both.0; first = eqb-true (segment_number (t.header n)) 0 both.1 },
   λ file. and_from _ _ ((live-tested t n).1 file.live) (eq-eqb (segment_number (t.header n)) 0 file.first),
 )
+
+pub unused-is-empty : UnusedIsEmpty
+unfolding store_of file_at is_first is_live
+unused-is-empty image home n unused = rw unused refl
 
 -- two stores with the same in each field are one
 pub same-store : (s t : Store) → ((n : ℕ) → s.file n ≡ t.file n) → s.free ≡ t.free → s.slots ≡ t.slots → ((n : ℕ) → s.in_use n ≡ t.in_use n) → ((n : ℕ) → s.last n ≡ t.last n)

@@ -4,6 +4,7 @@ use Rattle.f11_bits.specs.Bitmap.{is_free, Marks}
 use Rattle.f11_dev.specs.Image.{Image}
 use Rattle.f11_home.specs.Home.{HomeFields}
 use Rattle.f11_index.specs.Table.{Table, IsFile}
+use Rattle.f11_store.specs.Accesses.{FreeIsEmpty}
 use Rattle.f11_store.specs.Changes.{with_block, with_change}
 use Rattle.f11_vfy.specs.Space.{storage_bitmap}
 use Rattle.f11_writes.specs.Kept.{KeepsFiles, WritesBlock, KeepsButFree}
@@ -36,3 +37,7 @@ MoreAreFree =
     (old new : Image) (home : HomeFields) (lbn count : ℕ) → KeepsButFree home old new → Marks true (storage_bitmap old home) lbn count old new →
     lbn + count ≤ (storage_bitmap old home).size → ((k : ℕ) → lbn ≤ k → k < lbn + count → is_free old (storage_bitmap old home) k ≡ false) →
     store_of new home ≡ record (store_of old home) { free = (store_of old home).free + count }
+
+-- no file is in a slot that isn't in use
+abbrev pub UnusedIsEmpty : Type 0
+UnusedIsEmpty = (image : Image) (home : HomeFields) → FreeIsEmpty (store_of image home)

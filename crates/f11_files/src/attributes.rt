@@ -113,7 +113,7 @@ impl Structure {
 }
 
 impl<D: Device> Files<D> {
-    ghost use Rattle.f11_files.specs.Open.{disk_in, has_failed, home_in, store_in, Answers, IsIdFrom};
+    ghost use Rattle.f11_files.specs.Open.{counts_in, disk_in, has_failed, home_in, store_in, Answers, IsIdFrom};
 
     /// What a file's header says of it, of one that is marked for delete too, and of the volume's own files. One transfer at most.
     ///
@@ -124,6 +124,7 @@ impl<D: Device> Files<D> {
     pub fn read_attr(&mut self, f: FileId) -> Result<Attr, Refusal>
         requires id { IsIdFrom 1 f }
         ensures answers { Answers result self.old self.new }
+        ensures told { counts_in self.new ≡ counts_in self.old }
         ensures read { IfOk result (λ attr.
             ReadsAttr (home_in self.old) f attr (disk_in self.old) (disk_in self.new)) }
         ensures refused { IfErr result (λ refusal. FailsToRead (has_failed self.old)

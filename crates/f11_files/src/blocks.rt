@@ -82,7 +82,7 @@ impl Structure {
 }
 
 impl<D: Device> Files<D> {
-    ghost use Rattle.f11_files.specs.Open.{disk_in, has_failed, home_in, store_in, Answers, IsIdFrom};
+    ghost use Rattle.f11_files.specs.Open.{counts_in, disk_in, has_failed, home_in, store_in, Answers, IsIdFrom};
 
     /// Reads block `vbn` of a file, from 1, into the block that is lent, which stays as it is where the call is refused for another cause
     /// than `DeviceFault` and `Damaged`. It reads the file's headers up to the one that names the block, each once, and the block.
@@ -96,6 +96,7 @@ impl<D: Device> Files<D> {
         requires id { IsIdFrom 4 f }
         requires some { 0 < vbn }
         ensures answers { Answers result self.old self.new }
+        ensures told { counts_in self.new ≡ counts_in self.old }
         ensures read { OnOk result (ReadsBlock (home_in self.old) f vbn block.new
             (disk_in self.old) (disk_in self.new)) }
         ensures refused { IfErr result (λ refusal. FailsToRead (has_failed self.old)

@@ -17,6 +17,11 @@ pub fn tests()
     ensures { laws.FirstIsTested }
 {}
 
+/// A slot that isn't in use has no file.
+pub fn unused_slots()
+    ensures { laws.UnusedIsEmpty }
+{}
+
 /// A write that leaves all files, or changes a block of one.
 pub fn block_writes()
     ensures stays { laws.StoreStays }

@@ -45,7 +45,7 @@ pub record IsFreeSlot (s : Store) (n : ℕ) : Type 0 where
   pub high : n ≤ s.slots
   pub unused : s.in_use n ≡ false
 
-least_free_is_free : (s : Store) → (free_headers s == 0) ≡ false → IsFreeSlot s (least_free s)
+pub least_free_is_free : (s : Store) → (free_headers s == 0) ≡ false → IsFreeSlot s (least_free s)
 unfolding free_slots
 least_free_is_free s h =
     let l = first_passes (λ n. not (s.in_use n)) 6 (s.slots - 5) h in

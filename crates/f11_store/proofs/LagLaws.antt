@@ -44,7 +44,7 @@ unchanged_lags : (work : Work) (s t : Store) → t ≡ s → LagsBy work t s
 unchanged_lags work s t e = subst (λ (x : Store). LagsBy work x s) (sym e) (lags_itself work s)
 
 -- more free headers where no other slot is in use
-free_headers_grow :
+pub free_headers_grow :
     (s t : Store) → ((n : ℕ) → s.in_use n ≡ false → t.in_use n ≡ false) → t.slots ≡ s.slots → free_headers s ≤ free_headers t
 unfolding free_slots
 free_headers_grow s t h e = rw e (filter_no_less (λ n. not (s.in_use n)) (λ n. not (t.in_use n)) 6 (s.slots - 5)
@@ -90,11 +90,11 @@ work_served :
 work_served s task caller r block h = ap (λ o. work_if o (served_work s task caller r block)) h
 
 -- less room needs no fewer headers
-need_no_less : (less room n : ℕ) → less ≤ room → need room n ≤ need less n
+pub need_no_less : (less room n : ℕ) → less ≤ room → need room n ≤ need less n
 need_no_less less room n h = omega arith
 
 -- as many slots as are taken, or fewer
-taken_at_most : (n : ℕ) (slots : List ℕ) → length (take n slots) ≤ n
+pub taken_at_most : (n : ℕ) (slots : List ℕ) → length (take n slots) ≤ n
 taken_at_most n slots = rw length-take (omega arith)
 
 -- what work that takes blocks and headers leaves
@@ -192,7 +192,7 @@ gone_lags s k =
     frees_lags (go_work k) s (without_file_at s k) (λ n. alike ((without_file_at s k).file n)) refl (frees_without_file s k)
 
 -- no header is added where none is needed
-none_added : (less room n added : ℕ) → less ≤ room → added ≤ need room n → need less n ≡ 0 → added ≡ 0
+pub none_added : (less room n added : ℕ) → less ≤ room → added ≤ need room n → need less n ≡ 0 → added ≡ 0
 none_added less room n added h k e = omega (arith, need_no_less less room n h, h, k, e)
 
 grown_takes :

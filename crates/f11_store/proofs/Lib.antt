@@ -1,13 +1,18 @@
 pub mod BlockLaws
 pub mod DirectoryLaws
+pub mod FateLaws
 pub mod FileLaws
 pub mod Frees
 pub mod Growth
+pub mod HeldLaws
 pub mod LagLaws
 pub mod NoLags
+pub mod ProgressLaws
 pub mod RecordLemmas
+pub mod ReleaseLaws
 pub mod RemovalLaws
 pub mod SlotLemmas
+pub mod StepFates
 pub mod StepLaws
 pub mod StoreLemmas
 mod WorkedLemmas

@@ -1,3 +1,4 @@
+pub mod Accesses
 pub mod Causes
 pub mod Changes
 pub mod Cost
@@ -5,7 +6,9 @@ pub mod Directory
 pub mod File
 pub mod Lags
 pub mod Laws
+pub mod Moments
 pub mod Refusal
+pub mod Release
 pub mod Rights
 pub mod Run
 pub mod Step

@@ -14,6 +14,6 @@ pub mod worked;
 
 pub use callers::{Lun, Task, Uic};
 pub use files::{Attr, Change, FileId, Mode, name_words};
-pub use protection::{Class, Right, Rights, allowed, may};
+pub use protection::{Class, Right, Rights, allowed, is_of, may};
 pub use refusals::Refusal;
 pub use requests::{Reply, Request};

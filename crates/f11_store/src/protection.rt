@@ -71,7 +71,7 @@ impl Flags for Rights {
 }
 
 /// Whether the caller is of the class.
-fn is_of(caller: Uic, owner: Uic, class: Class) -> bool
+pub fn is_of(caller: Uic, owner: Uic, class: Class) -> bool
     ensures { result ≡ specs.is_of caller owner class }
 {
     match class {

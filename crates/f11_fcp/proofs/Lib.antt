@@ -1,0 +1,14 @@
+mod AccessLemmas
+mod AccessedLemmas
+mod AttributeLemmas
+mod DeaccessLemmas
+mod DeleteLemmas
+mod GrowIndexLemmas
+mod HandleLemmas
+mod MarkLemmas
+mod NamedLemmas
+mod OpenLemmas
+mod ReleaseLemmas
+mod RequestLemmas
+mod TableLemmas
+mod TruncateLemmas

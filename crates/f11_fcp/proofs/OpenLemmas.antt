@@ -1,0 +1,94 @@
+-- Files stay open, and what is kept of accesses right.
+use Rattle.std.proofs.Common.{◌≡◌, ℕ, true, false, IsTrue, List, [], Option, Some, None, Result, Ok, Err, refl, sym, ◌∙◌, ap, subst, option_map}
+use Rattle.f11_dev.specs.declared.device.Device.{Ghosts}
+use Rattle.f11_store.specs.Store.{Store, is_same}
+use Rattle.f11_store.specs.Step.{Step, block_after}
+use Rattle.f11_store.specs.declared.callers.Uic.{Uic}
+use Rattle.f11_store.specs.declared.files.FileId.{FileId}
+use Rattle.f11_store.specs.declared.refusals.Refusal.{Refusal}
+use Rattle.f11_store.specs.declared.requests.Reply.{Reply}
+use Rattle.f11_store.specs.declared.requests.Request.{Request}
+use Rattle.f11_files.specs.Answers.{is_grave, is_refused}
+use Rattle.f11_files.specs.Open.{has_failed, disk_in, home_in}
+use Rattle.f11_files.proofs.StoreLemmas.{unused-is-empty}
+use Rattle.f11_files.specs.StoreOf.{store_of}
+use Rattle.f11_files.specs.declared.files.Files.{Files}
+use Rattle.f11_fcp.specs.Accesses.{Table, Entry, held_in, mark_there, mark_kept, HasAccessed, access_of}
+use Rattle.f11_dev.proofs.WentLemmas.{went_weaker}
+use Rattle.f11_store.specs.Causes.{first_refusal}
+use Rattle.f11_store.specs.Changes.{Changes}
+use Rattle.f11_store.specs.Lags.{Work, LagsBy, work_if, served_work}
+use Rattle.f11_store.specs.declared.requests.Request.TheVariants as request
+use Rattle.f11_store.specs.Accesses.{is_blockless}
+use Rattle.f11_fcp.specs.Handles.{State, Meanwhile, state_of, store_at, Handles, IsOpen, StaysOpen}
+use Rattle.f11_store.proofs.FateLaws.{Fate, mark-stays, held-at}
+use Rattle.f11_store.proofs.StepFates.{SimpleIf, fate-step}
+use Rattle.std.proofs.lemmas.Bool.{eq-eqb, and_from}
+
+-- an identification is the same as itself
+pub same-self : (id : FileId) → is_same id id ≡ true
+same-self id = and_from _ _ (eq-eqb id.number id.number refl) (eq-eqb id.sequence id.sequence refl)
+
+-- what is kept of accesses is right after a step that leaves the table
+pub kept-by-step : (t : Table) (s s' : Store) → ((n : ℕ) → Fate (held_in t s) (held_in t s') n) → HasAccessed t s → HasAccessed t s'
+kept-by-step t s s' fate kept task lun low small = by_entry (t task lun) refl (kept task lun low small)
+  where
+    by_entry : (o : Option Entry) → t task lun ≡ o → mark_there s o ≡ mark_kept o → mark_there s' o ≡ mark_kept o
+    by_entry None is h = refl
+    by_entry (Some e) is h =
+        mark-stays (held_in t s) (held_in t s') e.file e.marked (fate e.file.number) h
+        (held-at (λ _. true) (held_in t s') task lun (access_of e) e.file low small (ap (option_map access_of) is) (same-self e.file) refl)
+
+-- so all stays open where a request left the table as it was
+pub stays-open : {D : Type 0} {met : Ghosts D} (t : Table) (old new : Files D met) (task : ℕ) (caller : Uic) (r : Request) (result : Result Reply Refusal) (block block' : List ℕ)
+    → IsOpen t old → (IsTrue (disk_in old).honest → SimpleIf result (store_at (state_of t old)) r) → Handles task caller r result (state_of t old) block (state_of t new) block' → (is_refused is_grave result ≡ false → has_failed new ≡ false)
+    → StaysOpen result t new
+stays-open t old new task caller r result block block' is simple handles alive light = record {
+  alive = alive light;
+  kept = λ honest.
+      let was : IsTrue (disk_in old).honest = sym handles.writes.went.honest ∙ honest in
+      kept-by-step t (store_of (disk_in old).image (home_in old)) (store_of (disk_in new).image (home_in new))
+      (fate-step (store_at (state_of t old)) task caller r block result (store_at (state_of t new)) block' (unused-is-empty (disk_in old).image (home_in old)) (simple was) (handles.step was light)) (is.kept was);
+}
+
+-- a request that doesn't touch the block
+changes-block : (s : Store) (task : ℕ) (caller : Uic) (r : Request) (block : List ℕ) (s' : Store) → is_blockless r ≡ true → Changes s task caller r [] s' → Changes s task caller r block s'
+changes-block s task caller (request.ReadBlock lun vbn) block s' is h = absurd (cc)
+changes-block s task caller (request.WriteBlock lun vbn) block s' is h = absurd (cc)
+changes-block s task caller _ block s' is h = h
+
+block-same : (s : Store) (task : ℕ) (r : Request) (block : List ℕ) → is_blockless r ≡ true → block ≡ block_after s task r block
+block-same s task (request.ReadBlock lun vbn) block is = absurd (cc)
+block-same s task (request.WriteBlock lun vbn) block is = absurd (cc)
+block-same s task _ block is = refl
+
+work-same : (s : Store) (task : ℕ) (caller : Uic) (r : Request) (block : List ℕ) → is_blockless r ≡ true → served_work s task caller r [] ≡ served_work s task caller r block
+work-same s task caller (request.ReadBlock lun vbn) block is = absurd (cc)
+work-same s task caller (request.WriteBlock lun vbn) block is = absurd (cc)
+work-same s task caller _ block is = refl
+
+step-block : (s : Store) (task : ℕ) (caller : Uic) (r : Request) (block : List ℕ) (result : Result Reply Refusal) (s' : Store) → is_blockless r ≡ true → Step s task caller r [] result s' []
+    → Step s task caller r block result s' block
+step-block s task caller r block (Ok a) s' is h =
+    record { no_cause = h.no_cause; reply_is = h.reply_is; changes = changes-block s task caller r block s' is h.changes; block_is = block-same s task r block is }
+step-block s task caller r block (Err e) s' is h = record { may_refuse = h.may_refuse; store_stays = h.store_stays; block_stays = refl }
+
+pub handles-block : (task : ℕ) (caller : Uic) (r : Request) (result : Result Reply Refusal) (old new : State) (block : List ℕ) → is_blockless r ≡ true → Handles task caller r result old [] new []
+    → Handles task caller r result old block new block
+handles-block task caller r result old new block is h = record {
+  step = λ honest light. step-block (store_at old) task caller r block result (store_at new) is (h.step honest light);
+  undamaged = h.undamaged;
+  writes = record {
+    transfers = h.writes.transfers;
+    went = went_weaker (Meanwhile task caller r [] old) (Meanwhile task caller r block old)
+        (λ image stands honest. let u = stands honest in record {
+          sound = u.sound;
+          lags = subst (λ (w : Work). LagsBy (work_if (first_refusal (store_at old) task caller r) w) (store_of image old.home) (store_at old)) (work-same (store_at old) task caller r block is) u.lags;
+        }) h.writes.went;
+    few = h.writes.few;
+  };
+  left = λ light. let u = h.left light in record { image = u.image; table = u.table; counts = u.counts; lent = refl };
+  among = h.among;
+  unfailed = h.unfailed;
+  home = h.home;
+}

@@ -1,0 +1,48 @@
+use Rattle.std.proofs.Common.{◌∙◌, ◌||◌, false, refl, sym, ap}
+use Rattle.f11_dev.specs.Image.{Image}
+use Rattle.f11_home.specs.Home.{HomeFields}
+use Rattle.f11_files.specs.Open.{store_in, home_in, disk_in}
+use Rattle.f11_files.specs.StoreOf.{store_of}
+use Rattle.f11_fcp.specs.Handles.{state_of}
+use Rattle.f11_fcp.specs.Places.{table_of}
+use Rattle.f11_fcp.proofs.AccessLemmas.{access-bad, access-in-use, access-system, access-unread, access-marked, access-unprivileged, access-barred, access-taken, access-kept}
+use Rattle.f11_fcp.proofs.table.Accesses.access.Goals as goal
+
+pub returns-then-is_bad-clause-handles : goal.returns-then-is_bad-clause-handles
+returns-then-is_bad-clause-handles g c = access-bad c.args.task c.args.lun c.args.caller c.args.file c.args.mode (state_of (table_of c.args.self.now) c.args.files.now) (sym c.is_bad.ensures ∙ c.if-is_bad.true)
+
+pub returns-in-Some-clause-handles : goal.returns-in-Some-clause-handles
+returns-in-Some-clause-handles g c = access-in-use c.args.task c.args.lun c.args.caller c.args.file c.args.mode (state_of (table_of c.args.self.now) c.args.files.now) (sym c.is_bad.ensures ∙ c.if-is_bad.false) _ (sym c.in-Some.ensures.value)
+
+pub returns-then-file-lt4-clause-handles : goal.returns-then-file-lt4-clause-handles
+returns-then-file-lt4-clause-handles g c = access-system c.args.task c.args.lun c.args.caller c.args.file c.args.mode (state_of (table_of c.args.self.now) c.args.files.now) (sym c.is_bad.ensures ∙ c.if-is_bad.false) (sym c.in-None.ensures.value) c.if-file-lt4.true
+
+pub returns-in-Err-clause-handles : goal.returns-in-Err-clause-handles
+returns-in-Err-clause-handles g c =
+    access-unread c.args.task c.args.lun c.args.caller c.args.file c.args.mode (state_of (table_of c.args.self.now) c.args.files.now) (sym c.is_bad.ensures ∙ c.if-is_bad.false) (sym c.in-None.ensures.value) c.if-file-lt4.false c.in-Err.refusal (state_of (table_of c.args.self.now) c.read_attr.new.self) c.requires.open.alive c.in-Err.ensures.refused c.in-Err.ensures.answers.home refl c.in-Err.ensures.told
+
+pub returns-then-is_marked-clause-handles : goal.returns-then-is_marked-clause-handles
+returns-then-is_marked-clause-handles g c =
+    access-marked c.args.task c.args.lun c.args.caller c.args.file c.args.mode (state_of (table_of c.args.self.now) c.args.files.now) (sym c.is_bad.ensures ∙ c.if-is_bad.false) (sym c.in-None.ensures.value) c.if-file-lt4.false c.in-Ok.attr (state_of (table_of c.args.self.now) c.read_attr.new.self) c.in-Ok.ensures.read.reads c.in-Ok.ensures.read.no_cause c.in-Ok.ensures.read.attr_is c.in-Ok.ensures.answers.home c.in-Ok.ensures.told refl (sym c.is_marked.ensures ∙ c.if-is_marked.true)
+
+pub returns-then-lacks_for-clause-handles : goal.returns-then-lacks_for-clause-handles
+returns-then-lacks_for-clause-handles g c =
+    access-unprivileged c.args.task c.args.lun c.args.caller c.args.file c.args.mode (state_of (table_of c.args.self.now) c.args.files.now) (sym c.is_bad.ensures ∙ c.if-is_bad.false) (sym c.in-None.ensures.value) c.if-file-lt4.false c.in-Ok.attr (state_of (table_of c.args.self.now) c.read_attr.new.self) c.in-Ok.ensures.read.reads c.in-Ok.ensures.read.no_cause c.in-Ok.ensures.read.attr_is c.in-Ok.ensures.answers.home c.in-Ok.ensures.told (sym c.is_marked.ensures ∙ c.if-is_marked.false) refl (sym c.lacks_for.ensures ∙ c.if-lacks_for.true)
+
+pub returns-then-is_barred-clause-handles : goal.returns-then-is_barred-clause-handles
+returns-then-is_barred-clause-handles g c =
+    access-barred c.args.task c.args.lun c.args.caller c.args.file c.args.mode (state_of (table_of c.args.self.now) c.args.files.now) (sym c.is_bad.ensures ∙ c.if-is_bad.false) (sym c.in-None.ensures.value) c.if-file-lt4.false c.in-Ok.attr (state_of (table_of c.args.self.now) c.read_attr.new.self) c.in-Ok.ensures.read.reads c.in-Ok.ensures.read.no_cause c.in-Ok.ensures.read.attr_is c.in-Ok.ensures.answers.home c.in-Ok.ensures.told (sym c.is_marked.ensures ∙ c.if-is_marked.false) (sym c.lacks_for.ensures ∙ c.if-lacks_for.false) refl (sym c.if-is_barred.true ∙ c.is_barred.ensures)
+
+pub returns-clause-handles : goal.returns-clause-handles
+returns-clause-handles g c =
+    access-taken c.args.task c.args.lun c.args.caller c.args.file c.args.mode (state_of (table_of c.args.self.now) c.args.files.now) (sym c.is_bad.ensures ∙ c.if-is_bad.false) (sym c.in-None.ensures.value) c.if-file-lt4.false c.in-Ok.attr (state_of (table_of c.set.new.self) c.read_attr.new.self) c.in-Ok.ensures.read.reads c.in-Ok.ensures.read.no_cause c.in-Ok.ensures.read.attr_is c.in-Ok.ensures.answers.home c.in-Ok.ensures.told (sym c.is_marked.ensures ∙ c.if-is_marked.false) (sym c.lacks_for.ensures ∙ c.if-lacks_for.false) c.set.ensures.value (sym c.if-is_barred.false ∙ c.is_barred.ensures)
+
+pub returns-clause-open : goal.returns-clause-open
+returns-clause-open g c = λ _. record {
+  alive = c.in-Ok.ensures.answers.next ∙ ap (λ b. b || false) c.requires.open.alive;
+  kept = λ honest.
+      let looked = c.in-Ok.ensures.read.reads.looked in
+      let was = sym looked.honest ∙ honest in
+      access-kept c.args.task c.args.lun c.args.caller c.args.file c.args.mode (state_of (table_of c.args.self.now) c.args.files.now) (sym c.is_bad.ensures ∙ c.if-is_bad.false) (sym c.in-None.ensures.value) c.if-file-lt4.false c.in-Ok.attr (state_of (table_of c.set.new.self) c.read_attr.new.self) c.in-Ok.ensures.read.reads c.in-Ok.ensures.read.no_cause c.in-Ok.ensures.read.attr_is c.in-Ok.ensures.answers.home c.in-Ok.ensures.told (sym c.is_marked.ensures ∙ c.if-is_marked.false) (sym c.lacks_for.ensures ∙ c.if-lacks_for.false) (table_of c.set.new.self) (store_in c.read_attr.new.self)
+      (ap (λ (i : Image). store_of i (home_in c.read_attr.new.self)) looked.image ∙ ap (λ (h : HomeFields). store_of (disk_in c.args.files.now).image h) c.in-Ok.ensures.answers.home) c.set.ensures.value was (c.requires.open.kept was);
+}

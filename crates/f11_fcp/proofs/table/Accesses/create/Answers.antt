@@ -1,0 +1,27 @@
+use Rattle.std.proofs.Common.{[], ◌∙◌, ◌||◌, false, ap, refl}
+use Rattle.f11_files.specs.Answers.{is_grave}
+use Rattle.f11_fcp.proofs.OpenLemmas.{stays-open}
+use Rattle.f11_fcp.specs.Handles.{state_of}
+use Rattle.f11_fcp.specs.Places.{table_of}
+use Rattle.f11_fcp.proofs.RequestLemmas.{created, not-created}
+use Rattle.f11_fcp.proofs.table.Accesses.create.Goals as goal
+
+pub returns-in-Ok-clause-handles : goal.returns-in-Ok-clause-handles
+returns-in-Ok-clause-handles g c =
+    created c.args.task c.args.caller c.args.protection c.args.ident.now c.args.attr.now (state_of (table_of c.args.self.now) c.args.files.now) (state_of (table_of c.args.self.now) c.create.new.self) _
+    c.in-Ok.ensures.created c.in-Ok.ensures.answers.home refl
+
+pub returns-in-Ok-clause-open : goal.returns-in-Ok-clause-open
+returns-in-Ok-clause-open g c =
+    stays-open (table_of c.args.self.now) c.args.files.now c.create.new.self c.args.task c.args.caller _ _ [] [] c.requires.open (λ _. tt) (returns-in-Ok-clause-handles g c)
+    (λ _. c.in-Ok.ensures.answers.next ∙ ap (λ b. b || false) c.requires.open.alive)
+
+pub returns-in-Err-clause-handles : goal.returns-in-Err-clause-handles
+returns-in-Err-clause-handles g c =
+    not-created c.args.task c.args.caller c.args.protection c.args.ident.now c.args.attr.now _ c.requires.open.alive (state_of (table_of c.args.self.now) c.args.files.now) (state_of (table_of c.args.self.now) c.create.new.self)
+    c.in-Err.refusal c.in-Err.ensures.refused c.in-Err.ensures.answers.home refl c.in-Err.ensures.answers.counts
+
+pub returns-in-Err-clause-open : goal.returns-in-Err-clause-open
+returns-in-Err-clause-open g c =
+    stays-open (table_of c.args.self.now) c.args.files.now c.create.new.self c.args.task c.args.caller _ _ [] [] c.requires.open (λ _. tt) (returns-in-Err-clause-handles g c)
+    (λ light. c.in-Err.ensures.answers.next ∙ ap (λ b. b || is_grave c.in-Err.refusal) c.requires.open.alive ∙ light)

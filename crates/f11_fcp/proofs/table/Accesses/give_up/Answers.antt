@@ -1,0 +1,58 @@
+use Rattle.std.proofs.Common.{◌≡◌, ◌∙◌, ◌||◌, true, false, inl, inr, refl, sym, ap, subst}
+use Rattle.std.proofs.lemmas.Bool.{not-true, not-false}
+use Rattle.f11_home.specs.Home.{HomeFields}
+use Rattle.f11_store.specs.declared.refusals.Refusal.{Refusal}
+use Rattle.f11_files.specs.Answers.{is_grave}
+use Rattle.f11_files.specs.Open.{store_in, home_in, disk_in}
+use Rattle.f11_files.specs.StoreOf.{store_of}
+use Rattle.f11_fcp.specs.Accesses.{Table, is_held_in, any_mode}
+use Rattle.f11_fcp.specs.Handles.{state_of}
+use Rattle.f11_fcp.specs.Places.{table_of, entry_of}
+use Rattle.f11_fcp.proofs.AccessedLemmas.{mark-held}
+use Rattle.f11_fcp.proofs.DeaccessLemmas.{deaccess-plain, deaccess-deletes, deaccess-fails, deleted-kept, deletion-grave, given-kept}
+use Rattle.f11_fcp.proofs.table.Accesses.give_up.Goals as goal
+
+pub returns-then-not-held-clause-handles : goal.returns-then-not-held-clause-handles
+returns-then-not-held-clause-handles g c = deaccess-plain c.args.task c.args.lun c.args.caller (state_of (table_of c.args.self.now) c.args.files.now) (entry_of c.args.held) c.requires.held (λ honest. mark-held (table_of c.args.self.now) (store_in c.args.files.now) c.args.task c.args.lun (entry_of c.args.held) (c.requires.open.kept honest) c.set.ensures.within.0 c.set.ensures.within.1 c.requires.held) (state_of (table_of c.set.new.self) c.args.files.now) refl refl c.set.ensures.value (inl (not-true _ c.if-not-held.true))
+
+pub returns-then-not-held-clause-open : goal.returns-then-not-held-clause-open
+returns-then-not-held-clause-open g c = λ _. record {
+  alive = c.requires.open.alive;
+  kept = λ honest. given-kept c.args.task c.args.lun c.args.caller (state_of (table_of c.args.self.now) c.args.files.now) (table_of c.set.new.self) (store_in c.args.files.now) refl c.set.ensures.value (c.requires.open.kept honest);
+}
+
+pub returns-then-is_accessed-clause-handles : goal.returns-then-is_accessed-clause-handles
+returns-then-is_accessed-clause-handles g c = deaccess-plain c.args.task c.args.lun c.args.caller (state_of (table_of c.args.self.now) c.args.files.now) (entry_of c.args.held) c.requires.held (λ honest. mark-held (table_of c.args.self.now) (store_in c.args.files.now) c.args.task c.args.lun (entry_of c.args.held) (c.requires.open.kept honest) c.set.ensures.within.0 c.set.ensures.within.1 c.requires.held) (state_of (table_of c.set.new.self) c.args.files.now) refl refl c.set.ensures.value (inr (sym c.if-is_accessed.true ∙ c.is_accessed.ensures ∙ ap (λ (t : Table). is_held_in any_mode t c.args.held.file) c.set.ensures.value))
+
+pub returns-then-is_accessed-clause-open : goal.returns-then-is_accessed-clause-open
+returns-then-is_accessed-clause-open g c = λ _. record {
+  alive = c.requires.open.alive;
+  kept = λ honest. given-kept c.args.task c.args.lun c.args.caller (state_of (table_of c.args.self.now) c.args.files.now) (table_of c.set.new.self) (store_in c.args.files.now) refl c.set.ensures.value (c.requires.open.kept honest);
+}
+
+pub returns-in-Ok-clause-handles : goal.returns-in-Ok-clause-handles
+returns-in-Ok-clause-handles g c =
+    deaccess-deletes c.args.task c.args.lun c.args.caller (state_of (table_of c.args.self.now) c.args.files.now) (entry_of c.args.held) c.requires.held (λ honest. mark-held (table_of c.args.self.now) (store_in c.args.files.now) c.args.task c.args.lun (entry_of c.args.held) (c.requires.open.kept honest) c.set.ensures.within.0 c.set.ensures.within.1 c.requires.held) (not-false _ c.if-not-held.false)
+    (sym c.if-is_accessed.false ∙ c.is_accessed.ensures ∙ ap (λ (t : Table). is_held_in any_mode t c.args.held.file) c.set.ensures.value)
+    (state_of (table_of c.set.new.self) c.delete.new.self) c.in-Ok.ensures.deleted c.in-Ok.ensures.answers.home c.set.ensures.value
+
+pub returns-in-Ok-clause-open : goal.returns-in-Ok-clause-open
+returns-in-Ok-clause-open g c = λ _. record {
+  alive = c.in-Ok.ensures.answers.next ∙ ap (λ b. b || false) c.requires.open.alive;
+  kept = λ honest.
+      let was = sym c.in-Ok.ensures.deleted.writes.went.honest ∙ honest in
+      deleted-kept c.args.task c.args.lun c.args.caller (state_of (table_of c.args.self.now) c.args.files.now) (entry_of c.args.held) c.requires.held (λ honest. mark-held (table_of c.args.self.now) (store_in c.args.files.now) c.args.task c.args.lun (entry_of c.args.held) (c.requires.open.kept honest) c.set.ensures.within.0 c.set.ensures.within.1 c.requires.held) (not-false _ c.if-not-held.false)
+      (sym c.if-is_accessed.false ∙ c.is_accessed.ensures ∙ ap (λ (t : Table). is_held_in any_mode t c.args.held.file) c.set.ensures.value)
+      (table_of c.set.new.self) (store_in c.delete.new.self)
+      (ap (λ (h : HomeFields). store_of (disk_in c.delete.new.self).image h) c.in-Ok.ensures.answers.home ∙ c.in-Ok.ensures.deleted.makes was) c.set.ensures.value was (c.requires.open.kept was);
+}
+
+pub returns-in-Err-clause-handles : goal.returns-in-Err-clause-handles
+returns-in-Err-clause-handles g c =
+    deaccess-fails c.args.task c.args.lun c.args.caller (state_of (table_of c.args.self.now) c.args.files.now) (entry_of c.args.held) c.requires.held (λ honest. mark-held (table_of c.args.self.now) (store_in c.args.files.now) c.args.task c.args.lun (entry_of c.args.held) (c.requires.open.kept honest) c.set.ensures.within.0 c.set.ensures.within.1 c.requires.held) (not-false _ c.if-not-held.false)
+    (sym c.if-is_accessed.false ∙ c.is_accessed.ensures ∙ ap (λ (t : Table). is_held_in any_mode t c.args.held.file) c.set.ensures.value)
+    (state_of (table_of c.set.new.self) c.delete.new.self) c.in-Err.refusal c.of_accessed.result c.requires.open.alive c.in-Err.ensures.refused c.in-Err.ensures.answers.home c.of_accessed.ensures
+
+pub returns-in-Err-clause-grave : goal.returns-in-Err-clause-grave
+returns-in-Err-clause-grave g c =
+    subst (λ (e : Refusal). is_grave e ≡ true) (sym c.of_accessed.ensures) (deletion-grave (home_in c.args.files.now) c.args.held.file (disk_in c.args.files.now) (disk_in c.delete.new.self) c.in-Err.refusal c.requires.open.alive c.in-Err.ensures.refused)

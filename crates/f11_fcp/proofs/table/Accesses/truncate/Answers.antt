@@ -1,0 +1,32 @@
+use Rattle.std.proofs.Common.{[], ◌∙◌, ◌||◌, false, ap, refl, sym}
+use Rattle.f11_files.specs.Answers.{is_grave}
+use Rattle.f11_files.specs.Open.{store_in}
+use Rattle.f11_fcp.specs.Handles.{state_of}
+use Rattle.f11_fcp.specs.Places.{table_of, entry_of}
+use Rattle.f11_fcp.proofs.OpenLemmas.{stays-open}
+use Rattle.f11_fcp.proofs.AccessedLemmas.{of-accessed-light, there-held}
+use Rattle.f11_fcp.proofs.TruncateLemmas.{truncate-none, cut, not-cut}
+use Rattle.f11_fcp.proofs.table.Accesses.truncate.Goals as goal
+
+pub returns-in-None-clause-handles : goal.returns-in-None-clause-handles
+returns-in-None-clause-handles g c = truncate-none c.args.task c.args.lun c.args.to c.args.caller _ (c.in-None.ensures.none refl)
+
+pub returns-in-Ok-clause-handles : goal.returns-in-Ok-clause-handles
+returns-in-Ok-clause-handles g c =
+    let t = table_of c.args.self.now in
+    cut c.args.task c.args.lun c.args.caller (state_of t c.args.files.now) (entry_of c.in-Some.held) c.in-Some.ensures.some.0 c.in-Some.ensures.some.1 c.args.to (λ honest. there-held t (store_in c.args.files.now) c.args.task c.args.lun (entry_of c.in-Some.held) (c.requires.open.kept honest) c.in-Some.ensures.within.0 c.in-Some.ensures.within.1 c.in-Some.ensures.some.0) c.in-Ok.length (state_of t c.truncate.new.self) c.in-Ok.ensures.cut.0 c.in-Ok.ensures.cut.1 c.in-Ok.ensures.answers.home refl
+
+pub returns-in-Ok-clause-open : goal.returns-in-Ok-clause-open
+returns-in-Ok-clause-open g c =
+    stays-open (table_of c.args.self.now) c.args.files.now c.truncate.new.self c.args.task c.args.caller _ _ [] [] c.requires.open (λ _. tt) (returns-in-Ok-clause-handles g c)
+    (λ _. c.in-Ok.ensures.answers.next ∙ ap (λ b. b || false) c.requires.open.alive)
+
+pub returns-in-Err-clause-handles : goal.returns-in-Err-clause-handles
+returns-in-Err-clause-handles g c =
+    let t = table_of c.args.self.now in
+    not-cut c.args.task c.args.lun c.args.caller (state_of t c.args.files.now) (entry_of c.in-Some.held) c.in-Some.ensures.some.0 c.in-Some.ensures.some.1 c.args.to (λ honest. there-held t (store_in c.args.files.now) c.args.task c.args.lun (entry_of c.in-Some.held) (c.requires.open.kept honest) c.in-Some.ensures.within.0 c.in-Some.ensures.within.1 c.in-Some.ensures.some.0) (state_of t c.truncate.new.self) c.in-Err.refusal c.of_accessed.result c.requires.open.alive c.in-Err.ensures.refused c.in-Err.ensures.answers.home refl c.in-Err.ensures.answers.counts c.of_accessed.ensures
+
+pub returns-in-Err-clause-open : goal.returns-in-Err-clause-open
+returns-in-Err-clause-open g c =
+    stays-open (table_of c.args.self.now) c.args.files.now c.truncate.new.self c.args.task c.args.caller _ _ [] [] c.requires.open (λ _. tt) (returns-in-Err-clause-handles g c)
+    (λ light. c.in-Err.ensures.answers.next ∙ ap (λ b. b || is_grave c.in-Err.refusal) c.requires.open.alive ∙ of-accessed-light c.in-Err.refusal (ap is_grave (sym c.of_accessed.ensures) ∙ light))

@@ -1,0 +1,67 @@
+-- What tasks hold: accesses, and of each whether its file is marked for delete (profile).
+use Rattle.std.specs.Prelude.{◌≡◌, ℕ, ◌<◌, ◌==◌, ◌&&◌, Bool, true, Option, Some, None, option_map, if◌then◌else◌}
+use Rattle.f11_store.specs.declared.files.FileId.{FileId}
+use Rattle.f11_store.specs.declared.files.Mode.{Mode}
+use Rattle.f11_store.specs.Accesses.{mark_of, with_accesses}
+use Rattle.std.specs.List.{list_any, range_with_len}
+use Rattle.f11_store.specs.Store.{Store, Access, is_same, is_to}
+
+-- an access, and whether its file is marked for delete
+pub record Entry : Type 0 where
+  pub file : FileId
+  pub mode : Mode
+  pub marked : Bool
+
+-- what each task holds by each lun
+abbrev pub Table : Type 0
+Table = ℕ → ℕ → Option Entry
+
+-- nothing
+abbrev pub no_entries : Table
+no_entries task lun = None
+
+-- what the task holds by the lun becomes this
+abbrev pub with_entry : Table → ℕ → ℕ → Option Entry → Table
+with_entry t task lun e = λ k l. if (k == task) && (l == lun) then e else t k l
+
+-- an entry, of a file that is marked then if it is this one
+abbrev pub marked_if : FileId → Entry → Entry
+marked_if id e = if is_same e.file id then record e { marked = true } else e
+
+-- each entry of the file is of a marked one
+abbrev pub with_marks : FileId → Table → Table
+with_marks id t = λ task lun. option_map (marked_if id) (t task lun)
+
+-- the access of an entry
+abbrev pub access_of : Entry → Access
+access_of e = record { file = e.file; mode = e.mode }
+
+-- the accesses in a table
+abbrev pub accesses : Table → ℕ → ℕ → Option Access
+accesses t task lun = option_map access_of (t task lun)
+
+-- a store in which tasks hold this
+abbrev pub held_in : Table → Store → Store
+held_in t s = with_accesses (accesses t) s
+
+-- of what is held: whether its file is marked, where there is one
+abbrev pub mark_there : Store → Option Entry → Option Bool
+mark_there s None = None
+mark_there s (Some e) = mark_of s e.file
+
+-- and what is kept of it
+abbrev pub mark_kept : Option Entry → Option Bool
+mark_kept o = option_map (λ e. e.marked) o
+
+-- Each access is to a file that is there, and of which what is kept of its mark is so.
+abbrev pub HasAccessed : Table → Store → Type 0
+HasAccessed t s = (task lun : ℕ) → task < 8 → lun < 4 → mark_there s (t task lun) ≡ mark_kept (t task lun)
+
+-- some task holds an access to the file in a mode that passes the test
+unfoldable pub is_held_in : (Mode → Bool) → Table → FileId → Bool
+is_held_in test t id =
+    list_any (λ task. list_any (λ lun. is_to test id (accesses t task lun)) (range_with_len 0 4)) (range_with_len 0 8)
+
+-- any mode
+abbrev pub any_mode : Mode → Bool
+any_mode mode = true

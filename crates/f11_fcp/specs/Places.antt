@@ -1,0 +1,16 @@
+-- The table of accesses by its places: four for each task.
+use Rattle.std.specs.Prelude.{◌+◌, ◌*◌, nat_lt, List, Option, None, option_map, slice_index_or, if◌then◌else◌}
+use Rattle.f11_fcp.specs.declared.table.Held.{Held}
+use Rattle.f11_fcp.specs.declared.table.Accesses.{Accesses}
+use Rattle.f11_fcp.specs.Accesses.{Entry, Table}
+
+-- an access, as contracts see it
+abbrev pub entry_of : Held → Entry
+entry_of h = record { file = h.file; mode = h.mode; marked = h.marked }
+
+-- and the table of them
+abbrev pub table_in : List (Option Held) → Table
+table_in places task lun = if nat_lt lun 4 then option_map entry_of (slice_index_or places (4 * task + lun) None) else None
+
+abbrev pub table_of : Accesses → Table
+table_of a = table_in a.places

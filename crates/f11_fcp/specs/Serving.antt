@@ -1,0 +1,46 @@
+-- What serving a request tells (profile).
+use Rattle.std.specs.Prelude.{◌≡◌, ℕ, ◌||◌, Bool, true, false, IsTrue, List, Result, IsErrOf}
+use Rattle.f11_dev.specs.declared.device.Device.{Ghosts}
+use Rattle.f11_store.specs.declared.callers.Uic.{Uic}
+use Rattle.f11_store.specs.declared.refusals.Refusal.{Refusal}
+use Rattle.f11_store.specs.declared.refusals.Refusal.TheVariants.{VolumeFailed}
+use Rattle.f11_store.specs.declared.requests.Reply.{Reply}
+use Rattle.f11_store.specs.declared.requests.Request.{Request}
+use Rattle.f11_store.specs.declared.requests.Request.TheVariants as request
+use Rattle.f11_files.specs.Answers.{is_grave, is_refused}
+use Rattle.f11_files.specs.Open as files
+use Rattle.f11_vfy.specs.Verdict.{IsAccepted}
+use Rattle.f11_fcp.specs.Handles.{State, state_of, Handles}
+use Rattle.f11_fcp.specs.Places.{table_of}
+use Rattle.f11_fcp.specs.declared.volume.Volume.{Volume}
+
+-- the requests that are served: those that look into no directory
+abbrev pub is_served : Request → Bool
+is_served (request.Find _ _) = false
+is_served (request.Enter _ _ _) = false
+is_served (request.Remove _ _) = false
+is_served _ = true
+
+-- what contracts know of a volume
+abbrev pub state_in : {D : Type 0} {met : Ghosts D} → Volume D met → State
+state_in v = state_of (table_of v.accesses) v.files
+
+-- the device
+abbrev pub device_in : {D : Type 0} {met : Ghosts D} → Volume D met → D
+device_in v = files.device_in v.files
+
+-- Where the disk is honest its image has no fault.
+abbrev pub StaysAccepted : State → Type 0
+StaysAccepted v = IsTrue v.disk.honest → IsAccepted v.disk.image
+
+-- whether a request was answered DeviceFault or Damaged
+abbrev pub is_spent : {D : Type 0} {met : Ghosts D} → Volume D met → Bool
+is_spent v = v.failed
+
+-- A request was served. Once one has failed the volume each is refused as VolumeFailed, and nothing is done; before that it is handled. It fails the
+-- volume where it answers DeviceFault or Damaged, and no other way.
+pub record Serving {D : Type 0} {met : Ghosts D} (task : ℕ) (caller : Uic) (r : Request) (result : Result Reply Refusal) (old new : Volume D met) (block block' : List ℕ) : Type 0 where
+  pub refused : is_spent old ≡ true → IsErrOf result VolumeFailed
+  pub untouched : is_spent old ≡ true → (state_in new ≡ state_in old) × (block' ≡ block)
+  pub handled : is_spent old ≡ false → Handles task caller r result (state_in old) block (state_in new) block'
+  pub next : is_spent new ≡ (is_spent old || is_refused is_grave result)

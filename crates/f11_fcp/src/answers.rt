@@ -1,0 +1,56 @@
+//! Each request's answer.
+ghost use Rattle.std.specs.Prelude.{◌≡◌, true};
+ghost use Rattle.f11_fcp.specs.Handles.{Handles, IsOpen, StaysOpen, state_of};
+ghost use Rattle.f11_fcp.specs.Places.{table_of};
+ghost use Rattle.f11_fcp.specs.Serving.{is_served};
+
+use crate::table::Accesses;
+use f11_bytes::Block;
+use f11_dev::Device;
+use f11_files::Files;
+use f11_store::{Refusal, Reply, Request, Task, Uic};
+
+impl Accesses {
+    /// Answers a request.
+    pub(crate) fn answer<D: Device>(
+        &mut self,
+        files: &mut Files<D>,
+        task: Task,
+        caller: Uic,
+        request: &Request,
+        block: &mut Block,
+    ) -> Result<Reply, Refusal>
+        requires open { IsOpen (table_of self.old) files.old }
+        requires served { is_served request.now ≡ true }
+        ensures handles { Handles task caller request.now result (state_of (table_of self.old) files.old) block.old
+            (state_of (table_of self.new) files.new) block.new }
+        ensures open { StaysOpen result (table_of self.new) files.new }
+    {
+        match request {
+            Request::Create {
+                protection,
+                ident,
+                attr,
+            } => self.create(files, task, caller, *protection, ident, attr),
+            Request::Extend(lun, n) => self.extend(files, task, caller, *lun, *n),
+            Request::Truncate(lun, to) => self.truncate(files, task, caller, *lun, *to),
+            Request::Delete(file) => self.delete(files, task, caller, *file),
+            Request::GrowIndex(n) => self.grow_index(files, task, caller, *n),
+            Request::Access(file, mode, lun) => {
+                self.access(files, task, caller, *file, *mode, *lun)
+            }
+            Request::Deaccess(lun) => self.deaccess(files, task, caller, *lun),
+            Request::Release => self.release(files, task, caller),
+            Request::ReadBlock(lun, vbn) => self.read_block(files, task, caller, *lun, *vbn, block),
+            Request::WriteBlock(lun, vbn) => {
+                self.write_block(files, task, caller, *lun, *vbn, block)
+            }
+            Request::ReadAttr(file) => self.read_attr(files, task, caller, *file),
+            Request::WriteAttr(file, change) => {
+                self.write_attr(files, task, caller, *file, change)
+            }
+            Request::Space => self.space(files, task, caller),
+            Request::Find(..) | Request::Enter(..) | Request::Remove(..) => unreachable!(),
+        }
+    }
+}

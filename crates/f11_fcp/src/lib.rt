@@ -1,0 +1,26 @@
+//! The file processor: eight tasks at one Files-11 volume, whose requests are served one after another, as F11ACP does.
+//!
+//! A [`Volume`] is mounted from a volume that the verifier accepts. While its device is honest and no transfer fails, each request is a step
+//! of the plain store of `f11_store`: files, free blocks and slots, and what tasks hold. It stands on `f11_files`, which knows no tasks.
+#![tactic(auto)]
+
+mod access;
+mod accesses;
+mod answer;
+mod answers;
+mod attributes;
+mod blocks;
+mod create;
+mod deaccess;
+mod delete;
+mod extend;
+mod grow_index;
+pub mod laws;
+mod release;
+mod rights;
+mod space;
+mod table;
+mod truncate;
+mod volume;
+
+pub use volume::{Failed, Volume};

@@ -1,0 +1,32 @@
+//! The counts of the volume.
+ghost use Rattle.std.specs.Prelude.{[]};
+ghost use Rattle.f11_fcp.specs.Handles.{Handles, IsOpen, StaysOpen, state_of};
+ghost use Rattle.f11_fcp.specs.Places.{table_of};
+ghost use Rattle.f11_store.specs.declared.requests.Request.TheVariants as asked;
+
+use crate::table::Accesses;
+use f11_dev::Device;
+use f11_files::Files;
+use f11_store::{Refusal, Reply, Task, Uic};
+
+impl Accesses {
+    /// The counts of the volume.
+    pub(crate) fn space<D: Device>(
+        &self,
+        files: &mut Files<D>,
+        task: Task,
+        caller: Uic,
+    ) -> Result<Reply, Refusal>
+        requires open { IsOpen (table_of self.now) files.old }
+        ensures handles { Handles task caller asked.Space result (state_of (table_of self.now) files.old) []
+            (state_of (table_of self.now) files.new) [] }
+        ensures open { StaysOpen result (table_of self.now) files.new }
+    {
+        let (free, headers, slots) = files.space();
+        Ok(Reply::Space {
+            free,
+            headers,
+            slots,
+        })
+    }
+}

@@ -1,0 +1,41 @@
+//! Files that are cut.
+ghost use Rattle.std.specs.Prelude.{[]};
+ghost use Rattle.f11_fcp.specs.Handles.{Handles, IsOpen, StaysOpen, state_of};
+ghost use Rattle.f11_fcp.specs.Places.{table_of};
+ghost use Rattle.f11_store.specs.declared.requests.Request.TheVariants as asked;
+
+use crate::answer::of_accessed;
+use crate::table::Accesses;
+use f11_dev::Device;
+use f11_files::Files;
+use f11_store::{Lun, Refusal, Reply, Task, Uic};
+
+impl Accesses {
+    /// The file that is accessed keeps its first `to` blocks.
+    ///
+    /// # Errors
+    ///
+    /// `NoSuchAccess`, `EndOfFile`.
+    pub(crate) fn truncate<D: Device>(
+        &self,
+        files: &mut Files<D>,
+        task: Task,
+        caller: Uic,
+        lun: Lun,
+        to: u32,
+    ) -> Result<Reply, Refusal>
+        requires open { IsOpen (table_of self.now) files.old }
+        ensures handles { Handles task caller (asked.Truncate lun to) result
+            (state_of (table_of self.now) files.old) [] (state_of (table_of self.now) files.new) [] }
+        ensures open { StaysOpen result (table_of self.now) files.new }
+    {
+        let held = match self.writer(task, lun) {
+            Some(held) => held,
+            None => return Err(Refusal::NoSuchAccess),
+        };
+        match files.truncate(held.file, to) {
+            Ok(length) => Ok(Reply::Length(length)),
+            Err(refusal) => Err(of_accessed(refusal)),
+        }
+    }
+}

@@ -1,0 +1,111 @@
+//! A volume that serves tasks.
+ghost use Rattle.std.specs.Prelude.{◌≡◌, false};
+ghost use Rattle.f11_files.specs.Open.{has_failed, is_honest, store_in};
+ghost use Rattle.f11_fcp.specs.Accesses.{HasAccessed};
+ghost use Rattle.f11_fcp.specs.Places.{table_of};
+
+use crate::answer::is_grave;
+use crate::table::Accesses;
+use f11_bytes::Block;
+use f11_dev::Device;
+use f11_files::{Files, OpenFault};
+use f11_store::{Refusal, Reply, Request, Task, Uic};
+use f11_vfy::Accepted;
+use std::alloc::Global;
+
+/// The device of a volume that a request has failed.
+#[derive(Drop)]
+pub struct Failed<D: Device>(pub D);
+
+/// An open volume with what tasks hold of it.
+#[derive(Drop)]
+pub struct Volume<D: Device> {
+    pub(crate) files: Files<D>,
+    pub(crate) accesses: Accesses,
+    /// Whether a request was answered `DeviceFault` or `Damaged`.
+    pub(crate) failed: bool,
+    /// While none was, no call on the files was,
+    pub ghost alive: { failed ≡ false → has_failed files ≡ false },
+    /// and each access is to a file that is there, marked as is kept.
+    pub ghost kept: { failed ≡ false → is_honest files
+        → HasAccessed (table_of accesses) (store_in files) },
+}
+
+impl<D: Device> Volume<D> {
+    ghost use Rattle.std.specs.Prelude.{true, IfOk, IfErr};
+    ghost use Rattle.f11_files.specs.Opened.{FailsToOpen};
+    ghost use Rattle.f11_vfy.specs.Accepted.{device_of};
+    ghost use Rattle.f11_fcp.specs.Mounting.{Mounts};
+    ghost use Rattle.f11_fcp.specs.Serving.{Serving, StaysAccepted, device_in, is_served, is_spent, state_in};
+
+    /// Serves a request of a task.
+    ///
+    /// # Errors
+    ///
+    /// `VolumeFailed` where an earlier request answered `DeviceFault` or `Damaged`; else the first refusal whose cause holds.
+    pub fn serve(
+        &mut self,
+        task: Task,
+        caller: Uic,
+        request: &Request,
+        block: &mut Block,
+    ) -> Result<Reply, Refusal>
+        requires served { is_served request.now ≡ true }
+        ensures serves { Serving task caller request.now result self.old self.new block.old block.new }
+        ensures accepted { StaysAccepted (state_in self.new) }
+    {
+        if self.failed {
+            return Err(Refusal::VolumeFailed);
+        }
+        let answer = self
+            .accesses
+            .answer(&mut self.files, task, caller, request, block);
+        self.failed = is_grave(&answer);
+        answer
+    }
+
+    /// Opens an accepted volume, of which no task holds anything.
+    ///
+    /// # Errors
+    ///
+    /// Those of [`Files::open`].
+    pub fn mount(alloc: Global, accepted: Accepted<D>) -> Result<Volume<D>, OpenFault<D>>
+        ensures mounts { IfOk result (λ v. Mounts (D.disk (device_of accepted)) v) }
+        ensures accepted { IfOk result (λ v. StaysAccepted (state_in v)) }
+        ensures refused { IfErr result (λ fault.
+            FailsToOpen D.disk (D.disk (device_of accepted)) fault) }
+    {
+        match Files::open(alloc, accepted) {
+            Ok(files) => Ok(Volume {
+                files,
+                accesses: Accesses::none(),
+                failed: false,
+            }),
+            Err(fault) => Err(fault),
+        }
+    }
+
+    /// Gives all accesses up, without a transfer, and the volume.
+    ///
+    /// # Errors
+    ///
+    /// The device as it is, where a request has answered `DeviceFault` or `Damaged`.
+    pub fn dismount(self) -> Result<Accepted<D>, Failed<D>>
+        ensures given { IfOk result (λ a. (is_spent self ≡ false) × (device_of a ≡ device_in self)) }
+        ensures failed { IfErr result (λ f. (is_spent self ≡ true) × (f.0 ≡ device_in self)) }
+    {
+        let Volume { files, failed, .. } = self;
+        if failed {
+            Err(Failed(files.abandon()))
+        } else {
+            Ok(files.close())
+        }
+    }
+
+    /// The device as it is, to be looked at.
+    pub fn lent(&self) -> &D
+        ensures { result.now ≡ device_in self.now }
+    {
+        self.files.lent()
+    }
+}
