@@ -1,0 +1,12 @@
+//! Tests of the file processor: requests of several tasks at one volume, and what is answered once a transfer has failed.
+//!
+//! A test is mostly a table of requests and their answers ([`asks`]). Requests whose memory is refused are in
+//! `refused_memory_tests`.
+#![tactic(auto)]
+
+#[cfg(test)]
+mod asks;
+#[cfg(test)]
+mod failures;
+#[cfg(test)]
+mod requests;

@@ -1,0 +1,266 @@
+//! The storage bitmap.
+ghost use Rattle.std.specs.Prelude.{◌≡◌, ◌<◌, ◌≤◌, ◌+◌, ℕ, [], ◌∷◌, false, length, slice_index, IsTrue, IfOk, OnOk};
+ghost use Rattle.f11_bits.specs.Bitmap.{is_free};
+ghost use Rattle.f11_bits.specs.Storage.{IsFor, bitmap_of};
+
+use f11_bits::{Storage, count_free, first_run, word_sum};
+use f11_bytes::{BLOCK_SIZE, Block};
+use f11_dev::{Device, DeviceFault, FailOnce, Fuse, Liar, Memory};
+use f11_fixtures::{ZEROS, put};
+use std::alloc::Global;
+use std::test::Fail;
+
+const ONES: Block = [255; BLOCK_SIZE];
+
+/// What the calls of [`small_volume`] answer: what was taken, and the number of free blocks before and after.
+type Answers = ([Option<(u32, u32)>; 4], u32, u32);
+
+/// A bitmap block with blocks 0 to 21 used. The bits past the volume's end are 1, which counts for nothing.
+fn block_with_22_used() -> Block {
+    let mut block = ONES;
+    block[0] = 0;
+    block[1] = 0;
+    block[2] = 0b1100_0000;
+    block
+}
+
+/// A device with these bitmap blocks at 1 and 2.
+fn device_with(alloc: Global, first: &Block, second: &Block) -> Result<Memory, Fail> {
+    let mut device = Memory::new(alloc, 3)?;
+    put(&mut device, 1, first)?;
+    put(&mut device, 2, second)?;
+    Ok(device)
+}
+
+/// Loads the bitmap through a device that isn't honest to contracts, though it never begins to lie: so the calls below
+/// require nothing of the image.
+fn load<D: Device>(device: &mut Liar<D>, size: u32) -> Result<Storage, DeviceFault>
+    requires some { 0 < size }
+    requires few { size ≤ 8192 }
+    ensures { IfOk result (λ storage. bitmap_of storage ≡ record {
+      places = 1 ∷ 2 ∷ [];
+      size =
+          size;
+    }) }
+{
+    if device.blocks() < 3 {
+        return Err(DeviceFault);
+    }
+    Storage::load(device, &[1, 2], size)
+}
+
+fn take<D: Device>(
+    storage: &mut Storage,
+    device: &mut Liar<D>,
+    size: u32,
+    from: u32,
+    most: u32,
+) -> Result<Option<(u32, u32)>, DeviceFault>
+    requires some { 0 < size }
+    requires few { size ≤ 8192 }
+    requires bitmap { bitmap_of storage.old ≡ record { places = 1 ∷ 2 ∷ []; size = size } }
+    requires most { 0 < most }
+    ensures { bitmap_of storage.new ≡ bitmap_of storage.old }
+{
+    if device.blocks() < 3 {
+        return Err(DeviceFault);
+    }
+    storage.take(device, from, most)
+}
+
+fn give<D: Device>(
+    storage: &mut Storage,
+    device: &mut Liar<D>,
+    size: u32,
+    lbn: u32,
+    count: u32,
+) -> Result<(), DeviceFault>
+    requires within { lbn + count ≤ size }
+    requires few { size ≤ 8192 }
+    requires bitmap { bitmap_of storage.old ≡ record { places = 1 ∷ 2 ∷ []; size = size } }
+    requires count { 0 < count }
+    ensures { bitmap_of storage.new ≡ bitmap_of storage.old }
+{
+    if device.blocks() < 3 {
+        return Err(DeviceFault);
+    }
+    storage.give(device, lbn, count)
+}
+
+/// Calls on a volume of 400 blocks.
+fn small_volume<D: Device>(device: &mut Liar<D>) -> Result<Answers, DeviceFault> {
+    let mut storage = load(device, 400)?;
+    let before = storage.free();
+    let first = take(&mut storage, device, 400, 0, 300)?;
+    let second = take(&mut storage, device, 400, 0, 300)?;
+    let none = take(&mut storage, device, 400, 0, 1)?;
+    give(&mut storage, device, 400, 30, 4)?;
+    let last = take(&mut storage, device, 400, 31, 9)?;
+    Ok(([first, second, none, last], before, storage.free()))
+}
+
+/// What they are to answer.
+fn answers() -> Answers {
+    (
+        [Some((22, 256)), Some((278, 122)), None, Some((31, 3))],
+        378,
+        1,
+    )
+}
+
+/// From where a run is sought in a block with 22 bits 0, how long it is to be at most, and the run.
+const RUNS: [(u32, u32, Option<(u32, u32)>); 4] = [
+    (0, 300, Some((22, 256))),
+    (0, 4, Some((22, 4))),
+    (4000, 300, Some((4000, 96))),
+    (4096, 300, None),
+];
+
+/// The first run of a block.
+fn run_of(block: &Block, from: u32, most: u32) -> Option<(u32, u32)> {
+    if most == 0 {
+        return None;
+    }
+    first_run(block, from, most)
+}
+
+#[test]
+fn bits_of_a_block(rt: HostRuntime) {
+    let block = block_with_22_used();
+    for (from, most, run) in RUNS {
+        assert_eq!(rt; run_of(&block, from, most), run, "from {from}");
+    }
+    let counts = (count_free(&block), count_free(&ZEROS), word_sum(&ONES));
+    assert_eq!(rt; counts, (4074, 0, 65281));
+    assert_eq!(rt; run_of(&ZEROS, 0, 300), None);
+}
+
+#[test]
+fn a_small_volume(rt: HostRuntime) -> Result<(), Fail> {
+    let mut device = Liar::new(device_with(rt.alloc(), &block_with_22_used(), &ONES)?, 0);
+    assert_eq!(rt; small_volume(&mut device)?, answers());
+    // two transfers to write the bitmap, and 1 to load, 2, 2 and 1 to take, 2 to give and 2 to take again
+    assert_eq!(rt; device.into_inner().transfers(), 12);
+    Ok(())
+}
+
+#[test]
+fn a_run_over_two_bitmap_blocks(rt: HostRuntime) -> Result<(), Fail> {
+    let mut device = Liar::new(device_with(rt.alloc(), &ONES, &ONES)?, 0);
+    let mut storage = load(&mut device, 4200)?;
+    assert_eq!(rt; storage.free(), 4200);
+    assert_eq!(rt;
+        take(&mut storage, &mut device, 4200, 4090, 256)?,
+        Some((4090, 110))
+    );
+    assert_eq!(rt; storage.free(), 4090);
+    give(&mut storage, &mut device, 4200, 4090, 110)?;
+    assert_eq!(rt; storage.free(), 4200);
+    Ok(())
+}
+
+#[test]
+fn a_device_that_stops(rt: HostRuntime) -> Result<(), Fail> {
+    for transfers in 0..12 {
+        let inner = device_with(rt.alloc(), &block_with_22_used(), &ONES)?;
+        let mut device = Liar::new(Fuse::new(inner, transfers), 0);
+        let done = small_volume(&mut device);
+        if transfers < 10 {
+            assert_eq!(rt; done, Err(DeviceFault), "after {transfers}");
+        } else {
+            assert_eq!(rt; done, Ok(answers()), "after {transfers}");
+        }
+    }
+    Ok(())
+}
+
+/// The transfer that fails, and the free blocks of the image after it, where a write didn't land and where it did.
+const FAILING: [(u64, u32, u32); 10] = [
+    (1, 378, 378),
+    (2, 378, 378),
+    (3, 378, 122),
+    (4, 122, 122),
+    (5, 122, 0),
+    (6, 0, 0),
+    (7, 0, 0),
+    (8, 0, 4),
+    (9, 4, 4),
+    (10, 4, 1),
+];
+
+/// The free blocks of the image where a transfer of the calls failed, which has to be told.
+fn free_after(alloc: Global, transfer: u64, lands: bool) -> Result<Option<u32>, Fail> {
+    let inner = device_with(alloc, &block_with_22_used(), &ONES)?;
+    let mut device = Liar::new(FailOnce::new(inner, transfer, lands), 0);
+    if small_volume(&mut device) != Err(DeviceFault) {
+        return Ok(None);
+    }
+    let storage = load(&mut device, 400)?;
+    Ok(Some(storage.free()))
+}
+
+#[test]
+fn a_device_that_fails_once(rt: HostRuntime) -> Result<(), Fail> {
+    for (transfer, kept, landed) in FAILING {
+        for (lands, free) in [(false, kept), (true, landed)] {
+            let found = free_after(rt.alloc(), transfer, lands)?;
+            assert_eq!(rt; found, Some(free), "at {transfer}");
+        }
+    }
+    Ok(())
+}
+
+#[test]
+fn what_was_taken_is_given_back(rt: HostRuntime) -> Result<(), Fail> {
+    let mut device = device_with(rt.alloc(), &block_with_22_used(), &ONES)?;
+    assert!(rt; device.blocks() >= 3);
+    let mut storage = Storage::load(&mut device, &[1, 2], 400)?;
+    let run = storage.take(&mut device, 0, 300)?;
+    assert_eq!(rt; run, Some((22, 256)));
+    assert_eq!(rt; storage.free(), 122);
+    if let Some((lbn, count)) = run {
+        storage.give(&mut device, lbn, count)?;
+    }
+    assert_eq!(rt; storage.free(), 378);
+    Ok(())
+}
+
+/// Takes blocks, makes the first of them zeros, and takes more, as where a file grows: the bitmap is for the disk all the
+/// while, since its own blocks are used.
+fn take_zero_take<D: Device>(
+    storage: &mut Storage,
+    device: &mut D,
+    most: u32,
+) -> Result<Option<(u32, u32)>, DeviceFault>
+    requires storage { IsFor storage.old (D.disk device.old) }
+    requires most { 0 < most }
+    requires used { IsTrue (D.disk device.old).honest → (i : ℕ)
+        → i < length (bitmap_of storage.old).places
+        → is_free (D.disk device.old).image (bitmap_of storage.old)
+        (slice_index (bitmap_of storage.old).places i) ≡ false }
+    ensures storage { OnOk result (IsFor storage.new (D.disk device.new)) }
+{
+    let Some((lbn, _)) = storage.take(device, 0, most)? else {
+        return Ok(None);
+    };
+    if lbn >= device.blocks() {
+        return Err(DeviceFault);
+    }
+    device.write(lbn, &ZEROS)?;
+    storage.take(device, 0, most)
+}
+
+#[test]
+fn blocks_are_taken_one_after_another(rt: HostRuntime) -> Result<(), Fail> {
+    let mut device = Memory::new(rt.alloc(), 400)?;
+    put(&mut device, 1, &block_with_22_used())?;
+    let mut device = Liar::new(device, 0);
+    assert!(rt; device.blocks() >= 3);
+    let mut storage = Storage::load(&mut device, &[1, 2], 400)?;
+    assert_eq!(rt;
+        take_zero_take(&mut storage, &mut device, 4)?,
+        Some((26, 4))
+    );
+    assert_eq!(rt; (storage.size(), storage.free()), (400, 370));
+    Ok(())
+}

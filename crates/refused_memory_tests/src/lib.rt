@@ -1,0 +1,16 @@
+//! Tests of calls that take memory, and of devices. Each passes too where one of its allocations is refused, as
+//! `rt try --test --fail-alloc N` does: it looks at what is there then, and asks again.
+#![tactic(auto)]
+
+#[cfg(test)]
+mod devices;
+#[cfg(test)]
+mod files;
+#[cfg(test)]
+mod index;
+#[cfg(test)]
+mod names;
+#[cfg(test)]
+mod tasks;
+#[cfg(test)]
+mod volumes;
