@@ -128,7 +128,7 @@ fate-gone s id n there nobody = by_test (n == id.number) refl
     by_file (Some f) some h same =
         gone f (ap s.file same ∙ some)
         (λ other number sequence.
-            held-alike (λ _. true) (without_file_at s id.number) other id (number ∙ same) (sequence ∙ eqb-true f.sequence id.sequence (at-sequence (f.sequence == id.sequence) h)) ∙ same-held)
+        held-alike (λ _. true) (without_file_at s id.number) other id (number ∙ same) (sequence ∙ eqb-true f.sequence id.sequence (at-sequence (f.sequence == id.sequence) h)) ∙ same-held)
       where
         at-sequence : (b : Bool) → is_none (if b then Some f else None) ≡ false → b ≡ true
         at-sequence true h = refl
