@@ -29,7 +29,7 @@ use Rattle.f11_fcp.proofs.AccessedLemmas.{drop-false, take-true, refused-early, 
 use Rattle.f11_fcp.proofs.NamedLemmas.{found, marks-read, unread}
 
 -- who holds an access to the file is told by the table
-barred-same : (m : Mode) (t : Table) (s : Store) (id : FileId) → is_held_in (bars m) t id ≡ is_held (bars m) (held_in t s) id
+pub barred-same : (m : Mode) (t : Table) (s : Store) (id : FileId) → is_held_in (bars m) t id ≡ is_held (bars m) (held_in t s) id
 unfolding is_held_in is_held
 barred-same m t s id = refl
 

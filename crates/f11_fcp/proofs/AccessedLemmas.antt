@@ -209,6 +209,16 @@ module _ (task : ℕ) (caller : Uic) (r : Request) (block : List ℕ) (old : Sta
           (subst (λ (x : Refusal). Writes (Meanwhile task caller r block old) (cost (store_at old) task r) old.disk new.disk (faults_of x)) is
           (behind task caller r block old (work_if (first_of causes) work) mid new reads home works-if fails.writes fewer)) (home' ∙ home))
 
+-- no cause against more blocks is that there is no such file
+pub growth-never : (s : Store) (f : File) (n : ℕ) → first_of (growth_causes s f n) ≢ Some NoSuchFile
+growth-never s f n = by_tests _ _ _
+  where
+    by_tests : (a b c : Bool) → (if a then Some TooManySegments else (if b then Some DeviceFull else (if c then Some NoHeader else None))) ≢ Some NoSuchFile
+    by_tests true b c h = absurd (cc)
+    by_tests false true c h = absurd (cc)
+    by_tests false false true h = absurd (cc)
+    by_tests false false false h = absurd (cc)
+
 -- the file that the task accesses by the lun
 module _ (task lun : ℕ) (caller : Uic) (old : State) (e : Entry) (held : old.table task lun ≡ Some e) where
   abbrev s : Store
@@ -240,18 +250,9 @@ module _ (task lun : ℕ) (caller : Uic) (old : State) (e : Entry) (held : old.t
         ∙ ap (λ (x : Bool). if x then Some NoPrivilege else first_of (growth_causes s (file_named s0 e.file) n)) is
         ∙ ap (λ (cs : List Cause). if b then Some NoPrivilege else first_of cs) (growth-held (accesses old.table) s0 (file_named s0 e.file) n)
 
-    growth-never : (f : File) → first_of (growth_causes s0 f n) ≢ Some NoSuchFile
-    growth-never f = by_tests _ _ _
-      where
-        by_tests : (a b c : Bool) → (if a then Some TooManySegments else (if b then Some DeviceFull else (if c then Some NoHeader else None))) ≢ Some NoSuchFile
-        by_tests true b c h = absurd (cc)
-        by_tests false true c h = absurd (cc)
-        by_tests false false true h = absurd (cc)
-        by_tests false false false h = absurd (cc)
-
     never : (b : Bool) → lacks right.Extend caller (file_named s0 e.file) ≡ b → first_refusal s task caller r ≢ Some NoSuchFile
     never true is h = absurd (let no : Some NoPrivilege ≡ Some NoSuchFile = sym (judged true is) ∙ h in cc)
-    never false is h = growth-never (file_named s0 e.file) (sym (judged false is) ∙ h)
+    never false is h = growth-never s0 (file_named s0 e.file) n (sym (judged false is) ∙ h)
 
     bound : 1 + (growth_cost s0 (file_named s0 e.file) n - 1) ≤ cost s task r
     bound = subst (λ (f : File). 1 + (growth_cost s0 (file_named s0 e.file) n - 1) ≤ growth_cost s0 f n) (sym held-file) (omega arith)

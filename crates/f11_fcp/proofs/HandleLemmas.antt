@@ -125,27 +125,39 @@ module _ (task : ℕ) (caller : Uic) (r : Request) (block : List ℕ) (old : Sta
     home = home;
   }
 
-  -- an image that stands while a call on files does its work, behind a look
-  pub under-way : (work : Work) (mid : State) → mid.disk.image ≡ old.disk.image → mid.disk.honest ≡ old.disk.honest → mid.home ≡ old.home → (IsTrue old.disk.honest → work ≡ work_of s task caller r block)
-      → (image : Image) → FilesMeanwhile work mid.home mid.disk image → P image
-  under-way work mid same honest home is image stands sure =
+  -- an image that stands while a part of the work is done, behind a look: what lags by the part lags by the request
+  pub under-way-by : (work : Work) (mid : State) → mid.disk.image ≡ old.disk.image → mid.disk.honest ≡ old.disk.honest → mid.home ≡ old.home
+      → (IsTrue old.disk.honest → (t : Store) → LagsBy work t s → LagsBy (work_of s task caller r block) t s) → (image : Image) → FilesMeanwhile work mid.home mid.disk image → P image
+  under-way-by work mid same honest home more image stands sure =
       let u = stands (honest ∙ sure) in
       let t : Store = store_of image old.home in
       record {
         sound = rw home at u.sound;
-        lags = subst (λ (w : Work). LagsBy w t s) (is sure)
+        lags = more sure t
             (lags-held (accesses old.table) work t (store_of old.disk.image old.home)
             (subst (λ (i : Image). LagsBy work t (store_of i old.home)) same (subst (λ (h : HomeFields). LagsBy work (store_of image h) (store_of mid.disk.image h)) home u.lags)));
       }
 
+  -- an image that stands while a call on files does its work, behind a look
+  pub under-way : (work : Work) (mid : State) → mid.disk.image ≡ old.disk.image → mid.disk.honest ≡ old.disk.honest → mid.home ≡ old.home → (IsTrue old.disk.honest → work ≡ work_of s task caller r block)
+      → (image : Image) → FilesMeanwhile work mid.home mid.disk image → P image
+  under-way work mid same honest home is =
+      under-way-by work mid same honest home (λ sure t lags. subst (λ (w : Work). LagsBy w t s) (is sure) lags)
+
+  -- what was written behind a look, where each image that stood meanwhile is one of the request's
+  pub behind-by : (Q : Image → Type 0) (mid new : State) {m n faults : ℕ} → Reads m old.disk mid.disk 0 → ((image : Image) → Q image → P image) → Writes Q n mid.disk new.disk faults
+      → (IsTrue old.disk.honest → m + n ≤ cost s task r) → Writes P (cost s task r) old.disk new.disk faults
+  behind-by Q mid new reads weaker writes fewer = record {
+    transfers = reads.reads + writes.transfers;
+    went = went_more P (went_looked P reads.looked) (went_weaker Q P weaker writes.went);
+    few = λ honest. let one = reads.few honest in let two = writes.few (reads.looked.honest ∙ honest) in let most = fewer honest in omega (arith, one, two, most);
+  }
+
   -- what was written behind a look
   pub behind : (work : Work) (mid new : State) {m n faults : ℕ} → Reads m old.disk mid.disk 0 → mid.home ≡ old.home → (IsTrue old.disk.honest → work ≡ work_of s task caller r block)
       → Writes (FilesMeanwhile work mid.home mid.disk) n mid.disk new.disk faults → (IsTrue old.disk.honest → m + n ≤ cost s task r) → Writes P (cost s task r) old.disk new.disk faults
-  behind work mid new reads home is writes fewer = record {
-    transfers = reads.reads + writes.transfers;
-    went = went_more P (went_looked P reads.looked) (went_weaker (FilesMeanwhile work mid.home mid.disk) P (under-way work mid reads.looked.image reads.looked.honest home is) writes.went);
-    few = λ honest. let one = reads.few honest in let two = writes.few (reads.looked.honest ∙ honest) in let most = fewer honest in omega (arith, one, two, most);
-  }
+  behind work mid new reads home is writes fewer =
+      behind-by (FilesMeanwhile work mid.home mid.disk) mid new reads (under-way work mid reads.looked.image reads.looked.honest home is) writes fewer
 
   -- a call on files behind a look was refused
   pub handled-fails : (e : Refusal) (causes : List Cause) (work : Work) (mid new : State) (block' : List ℕ) {m n : ℕ} → Reads m old.disk mid.disk 0 → mid.home ≡ old.home → mid.counts ≡ old.counts

@@ -100,3 +100,9 @@ StaysOpen result t files = is_refused is_grave result ≡ false → IsOpen t fil
 abbrev pub of_accessed : Refusal → Refusal
 of_accessed refusal.NoSuchFile = refusal.Damaged
 of_accessed e = e
+
+-- and of a call on a file that was just read: none has lost it, or a block of it, but a disk that isn't honest
+abbrev pub of_known : Refusal → Refusal
+of_known refusal.NoSuchFile = refusal.Damaged
+of_known refusal.EndOfFile = refusal.Damaged
+of_known e = e

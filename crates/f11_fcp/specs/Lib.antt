@@ -1,4 +1,6 @@
 pub mod Accesses
+pub mod Directories
+pub mod Entries
 pub mod Handles
 pub mod Laws
 pub mod Mounting

@@ -14,12 +14,10 @@ use Rattle.f11_fcp.specs.Handles.{State, state_of, Handles}
 use Rattle.f11_fcp.specs.Places.{table_of}
 use Rattle.f11_fcp.specs.declared.volume.Volume.{Volume}
 
--- the requests that are served: those that look into no directory
-abbrev pub is_served : Request → Bool
-is_served (request.Find _ _) = false
-is_served (request.Enter _ _ _) = false
-is_served (request.Remove _ _) = false
-is_served _ = true
+-- the request that fills the block that is lent
+abbrev pub fills_block : Request → Bool
+fills_block (request.ReadBlock _ _) = true
+fills_block _ = false
 
 -- what contracts know of a volume
 abbrev pub state_in : {D : Type 0} {met : Ghosts D} → Volume D met → State
@@ -38,9 +36,10 @@ abbrev pub is_spent : {D : Type 0} {met : Ghosts D} → Volume D met → Bool
 is_spent v = v.failed
 
 -- A request was served. Once one has failed the volume each is refused as VolumeFailed, and nothing is done; before that it is handled. It fails the
--- volume where it answers DeviceFault or Damaged, and no other way.
+-- volume where it answers DeviceFault or Damaged, and no other way. The block that is lent is changed by ReadBlock alone.
 pub record Serving {D : Type 0} {met : Ghosts D} (task : ℕ) (caller : Uic) (r : Request) (result : Result Reply Refusal) (old new : Volume D met) (block block' : List ℕ) : Type 0 where
   pub refused : is_spent old ≡ true → IsErrOf result VolumeFailed
   pub untouched : is_spent old ≡ true → (state_in new ≡ state_in old) × (block' ≡ block)
   pub handled : is_spent old ≡ false → Handles task caller r result (state_in old) block (state_in new) block'
+  pub spared : fills_block r ≡ false → block' ≡ block
   pub next : is_spent new ≡ (is_spent old || is_refused is_grave result)

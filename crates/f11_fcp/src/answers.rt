@@ -1,8 +1,8 @@
 //! Each request's answer.
-ghost use Rattle.std.specs.Prelude.{◌≡◌, true};
+ghost use Rattle.std.specs.Prelude.{◌≡◌, false};
 ghost use Rattle.f11_fcp.specs.Handles.{Handles, IsOpen, StaysOpen, state_of};
 ghost use Rattle.f11_fcp.specs.Places.{table_of};
-ghost use Rattle.f11_fcp.specs.Serving.{is_served};
+ghost use Rattle.f11_fcp.specs.Serving.{fills_block};
 
 use crate::table::Accesses;
 use f11_bytes::Block;
@@ -21,10 +21,10 @@ impl Accesses {
         block: &mut Block,
     ) -> Result<Reply, Refusal>
         requires open { IsOpen (table_of self.old) files.old }
-        requires served { is_served request.now ≡ true }
         ensures handles { Handles task caller request.now result (state_of (table_of self.old) files.old) block.old
             (state_of (table_of self.new) files.new) block.new }
         ensures open { StaysOpen result (table_of self.new) files.new }
+        ensures spared { fills_block request.now ≡ false → block.new ≡ block.old }
     {
         match request {
             Request::Create {
@@ -50,7 +50,11 @@ impl Accesses {
                 self.write_attr(files, task, caller, *file, change)
             }
             Request::Space => self.space(files, task, caller),
-            Request::Find(..) | Request::Enter(..) | Request::Remove(..) => unreachable!(),
+            Request::Find(directory, name) => self.find(files, task, caller, *directory, name),
+            Request::Enter(directory, name, file) => {
+                self.enter(files, task, caller, *directory, name, *file)
+            }
+            Request::Remove(directory, name) => self.remove(files, task, caller, *directory, name),
         }
     }
 }

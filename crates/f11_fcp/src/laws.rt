@@ -5,3 +5,8 @@ ghost use Rattle.f11_fcp.specs.Laws as laws;
 pub fn stops()
     ensures { laws.StandingIsAccepted }
 {}
+
+/// What is met while requests are served.
+pub fn damage()
+    ensures undamaged { laws.HandledIsUndamaged }
+{}

@@ -36,7 +36,7 @@ impl<D: Device> Volume<D> {
     ghost use Rattle.f11_files.specs.Opened.{FailsToOpen};
     ghost use Rattle.f11_vfy.specs.Accepted.{device_of};
     ghost use Rattle.f11_fcp.specs.Mounting.{Mounts};
-    ghost use Rattle.f11_fcp.specs.Serving.{Serving, StaysAccepted, device_in, is_served, is_spent, state_in};
+    ghost use Rattle.f11_fcp.specs.Serving.{Serving, StaysAccepted, device_in, is_spent, state_in};
 
     /// Serves a request of a task.
     ///
@@ -50,7 +50,6 @@ impl<D: Device> Volume<D> {
         request: &Request,
         block: &mut Block,
     ) -> Result<Reply, Refusal>
-        requires served { is_served request.now ≡ true }
         ensures serves { Serving task caller request.now result self.old self.new block.old block.new }
         ensures accepted { StaysAccepted (state_in self.new) }
     {

@@ -164,5 +164,6 @@ module _ (s : Structure) (f : FileId) (block : List ℕ) (old new : Disk) (for :
   counts-last own last after goes = record {
     no_cause = λ honest. no-file-cause s f block old for holds honest;
     length_is = λ honest. goes.blocks_are honest ∙ sym (length-named s f block old for holds honest own);
+    few = let headers = goes.few in let blocks = goes.few_blocks in omega (arith, headers, blocks);
     reads = reads-along s f block old new 0 for holds goes.looked;
   }

@@ -1,5 +1,5 @@
 -- What asking for a file's length does.
-use Rattle.std.specs.Prelude.{◌≡◌, ℕ, IsTrue, None}
+use Rattle.std.specs.Prelude.{◌≡◌, ℕ, ◌≤◌, IsTrue, None}
 use Rattle.f11_dev.specs.Disk.{Disk}
 use Rattle.f11_home.specs.Home.{HomeFields}
 use Rattle.f11_store.specs.Causes.{first_of}
@@ -11,8 +11,13 @@ use Rattle.f11_files.specs.Answers.{Reads}
 use Rattle.f11_files.specs.Operations.{file_causes}
 use Rattle.f11_files.specs.StoreOf.{store_of}
 
+-- the most blocks that 256 headers can name: each has at most 127 pointers of 256 blocks
+abbrev pub most_blocks : ℕ
+most_blocks = 8323072
+
 -- A file's blocks were counted.
 pub record CountsBlocks (home : HomeFields) (f : FileId) (blocks : ℕ) (old new : Disk) : Type 0 where
   pub no_cause : IsTrue old.honest → first_of (file_causes (store_of old.image home) f) ≡ None
   pub length_is : IsTrue old.honest → blocks ≡ length_of (file_named (store_of old.image home) f)
+  pub few : blocks ≤ most_blocks
   pub reads : Reads (header_count (file_named (store_of old.image home) f)) old new 0

@@ -70,3 +70,21 @@ returns-in-Space-clause-handles g c =
     let t = table_of c.args.self.now in
     subst (λ (r : Request). Handles c.args.task c.args.caller r c.space.result (state_of t c.args.files.now) c.args.block.now (state_of t c.space.new.files) c.args.block.now) (sym c.in-Space.is)
     (handles-block c.args.task c.args.caller _ c.space.result (state_of t c.args.files.now) (state_of t c.space.new.files) c.args.block.now refl c.space.ensures.handles)
+
+pub returns-in-Find-clause-handles : goal.returns-in-Find-clause-handles
+returns-in-Find-clause-handles g c =
+    let t = table_of c.args.self.now in
+    subst (λ (r : Request). Handles c.args.task c.args.caller r c.find.result (state_of t c.args.files.now) c.args.block.now (state_of t c.find.new.files) c.args.block.now) (sym c.in-Find.is)
+    (handles-block c.args.task c.args.caller _ c.find.result (state_of t c.args.files.now) (state_of t c.find.new.files) c.args.block.now refl c.find.ensures.handles)
+
+pub returns-in-Enter-clause-handles : goal.returns-in-Enter-clause-handles
+returns-in-Enter-clause-handles g c =
+    let t = table_of c.args.self.now in
+    subst (λ (r : Request). Handles c.args.task c.args.caller r c.enter.result (state_of t c.args.files.now) c.args.block.now (state_of t c.enter.new.files) c.args.block.now) (sym c.in-Enter.is)
+    (handles-block c.args.task c.args.caller _ c.enter.result (state_of t c.args.files.now) (state_of t c.enter.new.files) c.args.block.now refl c.enter.ensures.handles)
+
+pub returns-in-Remove-clause-handles : goal.returns-in-Remove-clause-handles
+returns-in-Remove-clause-handles g c =
+    let t = table_of c.args.self.now in
+    subst (λ (r : Request). Handles c.args.task c.args.caller r c.remove.result (state_of t c.args.files.now) c.args.block.now (state_of t c.remove.new.files) c.args.block.now) (sym c.in-Remove.is)
+    (handles-block c.args.task c.args.caller _ c.remove.result (state_of t c.args.files.now) (state_of t c.remove.new.files) c.args.block.now refl c.remove.ensures.handles)

@@ -1,0 +1,43 @@
+use Rattle.std.proofs.Common.{sym, subst}
+use Rattle.f11_entries.specs.Costs.{append_cost}
+use Rattle.f11_files.specs.Answers.{Breaks}
+use Rattle.f11_files.specs.Fields.{Alters, FailsToAlter}
+use Rattle.f11_files.specs.Open.{disk_in, has_failed, home_in, store_in}
+use Rattle.f11_files.specs.StoreOf.{store_of}
+use Rattle.f11_home.specs.Home.{HomeFields}
+use Rattle.f11_store.specs.Changes.{with_replacement}
+use Rattle.f11_store.specs.Lags.{file_changes, one_part}
+use Rattle.f11_store.specs.declared.files.Change.TheVariants as change
+use Rattle.f11_files.specs.Operations.{file_causes}
+use Rattle.f11_store.specs.Directory.{record_bytes}
+use Rattle.f11_store.specs.Store.{file_named}
+use Rattle.f11_store.specs.declared.refusals.Refusal.{Refusal}
+use Rattle.f11_fcp.specs.Entries.{Appending}
+use Rattle.f11_fcp.proofs.EntryLemmas.{append-there, appends, breaks-move, breaks-put}
+use Rattle.f11_fcp.proofs.KnownLemmas.{known-breaks, known-file}
+use Rattle.f11_fcp.proofs.append.append_entry.Goals as goal
+
+pub returns-in-Err-clause-refused : goal.returns-in-Err-clause-refused
+returns-in-Err-clause-refused g c =
+    breaks-put (home_in c.args.files.now) c.args.directory c.args.tail.now (record_bytes c.args.file c.args.name.now) (disk_in c.args.files.now) (disk_in c.replace_entry.new.files) c.requires.there c.in-Err.ensures.refused
+
+pub returns-in-Ok-write_attr-clause-appended : goal.returns-in-Ok-write_attr-clause-appended
+returns-in-Ok-write_attr-clause-appended g c =
+    let home = home_in c.args.files.now in
+    let r = record_bytes c.args.file c.args.name.now in
+    appends home c.args.directory c.args.tail.now r (disk_in c.args.files.now) (disk_in c.replace_entry.new.files) c.requires.there c.in-Ok.ensures.replaced c.moved_end-attr.result c.moved_end-attr.ensures (disk_in c.write_attr.new.self)
+    (subst (λ (h : HomeFields). Alters (with_replacement (change.Attr c.moved_end-attr.result)) h c.args.directory (disk_in c.replace_entry.new.files) (disk_in c.write_attr.new.self)) c.in-Ok.ensures.home c.in-Ok-write_attr.ensures.altered)
+
+pub returns-in-Err-write_attr-clause-refused : goal.returns-in-Err-write_attr-clause-refused
+returns-in-Err-write_attr-clause-refused g c =
+    let home = home_in c.args.files.now in
+    let r = record_bytes c.args.file c.args.name.now in
+    let mid = disk_in c.replace_entry.new.files in
+    let new = disk_in c.write_attr.new.self in
+    let e = c.in-Err-write_attr.refusal in
+    let work = one_part c.args.directory.number (file_changes c.args.directory.number (with_replacement (change.Attr c.moved_end-attr.result))) in
+    subst (λ (x : Refusal). Breaks (Appending home c.args.directory c.args.tail.now r (disk_in c.args.files.now)) (append_cost (file_named (store_in c.args.files.now) c.args.directory)) x (disk_in c.args.files.now) new) (sym c.of_known.ensures)
+    (breaks-move home c.args.directory c.args.tail.now r (disk_in c.args.files.now) mid c.requires.there c.in-Ok.ensures.replaced c.moved_end-attr.result c.moved_end-attr.ensures new
+    (known-breaks (file_causes (store_of mid.image home) c.args.directory) e c.in-Ok.ensures.alive (known-file (store_of mid.image home) c.args.directory e)
+    (append-there home c.args.directory c.args.tail.now r (disk_in c.args.files.now) mid c.requires.there c.in-Ok.ensures.replaced) work home
+    (subst (λ (h : HomeFields). FailsToAlter (has_failed c.replace_entry.new.files) (with_replacement (change.Attr c.moved_end-attr.result)) h c.args.directory e mid new) c.in-Ok.ensures.home c.in-Err-write_attr.ensures.refused)))
