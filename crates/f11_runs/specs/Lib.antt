@@ -1,0 +1,4 @@
+pub mod Each
+pub mod Laws
+pub mod Locked
+pub mod Standing
