@@ -1,1 +1,5 @@
+pub mod AccessLemmas
 pub mod EachLaws
+pub mod LockedLemmas
+pub mod LockedSteps
+pub mod SlotLists

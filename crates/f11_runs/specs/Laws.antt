@@ -64,12 +64,12 @@ KeptAlong =
 
 -- a store that stands does so after each step, whatever a task asks
 abbrev pub StepStands : Type 0
-StepStands = (s s' : Store) (c : Call) (a : Answer) → IsTasks c → IsStanding s → Steps s c a s' → IsStanding s'
+StepStands = (s s' : Store) (c : Call) (a : Answer) → IsStanding s → Steps s c a s' → IsStanding s'
 
 -- and at every store on the way of a list, the last one too
 abbrev pub RunStands : Type 0
 RunStands =
-    (s s' : Store) (calls : List Call) (answers : List Answer) → All IsTasks calls → IsStanding s → Run s calls answers s' →
+    (s s' : Store) (calls : List Call) (answers : List Answer) → IsStanding s → Run s calls answers s' →
     Each (Within IsStanding Steps) s calls answers s' × IsStanding s'
 
 -- where nobody holds an access, a store stands if its files hold their slots apart
