@@ -1,4 +1,5 @@
 pub mod AccessLemmas
+pub mod ApartLemmas
 pub mod EachLaws
 pub mod LockedLemmas
 pub mod LockedSteps
