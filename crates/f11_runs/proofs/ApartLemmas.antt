@@ -69,10 +69,16 @@ apart-stays s s' file kept was = record {
 pub apart-change : (s s' : Store) (k : ℕ) (change : File → File) → ((f : File) → (change f).held ≡ f.held) → HoldApart s → s' ≡ with_change s k change → HoldApart s'
 apart-change s s' k change same was e = subst HoldApart (sym e) (
   set-apart s (with_change s k change) k (option_map change (s.file k)) was (λ n. refl)
-  (λ g is. let f = before (s.file k) refl g is in same-own s (with_change s k change) k f.0 g f.2 (λ m h used. used) (was.each k f.0 f.1))
-  (λ g is m h. let f = before (s.file k) refl g is in inl (f.0, f.1, sym (ap (λ xs. is_in xs m) f.2) ∙ h))
+  (λ g is. own g (before (s.file k) refl g is))
+  (λ g is m h. held g m h (before (s.file k) refl g is))
   (λ n m f ne is h. (was.each n f is).used m h))
   where
+    own : (g : File) → (f : File) × (s.file k ≡ Some f) × (g.held ≡ f.held) → HoldsItsOwn (with_change s k change) k g
+    own g (f, is, alike) = same-own s (with_change s k change) k f g alike (λ m h used. used) (was.each k f is)
+
+    held : (g : File) (m : ℕ) → is_in g.held m ≡ true → (f : File) × (s.file k ≡ Some f) × (g.held ≡ f.held) → Held s k m ⊎ (s.in_use m ≡ false)
+    held g m h (f, is, alike) = inl (f, is, sym (ap (λ xs. is_in xs m) alike) ∙ h)
+
     before : (o : Option File) → s.file k ≡ o → (g : File) → option_map change o ≡ Some g → (f : File) × (s.file k ≡ Some f) × (g.held ≡ f.held)
     before None is g h = absurd (cc)
     before (Some f) is g h = let same_file : change f ≡ g = cc in (f, is, sym (ap (λ (x : File). x.held) same_file) ∙ same f)

@@ -105,6 +105,16 @@ EndIsServed =
     (s s' : Store) (task lun : ℕ) (id : FileId) (blocks : List (List ℕ)) (c : Call) (a : Answer) →
     IsLocked s task lun id blocks → ends task lun c ≡ true → Steps s c a s' → a.result ≡ Ok reply.Done
 
+-- From a store that stands an access in mode Locked was answered Done, then calls of which none ends it, then a ReadBlock of a
+-- VBN above 0 by its task and lun: it gives the block of the content as it was before the access, and EndOfFile exactly past it.
+abbrev pub LockedReadIs : Type 0
+LockedReadIs =
+    (s t u v : Store) (access read : Call) (granted given : Answer) (between : List Call) (meanwhile : List Answer) (id : FileId) (lun vbn : ℕ) →
+    IsStanding s → IsTasks access → All IsTasks between → access.request ≡ request.Access id mode.Locked lun → granted.result ≡ Ok reply.Done →
+    All (λ c. ends access.task lun c ≡ false) between → read.task ≡ access.task → read.request ≡ request.ReadBlock lun vbn → 0 < vbn →
+    Steps s access granted t → Run t between meanwhile u → Steps u read given v →
+    IsReadOf (file_named s id).blocks vbn given.result given.block
+
 -- Whatever list is run from a store that stands: a read by a locked access gives the content as it was when the access was asked for.
 abbrev pub RunLocksHold : Type 0
 RunLocksHold =

@@ -69,4 +69,4 @@ pub record ReadsLocked (calls : List Call) (answers : List Answer) : Type 0 wher
 abbrev pub LocksHold : Store → List Call → List Answer → Type 0
 LocksHold s calls answers =
     (r : ReadsLocked calls answers) →
-    (then : Store) × (Run s r.before r.told then) × (IsReadOf (file_named then r.id).blocks r.vbn r.given.result r.given.block)
+    (before : Store) × (Run s r.before r.told before) × (IsReadOf (file_named before r.id).blocks r.vbn r.given.result r.given.block)

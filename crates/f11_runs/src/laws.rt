@@ -18,3 +18,22 @@ pub fn steps()
     ensures steps { laws.StepsAreRun }
     ensures kept { laws.KeptAlong }
 {}
+
+/// A store that stands, as a mounted volume's does, stands after each step and all along a list.
+pub fn standing()
+    ensures first { laws.UnaccessedStands }
+    ensures step { laws.StepStands }
+    ensures run { laws.RunStands }
+    ensures empty { laws.StandingIsEmpty }
+{}
+
+/// An access in mode Locked reads the content as it was when it was answered, until its task ends it,
+/// whatever all tasks ask between.
+pub fn locked()
+    ensures begins { laws.LockedBegins }
+    ensures stays { laws.LockedStays }
+    ensures read { laws.LockedIsRead }
+    ensures ends { laws.EndIsServed }
+    ensures between { laws.LockedReadIs }
+    ensures run { laws.RunLocksHold }
+{}
