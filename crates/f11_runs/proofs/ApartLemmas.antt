@@ -1,5 +1,5 @@
 -- Files hold their slots apart, through each kind of change.
-use Rattle.std.proofs.Common.{◌≡◌, ◌≢◌, ℕ, zero, suc, ◌+◌, ◌-◌, ◌<◌, ◌≤◌, ◌==◌, ◌&&◌, ◌||◌, ◌⊎◌, inl, inr, Bool, true, false, not, List, [], ◌∷◌, ◌++◌, length, take, drop, Option, Some, None, refl, sym, ◌∙◌, ap, subst, arith, option_map, unwrap_or, if◌then◌else◌}
+use Rattle.std.proofs.Common.{◌≡◌, ◌≢◌, ℕ, zero, suc, ◌≤◌, ◌==◌, ◌&&◌, ◌||◌, ◌⊎◌, inl, inr, Bool, true, false, not, List, [], ◌∷◌, ◌++◌, take, drop, Option, Some, None, refl, sym, ◌∙◌, ap, subst, arith, option_map, unwrap_or, if◌then◌else◌}
 use Rattle.std.proofs.lemmas.Bool.{eq-eqb, ne_eqb, cases_eq}
 use Rattle.f11_store.specs.File.{File, no_file}
 use Rattle.f11_store.specs.Store.{Store, free_slots}
@@ -68,10 +68,10 @@ apart-stays s s' file kept was = record {
 -- a file is changed, and holds what it held
 pub apart-change : (s s' : Store) (k : ℕ) (change : File → File) → ((f : File) → (change f).held ≡ f.held) → HoldApart s → s' ≡ with_change s k change → HoldApart s'
 apart-change s s' k change same was e = subst HoldApart (sym e) (
-  set-apart s (with_change s k change) k (option_map change (s.file k)) was (λ n. refl)
-  (λ g is. own g (before (s.file k) refl g is))
-  (λ g is m h. held g m h (before (s.file k) refl g is))
-  (λ n m f ne is h. (was.each n f is).used m h))
+    set-apart s (with_change s k change) k (option_map change (s.file k)) was (λ n. refl)
+    (λ g is. own g (before (s.file k) refl g is))
+    (λ g is m h. held g m h (before (s.file k) refl g is))
+    (λ n m f ne is h. (was.each n f is).used m h))
   where
     own : (g : File) → (f : File) × (s.file k ≡ Some f) × (g.held ≡ f.held) → HoldsItsOwn (with_change s k change) k g
     own g (f, is, alike) = same-own s (with_change s k change) k f g alike (λ m h used. used) (was.each k f is)
@@ -105,14 +105,14 @@ apart-made s slot f held free was =
 -- a file grows
 pub apart-grown : (s s' : Store) (k n : ℕ) (blocks : List (List ℕ)) → HoldApart s → Grows s k n blocks s' → HoldApart s'
 apart-grown s s' k n blocks was grows = subst HoldApart (sym grows.store_is) (
-  set-apart s _ k (Some (grown_file s f blocks grows.added grows.pointers grows.room)) was (λ n. refl)
-  (λ g is. let held : f.held ++ more ≡ g.held = ap held_of is in record {
-    first = sym (ap (take 1) held) ∙ first-stays f.held own.first;
-    used = λ m h. used m (sym (in-two f.held more m) ∙ ap (λ xs. is_in xs m) held ∙ h);
-    once = subst AreDistinct held (distinct-two f.held more own.once (taken-distinct s grows.added) apart);
-  })
-  (λ g is m h. let held : f.held ++ more ≡ g.held = ap held_of is in where-from m (sym (in-two f.held more m) ∙ ap (λ xs. is_in xs m) held ∙ h))
-  (λ n m g ne is h. right (is_in more m) (s.in_use m) ((was.each n g is).used m h)))
+    set-apart s _ k (Some (grown_file s f blocks grows.added grows.pointers grows.room)) was (λ n. refl)
+    (λ g is. let held : f.held ++ more ≡ g.held = ap held_of is in record {
+      first = sym (ap (take 1) held) ∙ first-stays f.held own.first;
+      used = λ m h. used m (sym (in-two f.held more m) ∙ ap (λ xs. is_in xs m) held ∙ h);
+      once = subst AreDistinct held (distinct-two f.held more own.once (taken-distinct s grows.added) apart);
+    })
+    (λ g is m h. let held : f.held ++ more ≡ g.held = ap held_of is in where-from m (sym (in-two f.held more m) ∙ ap (λ xs. is_in xs m) held ∙ h))
+    (λ n m g ne is h. right (is_in more m) (s.in_use m) ((was.each n g is).used m h)))
   where
     f : File
     f = grows.before
@@ -166,14 +166,14 @@ stays-in-use false false h k = absurd (cc)
 -- a file is cut
 pub apart-cut : (s s' : Store) (k to : ℕ) → HoldApart s → Truncates s k to s' → HoldApart s'
 apart-cut s s' k to was cut = subst HoldApart (sym cut.store_is) (
-  set-apart s _ k _ was (λ n. refl)
-  (λ g is. let held : take cut.headers f.held ≡ g.held = ap held_of is in record {
-    first = sym (ap (take 1) held) ∙ first-stays cut.headers f.held cut.some_header own.first;
-    used = λ m h. used m (ap (λ xs. is_in xs m) held ∙ h);
-    once = subst AreDistinct held (distinct-take cut.headers f.held own.once);
-  })
-  (λ g is m h. let held : take cut.headers f.held ≡ g.held = ap held_of is in inl (f, cut.was, in-take cut.headers f.held m (ap (λ xs. is_in xs m) held ∙ h)))
-  (λ n m g ne is h.
+    set-apart s _ k _ was (λ n. refl)
+    (λ g is. let held : take cut.headers f.held ≡ g.held = ap held_of is in record {
+      first = sym (ap (take 1) held) ∙ first-stays cut.headers f.held cut.some_header own.first;
+      used = λ m h. used m (ap (λ xs. is_in xs m) held ∙ h);
+      once = subst AreDistinct held (distinct-take cut.headers f.held own.once);
+    })
+    (λ g is m h. let held : take cut.headers f.held ≡ g.held = ap held_of is in inl (f, cut.was, in-take cut.headers f.held m (ap (λ xs. is_in xs m) held ∙ h)))
+    (λ n m g ne is h.
     stays-in-use (is_in (drop cut.headers f.held) m) (s.in_use m)
     (fails-so (is_in (drop cut.headers f.held) m) (is_in f.held m) (in-drop cut.headers f.held m) (was.apart n k m g f ne is cut.was h))
     ((was.each n g is).used m h)))

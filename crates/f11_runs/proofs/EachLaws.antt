@@ -1,8 +1,6 @@
 -- Calls that were answered one after another, in parts and all the way.
-use Rattle.std.proofs.Common.{◌≡◌, ℕ, suc, ◌+◌, ◌<◌, Bool, true, List, [], ◌∷◌, ◌++◌, length, refl, sym, ◌∙◌, ap, subst, arith, All, length-append}
-use Rattle.f11_store.specs.Run.{Call, Answer, Run}
-use Rattle.f11_store.specs.Step.{Step}
-use Rattle.f11_store.specs.Store.{Store}
+use Rattle.std.proofs.Common.{◌≡◌, suc, true, List, [], ◌∷◌, ◌++◌, length, refl, sym, ap, subst, arith, All, length-append}
+use Rattle.f11_store.specs.Run.{Call, Answer}
 use Rattle.f11_runs.specs.Each.{Each, Steps, Within}
 use Rattle.f11_runs.specs.Laws.{EmptyChangesNothing, EachIsAnswered, TwoAreOne, OneIsTwo, OneMoreRuns, LastIsStep, RunIsSteps, StepsAreRun, KeptAlong}
 

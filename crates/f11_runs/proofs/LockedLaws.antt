@@ -1,9 +1,7 @@
 -- Locked accesses through a run, and what is read by them.
-use Rattle.std.proofs.Common.{◌≡◌, ◌≢◌, ℕ, suc, ◌+◌, ◌-◌, ◌<◌, ◌≤◌, ◌==◌, ◌&&◌, Bool, true, false, List, [], ◌∷◌, ◌++◌, length, Option, Some, None, Result, Ok, Err, refl, sym, ◌∙◌, ap, subst, arith, All, is_none, is_some, if◌then◌else◌, nat_lt, slice_index_or, length-append}
+use Rattle.std.proofs.Common.{◌≡◌, ℕ, suc, ◌-◌, ◌<◌, ◌==◌, ◌&&◌, Bool, true, false, List, [], ◌∷◌, ◌++◌, length, Some, None, Result, Ok, Err, refl, sym, ◌∙◌, ap, subst, arith, All, is_none, is_some, if◌then◌else◌, nat_lt, slice_index_or, length-append}
 use Rattle.std.proofs.lemmas.List.{get_or_append_left}
 use Rattle.std.proofs.lemmas.Bool.{ltb-true, ltb-false, ne_eqb, eq-eqb, eqb-true, and_parts, and_from, and_right}
-use Rattle.f11_store.specs.declared.callers.Uic.{Uic}
-use Rattle.f11_store.specs.declared.files.FileId.{FileId}
 use Rattle.f11_store.specs.declared.files.Mode.TheVariants as mode
 use Rattle.f11_store.specs.declared.refusals.Refusal.{Refusal}
 use Rattle.f11_store.specs.declared.refusals.Refusal.TheVariants.{BadArgument, NoSuchAccess, EndOfFile}
@@ -18,29 +16,24 @@ use Rattle.f11_store.specs.Causes.{is_missing, holds_none, is_bad, lacks_for}
 use Rattle.f11_store.specs.Step.{Step, MayRefuse, block_at}
 use Rattle.f11_store.specs.Run.{Call, Answer, Run}
 use Rattle.f11_store.proofs.StoreLemmas.{none_first, none_rest}
-use Rattle.f11_runs.specs.Each.{Each, Steps, Within}
-use Rattle.f11_runs.specs.Laws.{RunStands, LockedBegins, LockedStays, LockedIsRead, EndIsServed, LockedReadIs, RunLocksHold}
-use Rattle.f11_runs.specs.Locked.{IsLocked, IsReadOf, ReadsLocked, LocksHold, ends, gives_up}
-use Rattle.f11_runs.specs.Standing.{AccessesStand, IsStanding, IsTasks, lun_of}
+use Rattle.f11_runs.specs.Each.{Steps, Within}
+use Rattle.f11_runs.specs.Laws.{LockedBegins, LockedStays, LockedIsRead, EndIsServed, LockedReadIs, TidyLocksHold, RunLocksHold}
+use Rattle.f11_runs.specs.Locked.{IsLocked, IsReadOf, ends, gives_up}
+use Rattle.f11_runs.specs.Standing.{TidyRun, IsTasks, lun_of}
 use Rattle.f11_runs.proofs.AccessLemmas.{held-with}
-use Rattle.f11_runs.proofs.EachLaws.{each-within, run-is-steps, one-is-two}
-use Rattle.f11_runs.proofs.LockedSteps.{locked-served, locked-step}
-use Rattle.f11_runs.proofs.StandingSteps.{apart-empty, accesses-served, step-stands}
-
--- a store stands along a run
-pub run-stands : RunStands
-run-stands s s' cs bs is h =
-    each-within Steps IsStanding (λ c. Unit {0}) (λ t u c a _ was one. step-stands t u c a was one) s s' cs bs (λ k d within. tt) is (run-is-steps s s' cs bs h)
+use Rattle.f11_runs.proofs.EachLaws.{each-parts, each-seen, steps-are-run}
+use Rattle.f11_runs.proofs.LockedSteps.{locked-step}
+use Rattle.f11_runs.proofs.StandingSteps.{step-accesses, accesses-stay, standing-run-is-tidy}
 
 -- a locked file through a run
 pub locked-stays : LockedStays
 locked-stays s s' task lun id blocks [] [] low small standing calls none is run = subst (λ (x : Store). IsLocked x task lun id blocks) (sym run) is
-locked-stays s s' task lun id blocks (c ∷ cs) (a ∷ rest) low small standing calls none is (between, step, run) =
+locked-stays s s' task lun id blocks (c ∷ cs) (a ∷ rest) low small standing calls none is (between, (empty, step, _), run) =
     let first : IsTasks c = calls 0 c (omega arith) in
     let goes_on : ends task lun c ≡ false = none 0 c (omega arith) in
-    locked-stays between s' task lun id blocks cs rest low small (step-stands s between c a standing step)
+    locked-stays between s' task lun id blocks cs rest low small (step-accesses s between c a empty standing step)
     (λ k d within. calls (suc k) d (omega (arith, within))) (λ k d within. none (suc k) d (omega (arith, within)))
-    (locked-step s task lun id blocks low small is standing.accesses (apart-empty s standing.slots) c.task c.caller c.request c.block a.result between a.block first.task first.lun goes_on step)
+    (locked-step s task lun id blocks low small is standing empty c.task c.caller c.request c.block a.result between a.block first.task first.lun goes_on step)
     run
 locked-stays s s' task lun id blocks [] (a ∷ rest) low small standing calls none is run = absurd run
 locked-stays s s' task lun id blocks (c ∷ cs) [] low small standing calls none is run = absurd run
@@ -115,9 +108,9 @@ all-behind P (x ∷ xs) ys h = all-behind P xs ys (λ k d within. h (suc k) d (o
 
 -- an access, calls that don't end it, and a read by it
 pub locked-read-is : LockedReadIs
-locked-read-is s t u v access read granted given between meanwhile id lun vbn standing tasks others locks done goes_on task reads some one run two =
+locked-read-is s t u v access read granted given between meanwhile id lun vbn empty standing tasks others locks done goes_on task reads some one run two =
     locked-is-read u v access.task lun id (file_named s id).blocks read.caller vbn read.block given.block given.result
-    (locked-stays t u access.task lun id (file_named s id).blocks between meanwhile tasks.task small (step-stands s t access granted standing one) others goes_on begun run)
+    (locked-stays t u access.task lun id (file_named s id).blocks between meanwhile tasks.task small (step-accesses s t access granted empty standing one) others goes_on begun run)
     some reading
   where
     small : lun < 4
@@ -134,29 +127,43 @@ locked-read-is s t u v access read granted given between meanwhile id lun vbn st
         subst (λ (r : Request). Step u access.task read.caller r read.block given.result v given.block) reads
         (subst (λ (n : ℕ). Step u n read.caller read.request read.block given.result v given.block) task two)
 
+-- a run at each store of which no file is in a slot that isn't in use is a run
+tidy-runs : (s s' : Store) (cs : List Call) (bs : List Answer) → TidyRun s cs bs s' → Run s cs bs s'
+tidy-runs s s' cs bs h = steps-are-run s s' cs bs (each-seen (Within FreeIsEmpty Steps) Steps (λ t. t) (λ t u c a one. one.1) s s' cs bs h)
+
 -- a read by a locked access among the calls of a run
-pub run-locks-hold : RunLocksHold
-run-locks-hold s s' calls answers tasks standing run r =
-    let first = one-is-two s s' r.before (r.access ∷ (r.between ++ r.read ∷ r.after)) r.told (r.granted ∷ (r.meanwhile ++ r.given ∷ r.rest)) r.as_many whole in
+pub tidy-locks-hold : TidyLocksHold
+tidy-locks-hold s s' calls answers tasks standing run r =
+    let first = each-parts (Within FreeIsEmpty Steps) s s' r.before behind r.told told_behind r.as_many whole in
     by_parts first.0 first.1 first.2
   where
-    whole : Run s (r.before ++ r.access ∷ (r.between ++ r.read ∷ r.after)) (r.told ++ r.granted ∷ (r.meanwhile ++ r.given ∷ r.rest)) s'
+    behind : List Call
+    behind = r.access ∷ (r.between ++ r.read ∷ r.after)
+
+    told_behind : List Answer
+    told_behind = r.granted ∷ (r.meanwhile ++ r.given ∷ r.rest)
+
+    whole : TidyRun s (r.before ++ behind) (r.told ++ told_behind) s'
     whole =
-        subst (λ (bs : List Answer). Run s (r.before ++ r.access ∷ (r.between ++ r.read ∷ r.after)) bs s') r.answers_are
-        (subst (λ (cs : List Call). Run s cs answers s') r.calls_are run)
+        subst (λ (bs : List Answer). TidyRun s (r.before ++ behind) bs s') r.answers_are
+        (subst (λ (cs : List Call). TidyRun s cs answers s') r.calls_are run)
 
-    later : All IsTasks (r.access ∷ (r.between ++ r.read ∷ r.after))
-    later = all-behind IsTasks r.before (r.access ∷ (r.between ++ r.read ∷ r.after)) (subst (All IsTasks) r.calls_are tasks)
+    later : All IsTasks behind
+    later = all-behind IsTasks r.before behind (subst (All IsTasks) r.calls_are tasks)
 
-    by_parts : (at_access : Store) → Run s r.before r.told at_access → Run at_access (r.access ∷ (r.between ++ r.read ∷ r.after)) (r.granted ∷ (r.meanwhile ++ r.given ∷ r.rest)) s' →
-        (t : Store) × (Run s r.before r.told t) × (IsReadOf (file_named t r.id).blocks r.vbn r.given.result r.given.block)
-    by_parts at_access so_far (t, one, behind) =
-        let second = one-is-two t s' r.between (r.read ∷ r.after) r.meanwhile (r.given ∷ r.rest) r.as_many_between behind in
-        (
+    by_parts : (at_access : Store) → TidyRun s r.before r.told at_access → TidyRun at_access behind told_behind s' →
+        (t : Store) × (Run s r.before r.told t) × (Run t behind told_behind s') × (IsReadOf (file_named t r.id).blocks r.vbn r.given.result r.given.block)
+    by_parts at_access so_far (t, one, more) =
+        let second = each-parts (Within FreeIsEmpty Steps) t s' r.between (r.read ∷ r.after) r.meanwhile (r.given ∷ r.rest) r.as_many_between more in (
           at_access,
-          so_far,
+          tidy-runs s at_access r.before r.told so_far,
+          tidy-runs at_access s' behind told_behind (t, one, more),
           locked-read-is at_access t second.0 second.2.0 r.access r.read r.granted r.given r.between r.meanwhile r.id r.lun r.vbn
-              (run-stands s at_access r.before r.told standing so_far).1 (later 0 r.access (omega arith))
+              one.0 (accesses-stay s at_access r.before r.told standing so_far) (later 0 r.access (omega arith))
               (all-before IsTasks r.between (r.read ∷ r.after) (λ k d within. later (suc k) d (omega (arith, within))))
-              r.locks r.done r.goes_on r.task r.reads r.some one second.1 second.2.1,
+              r.locks r.done r.goes_on r.task r.reads r.some one.1 second.1 second.2.1.1,
         )
+
+pub run-locks-hold : RunLocksHold
+run-locks-hold s s' calls answers tasks standing run =
+    tidy-locks-hold s s' calls answers tasks standing.accesses (standing-run-is-tidy s s' calls answers standing run)

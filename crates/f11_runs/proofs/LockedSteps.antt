@@ -1,5 +1,5 @@
 -- A locked file through one step.
-use Rattle.std.proofs.Common.{◌≡◌, ◌≢◌, ℕ, ◌+◌, ◌<◌, ◌≤◌, ◌==◌, ◌&&◌, ◌||◌, Bool, true, false, not, List, [], ◌∷◌, Option, Some, None, Result, Ok, Err, refl, sym, ◌∙◌, ap, subst, arith, ◌⊎◌, inl, inr, is_some, if◌then◌else◌, fold, nat_lt}
+use Rattle.std.proofs.Common.{◌≡◌, ◌≢◌, ℕ, ◌<◌, ◌==◌, ◌&&◌, ◌||◌, Bool, true, false, not, List, [], ◌∷◌, Option, Some, None, Result, Ok, Err, refl, sym, ◌∙◌, ap, subst, arith, ◌⊎◌, inl, inr, is_some, if◌then◌else◌, fold, nat_lt}
 use Rattle.std.specs.List.{range_with_len}
 use Rattle.std.proofs.lemmas.Bool.{eqb-true, and_parts, not-true, ne_eqb, eq-eqb, cases_eq, and_from, and_left, and_right}
 use Rattle.f11_store.specs.declared.callers.Uic.{Uic}
@@ -18,9 +18,9 @@ use Rattle.f11_store.specs.Accesses.{FreeIsEmpty}
 use Rattle.f11_store.specs.File.{File, is_marked}
 use Rattle.f11_store.specs.Store.{Store, Access, file_named, id_in, id_held, least_free, free_headers, is_same, is_held, is_accessed, bars, bars_writing}
 use Rattle.f11_store.specs.Causes.{is_missing, is_no_writer, cannot_write, first_refusal, is_bad, lacks, lacks_for}
-use Rattle.f11_store.specs.Changes.{with_access, with_change, with_block, with_replacement, with_delete_mark, without_file_at, with_marked_file, is_due, after_giving_up, after_deaccess, after_delete, Grows, with_more_slots, EntersAt, EntersAtEnd, Changes}
+use Rattle.f11_store.specs.Changes.{with_access, with_change, with_replacement, with_delete_mark, without_file_at, with_marked_file, is_due, after_giving_up, after_deaccess, after_delete, Grows, with_more_slots, EntersAt, EntersAtEnd, Changes}
 use Rattle.f11_store.specs.Step.{Step}
-use Rattle.f11_store.proofs.FateLaws.{held-at, held-accesses, marked-there}
+use Rattle.f11_store.proofs.FateLaws.{held-accesses, marked-there}
 use Rattle.f11_store.proofs.FileLaws.{least_free_is_free}
 use Rattle.f11_store.proofs.StepFates.{replacement-sequence}
 use Rattle.f11_store.proofs.StoreLemmas.{none_first, none_rest}

@@ -1,6 +1,6 @@
 -- Slots in lists, and in no list twice.
 use Rattle.std.proofs.Common.{◌≡◌, ℕ, zero, suc, ◌+◌, ◌-◌, ◌≤◌, ◌==◌, ◌||◌, Bool, true, false, not, List, [], ◌∷◌, ◌++◌, take, drop, filter, refl, sym, ◌∙◌, ap, subst, arith, if◌then◌else◌}
-use Rattle.std.specs.List.{range_with_len, list_any}
+use Rattle.std.specs.List.{range_with_len}
 use Rattle.std.proofs.lemmas.Bool.{eqb-true}
 use Rattle.std.proofs.lemmas.List.Folds.{list_any-append}
 use Rattle.f11_store.specs.Store.{Store, free_slots}
@@ -64,9 +64,10 @@ take-apart (suc k) (x ∷ xs) n d h = by_test (x == n) refl h (take-apart k xs n
 
 pub distinct-two : (xs ys : List ℕ) → AreDistinct xs → AreDistinct ys → ((n : ℕ) → is_in xs n ≡ true → is_in ys n ≡ false) → AreDistinct (xs ++ ys)
 distinct-two [] ys d e apart = e
-distinct-two (x ∷ xs) ys d e apart =
-    (in-two xs ys x ∙ neither (is_in xs x) (is_in ys x) d.0 (apart x (ap (λ b. b || is_in xs x) (same_number x))),
-      distinct-two xs ys d.1 e (λ n h. apart n (later (x == n) (is_in xs n) h)))
+distinct-two (x ∷ xs) ys d e apart = (
+  in-two xs ys x ∙ neither (is_in xs x) (is_in ys x) d.0 (apart x (ap (λ b. b || is_in xs x) (same_number x))),
+  distinct-two xs ys d.1 e (λ n h. apart n (later (x == n) (is_in xs n) h)),
+)
   where
     later : (b c : Bool) → c ≡ true → (b || c) ≡ true
     later true c h = refl

@@ -1,12 +1,11 @@
 -- A store that stands does so after each request.
-use Rattle.std.proofs.Common.{◌≡◌, ◌≢◌, ℕ, ◌+◌, ◌<◌, ◌==◌, ◌&&◌, ◌||◌, Bool, true, false, List, [], ◌∷◌, Option, Some, None, Result, Ok, Err, refl, sym, ◌∙◌, ap, subst, arith, is_none, is_some, option_map, take, if◌then◌else◌, fold, nat_lt}
+use Rattle.std.proofs.Common.{◌≡◌, ℕ, ◌<◌, ◌==◌, ◌&&◌, ◌||◌, Bool, true, false, List, [], ◌∷◌, Option, Some, None, Result, Ok, Err, refl, sym, ◌∙◌, ap, subst, is_none, is_some, option_map, take, if◌then◌else◌, fold, nat_lt}
 use Rattle.std.specs.List.{range_with_len}
 use Rattle.std.proofs.lemmas.Bool.{eq-eqb, eqb-true}
 use Rattle.f11_store.specs.declared.callers.Uic.{Uic}
 use Rattle.f11_store.specs.declared.files.FileId.{FileId}
 use Rattle.f11_store.specs.declared.files.Change.{Change}
 use Rattle.f11_store.specs.declared.files.Change.TheVariants as change
-use Rattle.f11_store.specs.declared.files.Mode.{Mode}
 use Rattle.f11_store.specs.declared.refusals.Refusal.{Refusal}
 use Rattle.f11_store.specs.declared.refusals.Refusal.TheVariants.{NoHeader}
 use Rattle.f11_store.specs.declared.requests.Reply.{Reply}
@@ -14,19 +13,20 @@ use Rattle.f11_store.specs.declared.requests.Request.{Request}
 use Rattle.f11_store.specs.declared.requests.Request.TheVariants as request
 use Rattle.f11_store.specs.Accesses.{FreeIsEmpty}
 use Rattle.f11_store.specs.File.{File}
-use Rattle.f11_store.specs.Store.{Store, Access, file_named, id_held, least_free, free_headers, is_same, is_accessed, is_held}
+use Rattle.f11_store.specs.Store.{Store, Access, id_held, least_free, free_headers, is_same, is_accessed}
 use Rattle.f11_store.specs.Causes.{is_missing, first_refusal, is_bad}
 use Rattle.f11_store.specs.Changes.{is_in, with_access, with_change, with_block, with_replacement, with_delete_mark, without_file_at, with_marked_file, is_due, after_giving_up, after_deaccess, after_delete, Grows, with_more_slots, EntersAt, EntersAtEnd, Changes}
 use Rattle.f11_store.specs.Step.{Step}
 use Rattle.f11_store.specs.Run.{Call, Answer}
-use Rattle.f11_store.proofs.FateLaws.{Fate, stays, altered, new, gone, held-at, held-accesses, fate-given-up, fate-gone, fate-grows}
+use Rattle.f11_store.proofs.FateLaws.{Fate, stays, altered, new, gone, held-at, fate-given-up, fate-gone, fate-grows}
 use Rattle.f11_store.proofs.FileLaws.{least_free_is_free}
 use Rattle.f11_store.proofs.StepFates.{fate-served, fate-create, replacement-sequence}
 use Rattle.f11_store.proofs.StoreLemmas.{none_first, none_rest}
-use Rattle.f11_runs.specs.Each.{Steps}
-use Rattle.f11_runs.specs.Laws.{StepStands, UnaccessedStands, StandingIsEmpty}
+use Rattle.f11_runs.specs.Each.{Steps, Within}
+use Rattle.f11_runs.specs.Laws.{StepStands, RunStands, UnaccessedStands, StandingIsEmpty, StandingRunIsTidy, AccessesStay}
 use Rattle.f11_runs.specs.Standing.{AccessesStand, HoldApart, IsStanding, is_lost}
 use Rattle.f11_runs.proofs.AccessLemmas.{IsThere, there-is, there-file, true-false}
+use Rattle.f11_runs.proofs.EachLaws.{each-within, each-seen, run-is-steps}
 use Rattle.f11_runs.proofs.ApartLemmas.{apart-stays, apart-change, apart-made, apart-grown, apart-cut, apart-gone}
 
 -- no file is in a slot that isn't in use
@@ -232,12 +232,36 @@ accesses-served s task caller (request.WriteAttr id c) block s' empty was none h
 accesses-served s task caller request.Space block s' empty was none h = subst AccessesStand (sym h) was
 
 -- a step
-pub step-stands : StepStands
-step-stands s s' c a is h = by_answer a.result h
+pub step-accesses : (s s' : Store) (c : Call) (a : Answer) → FreeIsEmpty s → AccessesStand s → Steps s c a s' → AccessesStand s'
+step-accesses s s' c a empty was h = by_answer a.result h
   where
-    by_answer : (result : Result Reply Refusal) → Step s c.task c.caller c.request c.block result s' a.block → IsStanding s'
-    by_answer (Ok reply) k = record {
-      accesses = accesses-served s c.task c.caller c.request c.block s' (apart-empty s is.slots) is.accesses k.no_cause k.changes;
-      slots = apart-served s c.task c.caller c.request c.block s' is.slots k.no_cause k.changes;
-    }
-    by_answer (Err e) k = subst IsStanding (sym k.store_stays) is
+    by_answer : (result : Result Reply Refusal) → Step s c.task c.caller c.request c.block result s' a.block → AccessesStand s'
+    by_answer (Ok reply) k = accesses-served s c.task c.caller c.request c.block s' empty was k.no_cause k.changes
+    by_answer (Err e) k = subst AccessesStand (sym k.store_stays) was
+
+step-slots : (s s' : Store) (c : Call) (a : Answer) → HoldApart s → Steps s c a s' → HoldApart s'
+step-slots s s' c a was h = by_answer a.result h
+  where
+    by_answer : (result : Result Reply Refusal) → Step s c.task c.caller c.request c.block result s' a.block → HoldApart s'
+    by_answer (Ok reply) k = apart-served s c.task c.caller c.request c.block s' was k.no_cause k.changes
+    by_answer (Err e) k = subst HoldApart (sym k.store_stays) was
+
+pub step-stands : StepStands
+step-stands s s' c a is h = record {
+  accesses = step-accesses s s' c a (apart-empty s is.slots) is.accesses h;
+  slots = step-slots s s' c a is.slots h;
+}
+
+-- and all the way
+pub run-stands : RunStands
+run-stands s s' cs bs is h =
+    each-within Steps IsStanding (λ c. Unit {0}) (λ t u c a _ was one. step-stands t u c a was one) s s' cs bs (λ k d within. tt) is (run-is-steps s s' cs bs h)
+
+pub standing-run-is-tidy : StandingRunIsTidy
+standing-run-is-tidy s s' cs bs is h =
+    each-seen (Within IsStanding Steps) (Within FreeIsEmpty Steps) (λ t. t) (λ t u c a (was, one, now). (standing-is-empty t was, one, standing-is-empty u now)) s s' cs bs
+    (run-stands s s' cs bs is h).0
+
+pub accesses-stay : AccessesStay
+accesses-stay s s' cs bs was h =
+    (each-within (Within FreeIsEmpty Steps) AccessesStand (λ c. Unit {0}) (λ t u c a _ so one. step-accesses t u c a one.0 so one.1) s s' cs bs (λ k d within. tt) was h).1

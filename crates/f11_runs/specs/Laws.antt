@@ -13,7 +13,7 @@ use Rattle.f11_store.specs.Step.{Step}
 use Rattle.f11_store.specs.Store.{Store, file_named}
 use Rattle.f11_runs.specs.Each.{Each, Steps, Within}
 use Rattle.f11_runs.specs.Locked.{IsLocked, IsReadOf, LocksHold, ends}
-use Rattle.f11_runs.specs.Standing.{HoldApart, IsStanding, IsTasks}
+use Rattle.f11_runs.specs.Standing.{AccessesStand, HoldApart, IsStanding, TidyRun, IsTasks}
 
 -- an empty list changes nothing
 abbrev pub EmptyChangesNothing : Type 0
@@ -80,6 +80,15 @@ UnaccessedStands = (s : Store) → HoldApart s → ((task lun : ℕ) → s.acces
 abbrev pub StandingIsEmpty : Type 0
 StandingIsEmpty = (s : Store) → IsStanding s → FreeIsEmpty s
 
+-- nor is one at any store on the way
+abbrev pub StandingRunIsTidy : Type 0
+StandingRunIsTidy = (s s' : Store) (calls : List Call) (answers : List Answer) → IsStanding s → Run s calls answers s' → TidyRun s calls answers s'
+
+-- and where that is so, accesses are to files that are there all the way
+abbrev pub AccessesStay : Type 0
+AccessesStay =
+    (s s' : Store) (calls : List Call) (answers : List Answer) → AccessesStand s → TidyRun s calls answers s' → AccessesStand s'
+
 -- an access in mode Locked that is answered Done locks the file as it is
 abbrev pub LockedBegins : Type 0
 LockedBegins =
@@ -90,8 +99,8 @@ LockedBegins =
 abbrev pub LockedStays : Type 0
 LockedStays =
     (s s' : Store) (task lun : ℕ) (id : FileId) (blocks : List (List ℕ)) (calls : List Call) (answers : List Answer) → task < 8 → lun < 4 →
-    IsStanding s → All IsTasks calls → All (λ c. ends task lun c ≡ false) calls →
-    IsLocked s task lun id blocks → Run s calls answers s' → IsLocked s' task lun id blocks
+    AccessesStand s → All IsTasks calls → All (λ c. ends task lun c ≡ false) calls →
+    IsLocked s task lun id blocks → TidyRun s calls answers s' → IsLocked s' task lun id blocks
 
 -- what is read of a file that is locked is what its blocks are, and EndOfFile exactly past them
 abbrev pub LockedIsRead : Type 0
@@ -105,17 +114,24 @@ EndIsServed =
     (s s' : Store) (task lun : ℕ) (id : FileId) (blocks : List (List ℕ)) (c : Call) (a : Answer) →
     IsLocked s task lun id blocks → ends task lun c ≡ true → Steps s c a s' → a.result ≡ Ok reply.Done
 
--- From a store that stands an access in mode Locked was answered Done, then calls of which none ends it, then a ReadBlock of a
+-- Where accesses stand an access in mode Locked was answered Done, then calls of which none ends it, then a ReadBlock of a
 -- VBN above 0 by its task and lun: it gives the block of the content as it was before the access, and EndOfFile exactly past it.
 abbrev pub LockedReadIs : Type 0
 LockedReadIs =
     (s t u v : Store) (access read : Call) (granted given : Answer) (between : List Call) (meanwhile : List Answer) (id : FileId) (lun vbn : ℕ) →
-    IsStanding s → IsTasks access → All IsTasks between → access.request ≡ request.Access id mode.Locked lun → granted.result ≡ Ok reply.Done →
+    FreeIsEmpty s → AccessesStand s → IsTasks access → All IsTasks between → access.request ≡ request.Access id mode.Locked lun → granted.result ≡ Ok reply.Done →
     All (λ c. ends access.task lun c ≡ false) between → read.task ≡ access.task → read.request ≡ request.ReadBlock lun vbn → 0 < vbn →
-    Steps s access granted t → Run t between meanwhile u → Steps u read given v →
+    Steps s access granted t → TidyRun t between meanwhile u → Steps u read given v →
     IsReadOf (file_named s id).blocks vbn given.result given.block
 
--- Whatever list is run from a store that stands: a read by a locked access gives the content as it was when the access was asked for.
+-- Whatever list is run, if accesses stand before it, and no file is ever in a slot that isn't in use: a read by a locked access
+-- gives the content as it was when the access was answered.
+abbrev pub TidyLocksHold : Type 0
+TidyLocksHold =
+    (s s' : Store) (calls : List Call) (answers : List Answer) →
+    All IsTasks calls → AccessesStand s → TidyRun s calls answers s' → LocksHold s calls answers s'
+
+-- So it is whatever list is run from a store that stands.
 abbrev pub RunLocksHold : Type 0
 RunLocksHold =
-    (s s' : Store) (calls : List Call) (answers : List Answer) → All IsTasks calls → IsStanding s → Run s calls answers s' → LocksHold s calls answers
+    (s s' : Store) (calls : List Call) (answers : List Answer) → All IsTasks calls → IsStanding s → Run s calls answers s' → LocksHold s calls answers s'

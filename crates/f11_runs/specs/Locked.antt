@@ -64,9 +64,11 @@ pub record ReadsLocked (calls : List Call) (answers : List Answer) : Type 0 wher
   pub reads : read.request ≡ request.ReadBlock lun vbn
   pub some : 0 < vbn
 
--- Each such read gives the block of the content as it was when the access was asked for, after the calls before it, and
--- EndOfFile exactly past its length, whatever all tasks asked between.
-abbrev pub LocksHold : Store → List Call → List Answer → Type 0
-LocksHold s calls answers =
+-- Each such read gives the block of the content as it was before the access was answered, and EndOfFile exactly past its
+-- length, whatever all tasks asked between: the store before it is one that the first calls lead to, and the others on from.
+abbrev pub LocksHold : Store → List Call → List Answer → Store → Type 0
+LocksHold s calls answers s' =
     (r : ReadsLocked calls answers) →
-    (before : Store) × (Run s r.before r.told before) × (IsReadOf (file_named before r.id).blocks r.vbn r.given.result r.given.block)
+    (before : Store) × (Run s r.before r.told before)
+    × (Run before (r.access ∷ (r.between ++ r.read ∷ r.after)) (r.granted ∷ (r.meanwhile ++ r.given ∷ r.rest)) s')
+    × (IsReadOf (file_named before r.id).blocks r.vbn r.given.result r.given.block)

@@ -2,11 +2,13 @@
 use Rattle.std.specs.Prelude.{◌≡◌, ◌≢◌, ℕ, ◌<◌, Bool, true, false, List, [], ◌∷◌, take, Option, Some, None}
 use Rattle.f11_store.specs.declared.requests.Request.{Request}
 use Rattle.f11_store.specs.declared.requests.Request.TheVariants as request
+use Rattle.f11_store.specs.Accesses.{FreeIsEmpty}
 use Rattle.f11_store.specs.Causes.{is_missing}
 use Rattle.f11_store.specs.Changes.{is_in}
 use Rattle.f11_store.specs.File.{File}
-use Rattle.f11_store.specs.Run.{Call}
+use Rattle.f11_store.specs.Run.{Call, Answer}
 use Rattle.f11_store.specs.Store.{Store, Access}
+use Rattle.f11_runs.specs.Each.{Each, Steps, Within}
 
 -- what is held is an access to a file that is missing
 abbrev pub is_lost : Store → Option Access → Bool
@@ -37,6 +39,10 @@ pub record HoldApart (s : Store) : Type 0 where
 pub record IsStanding (s : Store) : Type 0 where
   pub accesses : AccessesStand s
   pub slots : HoldApart s
+
+-- Calls were answered by steps, at each store of which no file is in a slot that isn't in use.
+abbrev pub TidyRun : Store → List Call → List Answer → Store → Type 0
+TidyRun s calls answers s' = Each (Within FreeIsEmpty Steps) s calls answers s'
 
 -- the lun of a request, where it has one
 abbrev pub lun_of : Request → ℕ

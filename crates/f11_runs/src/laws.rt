@@ -25,6 +25,8 @@ pub fn standing()
     ensures step { laws.StepStands }
     ensures run { laws.RunStands }
     ensures empty { laws.StandingIsEmpty }
+    ensures tidy { laws.StandingRunIsTidy }
+    ensures accesses { laws.AccessesStay }
 {}
 
 /// An access in mode Locked reads the content as it was when it was answered, until its task ends it,
@@ -35,5 +37,6 @@ pub fn locked()
     ensures read { laws.LockedIsRead }
     ensures ends { laws.EndIsServed }
     ensures between { laws.LockedReadIs }
+    ensures tidy { laws.TidyLocksHold }
     ensures run { laws.RunLocksHold }
 {}
