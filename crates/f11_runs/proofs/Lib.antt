@@ -6,3 +6,4 @@ pub mod LockedLemmas
 pub mod LockedSteps
 pub mod SlotLists
 pub mod StandingSteps
+mod WorkedLemmas

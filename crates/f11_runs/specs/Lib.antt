@@ -2,3 +2,4 @@ pub mod Each
 pub mod Laws
 pub mod Locked
 pub mod Standing
+pub mod Worked
