@@ -1,0 +1,5 @@
+pub mod Each
+pub mod Laws
+pub mod Locked
+pub mod Standing
+pub mod Worked
