@@ -8,7 +8,7 @@ use Rattle.std.proofs.lemmas.List.Elements.{All-append, All-replicate}
 use Rattle.std.specs.List.{slice_split, onto_first, slice_index}
 use Rattle.std.specs.Str.Lines.{lines, lines_of_parts, strip_carriage_return}
 use Rattle.std.proofs.lemmas.List.Splits.{slice_split_at, slice_split_none}
-use Rattle.f11_script.specs.Input.{bytes_left, HasByte, HasFirst, IsLine, TakesLine, TakesNone}
+use Rattle.f11_script.specs.Input.{bytes_left, HasFirst, IsLine, TakesLine, TakesNone}
 
 -- the byte at hand, and those behind it
 next_of_piece : (piece : List ℕ) (at end : ℕ) → at < end → end ≤ length piece →
@@ -22,11 +22,6 @@ pub byte_taken : (a : Option (List ℕ)) (piece : List ℕ) (at end : ℕ) (know
 byte_taken None piece at end known below within kept = tt
 byte_taken (Some xs) piece at end None below within kept = kept
 byte_taken (Some xs) piece at end (Some rest) below within kept = sym kept ∙ ap (λ t. t ++ rest) (next_of_piece piece at end below within)
-
-pub has_byte : (piece : List ℕ) (at end : ℕ) (known : Option (List ℕ)) → at < end → end ≤ length piece → HasByte (bytes_left piece at end known)
-has_byte piece at end None below within = tt
-has_byte piece at end (Some rest) below within =
-    rw (next_of_piece piece at end below within) (omega arith)
 
 -- the bytes of a line so far, and what is kept of them
 pub record Collected (old new : Option (List ℕ)) (count counted : ℕ) (line : List ℕ) : Type 0 where

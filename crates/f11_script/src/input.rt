@@ -57,7 +57,7 @@ pub struct ScriptReader<R> {
 }
 
 impl<R: Read> ScriptReader<R> {
-    ghost use Rattle.f11_script.specs.Input.{ReadsByte, ReadsLine, left_of, number_read, reader_of};
+    ghost use Rattle.f11_script.specs.Input.{ReadsByte, ReadsLine, at_hand, left_of, number_read, reader_of};
 
     /// A script from its beginning.
     pub fn new(reader: R) -> ScriptReader<R>
@@ -92,7 +92,7 @@ impl<R: Read> ScriptReader<R> {
     /// [`ScriptError::TooLong`] at byte 16,777,217. Each line before it was handed out.
     pub fn read_line(&mut self, line: &mut Line) -> Result<bool, ScriptError>
         ensures { ReadsLine (left_of R.remaining self.old) (left_of R.remaining self.new)
-            (number_read self.old) (number_read self.new) result line.new.items }
+            (number_read self.old) (number_read self.new) (at_hand self.new) result line.new.items }
     {
         line.clear();
         loop {
@@ -117,7 +117,7 @@ impl<R: Read> ScriptReader<R> {
     /// The next byte, and `None` at the end.
     fn next(&mut self) -> Result<Option<u8>, ScriptError>
         ensures next { ReadsByte (left_of R.remaining self.old) (left_of R.remaining self.new)
-            (number_read self.old) (number_read self.new) result }
+            (number_read self.old) (number_read self.new) (at_hand self.new) result }
     {
         self.refill()?;
         if self.at == self.end {
@@ -138,7 +138,7 @@ impl<R: Read> ScriptReader<R> {
             (λ _. Keeps (left_of R.remaining self.old)
             (left_of R.remaining self.new)
             × (self.new.at ≡ self.new.end → IsAtEnd (R.remaining self.new.reader)))
-            (λ e. (e ≡ ReadFault)
+            (λ e. (e ≡ ReadFault) × (self.new.at ≡ self.new.end)
             × Keeps (left_of R.remaining self.old)
             (left_of R.remaining self.new)) }
         ensures count { self.new.count ≡ self.old.count }
