@@ -22,9 +22,10 @@ HasFirst None new line = ⊤
 HasFirst (Some xs) None line = ⊥
 HasFirst (Some xs) (Some ys) line = lines xs ≡ line ∷ lines ys
 
--- The first line was read: its bytes, with its end, were counted, and no more than a script may have.
+-- The first line was read: its bytes, with its end, were counted, at least one and no more than a script may have.
 pub record TakesLine (old new : Option (List ℕ)) (count counted : ℕ) (given : List ℕ) : Type 0 where
   pub bytes : List ℕ
+  pub some : 0 < length bytes
   pub taken : Consumes old new bytes
   pub number : counted ≡ count + length bytes
   pub few : counted ≤ 16777216
@@ -81,6 +82,11 @@ abbrev pub ReadsLine : Option (List ℕ) → Option (List ℕ) → ℕ → ℕ �
 ReadsLine old new count counted hand (Ok true) given = TakesLine old new count counted given
 ReadsLine old new count counted hand (Ok false) given = TakesNone old new count counted given
 ReadsLine old new count counted hand (Err e) given = TakesNoLine old new count counted × IsReadError e counted hand
+
+-- a byte is known to be left
+abbrev pub HasByte : Option (List ℕ) → Type 0
+HasByte None = ⊤
+HasByte (Some xs) = 0 < length xs
 
 -- a line is read alike as it is handed out
 abbrev pub CutLineIsAlike : Type 0
