@@ -1,5 +1,5 @@
 -- Laws of scripts that are served.
-use Rattle.std.specs.Prelude.{◌≡◌, ℕ, ◌+◌, List, [], ◌∷◌, ◌++◌, length}
+use Rattle.std.specs.Prelude.{◌≡◌, ℕ, ◌+◌, ◌≤◌, Bool, true, List, [], ◌∷◌, ◌++◌, length}
 use Rattle.f11_store.specs.Run.{Call, Answer, Run}
 use Rattle.f11_store.specs.Step.{Step}
 use Rattle.f11_store.specs.Store.{Store}
@@ -20,9 +20,12 @@ CountIsOfRequests {V = V} S =
     (lines : List (List ℕ)) (old new : V) (block block' text : List ℕ) (count : ℕ) →
     ServesLines S lines old block text count new block' → count ≡ length (requests_in lines)
 
--- the plain store as a service
-abbrev pub steps : Service Store
-steps s call answer s' = Step s call.task call.caller call.request call.block answer.result s' answer.block
+-- calls are answered one after another, each as the service may
+abbrev pub Each : {V : Type 0} → Service V → V → List Call → List Answer → V → Type 0
+Each S old [] [] new = new ≡ old
+Each S old (call ∷ calls) (answer ∷ answers) new = (between : _) × S old call answer between × Each S between calls answers new
+Each S old [] (answer ∷ answers) new = ⊥
+Each S old (call ∷ calls) [] new = ⊥
 
 -- the calls of requests, the first with this block and each later one with the block of the answer before it
 abbrev pub calls_of : List Asked → List ℕ → List Answer → List Call
@@ -41,15 +44,39 @@ abbrev pub text_of : List (List ℕ) → List Answer → List ℕ
 text_of [] answers = []
 text_of (line ∷ rest) answers = text_with (saying_of line) answers (λ more. text_of rest more)
 
--- What a script asks was run, from one store to another, and its text has the answers.
-pub record RunsAll (lines : List (List ℕ)) (old new : Store) (block text : List ℕ) (count : ℕ) : Type 0 where
+-- The requests of a script have these answers: its text tells each, and so many are counted.
+pub record Tells (lines : List (List ℕ)) (block text : List ℕ) (count : ℕ) (Are : List Call → List Answer → Type 0) : Type 0 where
   pub answers : List Answer
-  pub runs : Run old (calls_of (requests_in lines) block answers) answers new
+  pub are : Are (calls_of (requests_in lines) block answers) answers
   pub text_is : text ≡ text_of lines answers
   pub count_is : count ≡ length answers
 
--- lines that are served by steps are a run of their requests
+-- lines that are served tell the answers to their requests, one after another
+abbrev pub RequestsAreAnswered : {V : Type 0} → Service V → Type 0
+RequestsAreAnswered {V = V} S =
+    (lines : List (List ℕ)) (old new : V) (block block' text : List ℕ) (count : ℕ) →
+    ServesLines S lines old block text count new block' → Tells lines block text count (λ calls answers. Each S old calls answers new)
+
+-- the plain store as a service
+abbrev pub steps : Service Store
+steps s call answer s' = Step s call.task call.caller call.request call.block answer.result s' answer.block
+
+-- lines that are served by steps tell a run
 abbrev pub StepsAreRun : Type 0
 StepsAreRun =
     (lines : List (List ℕ)) (old new : Store) (block block' text : List ℕ) (count : ℕ) →
-    ServesLines steps lines old block text count new block' → RunsAll lines old new block text count
+    ServesLines steps lines old block text count new block' → Tells lines block text count (λ calls answers. Run old calls answers new)
+
+-- A service makes steps, seen as a store, where it is sound and nothing fails: its failures are counted and never fall, and it stays sound.
+pub record MakesSteps {V : Type 0} (S : Service V) (view : V → Store) (failures : V → ℕ) (is_sound : V → Bool) : Type 0 where
+  pub rises : (v w : V) (call : Call) (answer : Answer) → S v call answer w → failures v ≤ failures w
+  pub step : (v w : V) (call : Call) (answer : Answer) → S v call answer w → is_sound v ≡ true → failures w ≡ failures v →
+      steps (view v) call answer (view w) × (is_sound w ≡ true)
+
+-- a sound service that makes steps tells a run where nothing failed from the first line to the last
+abbrev pub SoundIsRun : {V : Type 0} → Service V → Type 0
+SoundIsRun {V = V} S =
+    (view : V → Store) (failures : V → ℕ) (is_sound : V → Bool) → MakesSteps S view failures is_sound →
+    (lines : List (List ℕ)) (old new : V) (block block' text : List ℕ) (count : ℕ) →
+    ServesLines S lines old block text count new block' → is_sound old ≡ true → failures new ≡ failures old →
+    Tells lines block text count (λ calls answers. Run (view old) calls answers (view new))

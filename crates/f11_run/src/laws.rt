@@ -15,7 +15,15 @@ pub fn counts<S: Serves>()
     ensures { laws.CountIsOfRequests S.served }
 {}
 
-/// A script that is served by steps of the plain store is a run of its requests, and its text has the line of each answer.
-pub fn runs()
-    ensures { laws.StepsAreRun }
+/// The requests of a served script are answered one after another, each lent the block as the one before it left it, and the
+/// text has the line of each answer.
+pub fn answers<S: Serves>()
+    ensures { laws.RequestsAreAnswered S.served }
+{}
+
+/// A script that is served by steps of the plain store is a run of its requests; so is one of a service that makes such steps
+/// while nothing fails, where nothing failed.
+pub fn runs<S: Serves>()
+    ensures steps { laws.StepsAreRun }
+    ensures sound { laws.SoundIsRun S.served }
 {}
