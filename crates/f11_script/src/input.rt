@@ -41,6 +41,9 @@ fn read_some<R: Read>(reader: &mut R, piece: &mut [u8]) -> Result<usize, ScriptE
 pub type Line = ArrayVec<u8, 1202>;
 
 /// A script that is read line by line (profile). It is read in pieces of 4,096 bytes.
+///
+/// It owns its reader, and is dropped with it: a function over any reader asks for `R: Read + Drop`, lends a reader of which it
+/// knows `Read` alone by `&mut`, or is lent the script.
 #[derive(Drop)]
 pub struct ScriptReader<R> {
     reader: R,

@@ -1,0 +1,2 @@
+-- Lemmas of consumers.
+pub mod CountLemmas
