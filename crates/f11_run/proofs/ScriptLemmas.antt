@@ -10,7 +10,7 @@ use Rattle.f11_script.proofs.LineLemmas.{cut_line_is_alike}
 use Rattle.f11_script.specs.declared.errors.ScriptError.{ScriptError}
 use Rattle.f11_script.specs.declared.errors.ScriptError.TheVariants.{ReadFault, WriteFault, TooLong}
 use Rattle.f11_run.specs.Served.{Service, ServesLines, zeros}
-use Rattle.f11_run.specs.Serving.{IsRead, Finishes, StopsReading, StopsWriting, ServesScript, AnswersLine}
+use Rattle.f11_run.specs.Serving.{Place, Reads, Finishes, StopsReading, StopsWriting, ServesScript, AnswersLine}
 use Rattle.f11_run.proofs.ServedLemmas.{parts-are-served, one-alike}
 
 -- the lines that were read of these bytes, and what is left of them
@@ -39,39 +39,38 @@ read-more (Some xs) (Some ys) (Some zs) read n m given h t = (
 )
 
 read-all : (a b c : Option (List ℕ)) (read : List (List ℕ)) (n m : ℕ) (given : List ℕ) → ReadTo a b read n → TakesNone b c n m given →
-    IfSome a (λ xs. lines xs ≡ read)
+    IfSome a (λ xs. (lines xs ≡ read) × (c ≡ Some []))
 read-all None b c read n m given h t = tt
 read-all (Some xs) None c read n m given h t = absurd h
-read-all (Some xs) (Some ys) c read n m given h t = h.2 ∙ ap (λ r. read ++ lines r) t.at_end ∙ append-nil read
+read-all (Some xs) (Some ys) None read n m given h t = absurd t.kept
+read-all (Some xs) (Some ys) (Some zs) read n m given h t = (
+  h.2 ∙ ap (λ r. read ++ lines r) t.at_end ∙ append-nil read,
+  ap (λ r. Some r) (t.kept ∙ t.at_end),
+)
 
-read-part : (a b c : Option (List ℕ)) (read : List (List ℕ)) (n m : ℕ) (Left : List ℕ → Type 0) → ReadTo a b read n → TakesNoLine b c n m →
-    IfSome c Left → IfSome a (λ xs. IsRead xs read m Left)
-read-part None b c read n m Left h t l = tt
-read-part (Some xs) None c read n m Left h t l = absurd h
-read-part (Some xs) (Some ys) None read n m Left h t l = absurd t.taken
-read-part (Some xs) (Some ys) (Some zs) read n m Left h t l = record {
+read-part : (a b c : Option (List ℕ)) (read : List (List ℕ)) (n m : ℕ) → ReadTo a b read n → TakesNoLine b c n m → Reads a c read m
+read-part None b c read n m h t = tt
+read-part (Some xs) None c read n m h t = absurd h
+read-part (Some xs) (Some ys) None read n m h t = absurd t.taken
+read-part (Some xs) (Some ys) (Some zs) read n m h t = record {
   whole = h.0;
   part = t.bytes;
-  left = zs;
   bytes_are = h.1 ∙ ap (λ r. h.0 ++ r) t.taken;
   first = h.2 ∙ ap (λ r. read ++ lines r) t.taken;
   no_end = t.no_end;
-  number = omega (arith, h.3, t.number);
-  left_is = l;
+  count_is = omega (arith, h.3, t.number);
 }
 
-read-whole : (a b : Option (List ℕ)) (read : List (List ℕ)) (n : ℕ) → ReadTo a b read n → IfSome a (λ xs. IsRead xs read n (λ left. ⊤))
+read-whole : (a b : Option (List ℕ)) (read : List (List ℕ)) (n : ℕ) → ReadTo a b read n → Reads a b read n
 read-whole None b read n h = tt
 read-whole (Some xs) None read n h = absurd h
 read-whole (Some xs) (Some ys) read n h = record {
   whole = h.0;
   part = [];
-  left = ys;
   bytes_are = h.1;
   first = h.2;
   no_end = λ k d within. absurd (omega (arith, within));
-  number = omega (arith, h.3);
-  left_is = tt;
+  count_is = omega (arith, h.3);
 }
 
 -- the lines so far, from the beginning to where the script is now
@@ -115,49 +114,38 @@ so-far-more S a b c old v u block block' w0 w w' count n m given text number mor
       few = omega (arith, h.few, small, t.number, t.some);
     })
 
-pub so-far-ends : {V : Type 0} (S : Service V) (a b c : Option (List ℕ)) (old v : V) (block : List ℕ) (w0 w : Option (List ℕ))
-    (count n m : ℕ) (given : List ℕ) → SoFar S a b old v block w0 w count n → TakesNone b c n m given → Finishes S a old v w0 w count
-so-far-ends S a b c old v block w0 w count n m given h t = record {
+pub so-far-ends : {V : Type 0} (S : Service V) (a b : Option (List ℕ)) (place : Place) (old v : V) (block : List ℕ) (w0 w : Option (List ℕ))
+    (count n m : ℕ) (given : List ℕ) → SoFar S a b old v block w0 w count n → TakesNone b place.left n m given → Finishes S a place old v w0 w count
+so-far-ends S a b place old v block w0 w count n m given h t = record {
   read = h.read;
-  all = read-all a b c h.read n m given h.to t;
+  all = read-all a b place.left h.read n m given h.to t;
   answers = record { text = h.text; block = block; serves = h.serves; wrote = h.wrote };
 }
 
-so-far-stops : {V : Type 0} (S : Service V) (a b c : Option (List ℕ)) (old v : V) (block : List ℕ) (w0 w : Option (List ℕ))
-    (count n m : ℕ) (Left : ℕ → List ℕ → Type 0) → SoFar S a b old v block w0 w count n → TakesNoLine b c n m → IfSome c (Left m) →
-    StopsReading S a old v w0 w Left
-so-far-stops S a b c old v block w0 w count n m Left h t l = record {
+so-far-stops : {V : Type 0} (S : Service V) (a b : Option (List ℕ)) (place : Place) (old v : V) (block : List ℕ) (w0 w : Option (List ℕ))
+    (count n : ℕ) → SoFar S a b old v block w0 w count n → TakesNoLine b place.left n place.count → StopsReading S a place old v w0 w
+so-far-stops S a b place old v block w0 w count n h t = record {
   read = h.read;
-  taken = m;
+  reads = read-part a b place.left h.read n place.count h.to t;
   count = count;
-  before = read-part a b c h.read n m (Left m) h.to t l;
   answers = record { text = h.text; block = block; serves = h.serves; wrote = h.wrote };
 }
 
-any-left : (c : Option (List ℕ)) → IfSome c (λ zs. ⊤)
-any-left None = tt
-any-left (Some zs) = tt
+pub so-far-fails : {V : Type 0} (S : Service V) (a b : Option (List ℕ)) (place : Place) (old v : V) (block : List ℕ) (w0 w : Option (List ℕ))
+    (count n : ℕ) (e : ScriptError) → SoFar S a b old v block w0 w count n → TakesNoLine b place.left n place.count × IsReadError e place.count place.hand →
+    (0 < place.hand → HasByte place.left) → ServesScript S a place old v w0 w (Err e)
+so-far-fails S a b place old v block w0 w count n ReadFault h t has = (so-far-stops S a b place old v block w0 w count n h t.0, t.1)
+so-far-fails S a b place old v block w0 w count n TooLong h t has =
+    (so-far-stops S a b place old v block w0 w count n h t.0, t.1.0, t.1.1, has t.1.1)
+so-far-fails S a b place old v block w0 w count n WriteFault h t has = absurd t.1
 
-one-left : (c : Option (List ℕ)) (m : ℕ) → m ≡ 16777216 → HasByte c → IfSome c (λ zs. (m ≡ 16777216) × (0 < length zs))
-one-left None m full h = tt
-one-left (Some zs) m full h = (full, h)
-
-pub so-far-fails : {V : Type 0} (S : Service V) (a b c : Option (List ℕ)) (old v : V) (block : List ℕ) (w0 w : Option (List ℕ))
-    (count n m hand : ℕ) (e : ScriptError) → SoFar S a b old v block w0 w count n → TakesNoLine b c n m × IsReadError e m hand →
-    (0 < hand → HasByte c) → ServesScript S a old v w0 w (Err e)
-so-far-fails S a b c old v block w0 w count n m hand ReadFault h t has = so-far-stops S a b c old v block w0 w count n m (λ k left. ⊤) h t.0 (any-left c)
-so-far-fails S a b c old v block w0 w count n m hand TooLong h t has =
-    so-far-stops S a b c old v block w0 w count n m (λ k left. (k ≡ 16777216) × (0 < length left)) h t.0 (one-left c m t.1.0 (has t.1.1))
-so-far-fails S a b c old v block w0 w count n m hand WriteFault h t has = absurd t.1
-
-so-far-breaks : {V : Type 0} (S : Service V) (a b c : Option (List ℕ)) (old v u : V) (block block' : List ℕ) (w0 w w' : Option (List ℕ))
-    (count n m : ℕ) (given text : List ℕ) (number : ℕ) → SoFar S a b old v block w0 w count n → TakesLine b c n m given →
-    ServesLines S (given ∷ []) v block text number u block' → AppendsSome w w' text → StopsWriting S a old u w0 w'
-so-far-breaks S a b c old v u block block' w0 w w' count n m given text number h t serves wrote = record {
+so-far-breaks : {V : Type 0} (S : Service V) (a b : Option (List ℕ)) (place : Place) (old v u : V) (block block' : List ℕ) (w0 w w' : Option (List ℕ))
+    (count n : ℕ) (given text : List ℕ) (number : ℕ) → SoFar S a b old v block w0 w count n → TakesLine b place.left n place.count given →
+    ServesLines S (given ∷ []) v block text number u block' → AppendsSome w w' text → StopsWriting S a place old u w0 w'
+so-far-breaks S a b place old v u block block' w0 w w' count n given text number h t serves wrote = record {
   read = h.read;
   last = t.line;
-  taken = m;
-  before = read-whole a c (h.read ++ t.line ∷ []) m (read-more a b c h.read n m given h.to t);
+  reads = read-whole a place.left (h.read ++ t.line ∷ []) place.count (read-more a b place.left h.read n place.count given h.to t);
   count = count;
   between = v;
   block = block;
@@ -166,15 +154,15 @@ so-far-breaks S a b c old v u block block' w0 w w' count n m given text number h
   last_count = number;
   last_block = block';
   last_text = text;
-  serves_last = whole-line S b c n m given block block' text number v u t serves;
+  serves_last = whole-line S b place.left n place.count given block block' text number v u t serves;
   middle = w;
   wrote = h.wrote;
   wrote_last = wrote;
 }
 
-pub so-far-fault : {V : Type 0} (S : Service V) (a b c : Option (List ℕ)) (old v u : V) (block block' : List ℕ) (w0 w w' : Option (List ℕ))
-    (count n m : ℕ) (given : List ℕ) (e : ScriptError) → SoFar S a b old v block w0 w count n → TakesLine b c n m given →
-    AnswersLine S given v u block block' w w' (Err e) → ServesScript S a old u w0 w' (Err e)
-so-far-fault S a b c old v u block block' w0 w w' count n m given e h t x =
-    subst (λ (k : ScriptError). ServesScript S a old u w0 w' (Err k)) (sym x.4)
-    (so-far-breaks S a b c old v u block block' w0 w w' count n m given x.0 x.1 h t x.2 x.3)
+pub so-far-fault : {V : Type 0} (S : Service V) (a b : Option (List ℕ)) (place : Place) (old v u : V) (block block' : List ℕ) (w0 w w' : Option (List ℕ))
+    (count n : ℕ) (given : List ℕ) (e : ScriptError) → SoFar S a b old v block w0 w count n → TakesLine b place.left n place.count given →
+    AnswersLine S given v u block block' w w' (Err e) → ServesScript S a place old u w0 w' (Err e)
+so-far-fault S a b place old v u block block' w0 w w' count n given e h t x =
+    subst (λ (k : ScriptError). ServesScript S a place old u w0 w' (Err k)) (sym x.4)
+    (so-far-breaks S a b place old v u block block' w0 w w' count n given x.0 x.1 h t x.2 x.3)
