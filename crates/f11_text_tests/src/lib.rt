@@ -19,4 +19,6 @@ mod requests;
 #[cfg(test)]
 mod script;
 #[cfg(test)]
+mod serving;
+#[cfg(test)]
 mod texts;
