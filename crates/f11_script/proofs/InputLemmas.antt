@@ -1,7 +1,7 @@
 -- Bytes that are read piece by piece.
-use Rattle.std.proofs.Common.{◌≡◌, ◌≢◌, ◌⊎◌, inl, inr, All, ℕ, ◌+◌, ◌<◌, ◌≤◌, List, [], ◌∷◌, ◌++◌, length, take, drop, get_or, Option, Some, None, Bool, true, false, ◌==◌, ◌-◌, if◌then◌else◌, refl, sym, ◌∙◌, ap, subst, arith, add-one, drop-cons, length-append}
-use Rattle.std.specs.Io.KnownBytes.{Consumes, Keeps, IsAtEnd}
-use Rattle.std.proofs.KnownBytes.{Consumes-trans, Consumes-kept}
+use Rattle.std.proofs.Common.{◌≡◌, ◌≢◌, ◌⊎◌, inl, inr, All, ℕ, ◌+◌, ◌<◌, ◌≤◌, List, [], ◌∷◌, ◌++◌, length, take, drop, get_or, Option, Some, None, Bool, true, false, ◌==◌, ◌-◌, if◌then◌else◌, refl, sym, ◌∙◌, ap, subst, arith, add-one, drop-cons, length-append, length-drop}
+use Rattle.std.specs.Io.KnownBytes.{Consumes, Keeps, IsAtEnd, prepend_known}
+use Rattle.std.proofs.KnownBytes.{Consumes-trans, Consumes-kept, prepend_known-nil}
 use Rattle.std.proofs.lemmas.Bool.{cases_lt, ne_eqb}
 use Rattle.std.proofs.lemmas.List.{length-take-le, get_or-take, take_all, take-append-le, length-take, append-nil}
 use Rattle.std.proofs.lemmas.List.Elements.{All-append, All-replicate}
@@ -9,6 +9,11 @@ use Rattle.std.specs.List.{slice_split, onto_first, slice_index}
 use Rattle.std.specs.Str.Lines.{lines, lines_of_parts, strip_carriage_return}
 use Rattle.std.proofs.lemmas.List.Splits.{slice_split_at, slice_split_none}
 use Rattle.f11_script.specs.Input.{bytes_left, HasByte, HasFirst, IsLine, TakesLine, TakesNone}
+
+-- what has no element
+length-zero : (bytes : List ℕ) → length bytes ≡ 0 → bytes ≡ []
+length-zero [] e = refl
+length-zero (x ∷ xs) e = absurd (omega (arith, e))
 
 -- the byte at hand, and those behind it
 next_of_piece : (piece : List ℕ) (at end : ℕ) → at < end → end ≤ length piece →
@@ -23,10 +28,16 @@ byte_taken None piece at end known below within kept = tt
 byte_taken (Some xs) piece at end None below within kept = kept
 byte_taken (Some xs) piece at end (Some rest) below within kept = sym kept ∙ ap (λ t. t ++ rest) (next_of_piece piece at end below within)
 
-pub has_byte : (piece : List ℕ) (at end : ℕ) (known : Option (List ℕ)) → at < end → end ≤ length piece → HasByte (bytes_left piece at end known)
-has_byte piece at end None below within = tt
-has_byte piece at end (Some rest) below within =
-    rw (next_of_piece piece at end below within) (omega arith)
+-- with a byte at hand one is left, and with none at hand what is left is the reader's
+pub hand_has : (piece : List ℕ) (at end : ℕ) (known : Option (List ℕ)) → end ≤ length piece → 0 < end - at → HasByte (bytes_left piece at end known)
+hand_has piece at end None within some = tt
+hand_has piece at end (Some rest) within some = rw (next_of_piece piece at end (omega (arith, some)) within) (omega arith)
+
+pub hand_empty : (piece : List ℕ) (at end : ℕ) (known : Option (List ℕ)) → at ≤ end → end ≤ length piece → end - at ≡ 0 →
+    bytes_left piece at end known ≡ known
+hand_empty piece at end known in_piece within none =
+    ap (λ bs. prepend_known bs known) (length-zero (drop at (take end piece)) (omega (arith, none, length-drop at (take end piece), length-take-le end piece within)))
+    ∙ prepend_known-nil known
 
 -- the bytes of a line so far, and what is kept of them
 pub record Collected (old new : Option (List ℕ)) (count counted : ℕ) (line : List ℕ) : Type 0 where
@@ -136,6 +147,7 @@ pub collected_line : (a b c : Option (List ℕ)) (n m k : ℕ) (line given : Lis
     k ≡ m + 1 → k ≤ 16777216 → given ≡ strip_carriage_return line → TakesLine a c n k given
 collected_line a b c n m k line given h next counted few is = record {
   bytes = h.bytes ++ 10 ∷ [];
+  some = omega (arith, length-append h.bytes (10 ∷ []));
   taken = Consumes-trans a b c h.bytes (10 ∷ []) h.taken next;
   number = omega (arith, h.number, counted, length-append h.bytes (10 ∷ []));
   few = few;
@@ -162,6 +174,7 @@ collected_last a b c n m k line h end kept counted few some =
     let is_line = lines-last h.bytes some_bytes h.no_end in
     record {
       bytes = h.bytes;
+      some = some_bytes;
       taken = Consumes-kept a b c h.bytes h.taken kept;
       number = counted ∙ h.number;
       few = few;
@@ -170,11 +183,6 @@ collected_last a b c n m k line h end kept counted few some =
       first = first_of_last a b c h.bytes h.taken end kept is_line;
       handed_out = subst (λ (g : List ℕ). IsLine g h.bytes) (sym h.kept) (kept_last h.bytes);
     }
-
--- what has no element
-length-zero : (bytes : List ℕ) → length bytes ≡ 0 → bytes ≡ []
-length-zero [] e = refl
-length-zero (x ∷ xs) e = absurd (omega (arith, e))
 
 -- no line: nothing was read, and at the end the script stays as it is
 end_known : (a b : Option (List ℕ)) (bytes : List ℕ) → Consumes a b bytes → IsAtEnd b → bytes ≡ [] → IsAtEnd a

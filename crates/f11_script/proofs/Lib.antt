@@ -3,6 +3,7 @@ pub mod WordLemmas
 pub mod DigitLemmas
 pub mod AskLemmas
 pub mod LineLemmas
+pub mod AskingLemmas
 pub mod AnswerLemmas
 pub mod OutputLemmas
 pub mod PieceLemmas

@@ -1,5 +1,5 @@
 -- The lines of a script, read from a reader (profile).
-use Rattle.std.specs.Prelude.{◌≡◌, ◌≢◌, ℕ, ◌+◌, ◌<◌, ◌≤◌, ⊤, All, List, [], ◌∷◌, length, drop, take, Option, Some, None, Result, Ok, Err, Bool, true, false}
+use Rattle.std.specs.Prelude.{◌≡◌, ◌≢◌, ℕ, ◌+◌, ◌-◌, ◌<◌, ◌≤◌, ⊤, All, List, [], ◌∷◌, length, drop, take, Option, Some, None, Result, Ok, Err, Bool, true, false}
 use Rattle.std.specs.Io.KnownBytes.{prepend_known, Consumes, Keeps, IsAtEnd}
 use Rattle.std.specs.Str.Lines.{lines}
 use Rattle.f11_script.specs.Lines.{line_of}
@@ -22,9 +22,10 @@ HasFirst None new line = ⊤
 HasFirst (Some xs) None line = ⊥
 HasFirst (Some xs) (Some ys) line = lines xs ≡ line ∷ lines ys
 
--- The first line was read: its bytes, with its end, were counted, and no more than a script may have.
+-- The first line was read: its bytes, with its end, were counted, at least one and no more than a script may have.
 pub record TakesLine (old new : Option (List ℕ)) (count counted : ℕ) (given : List ℕ) : Type 0 where
   pub bytes : List ℕ
+  pub some : 0 < length bytes
   pub taken : Consumes old new bytes
   pub number : counted ≡ count + length bytes
   pub few : counted ≤ 16777216
@@ -47,22 +48,18 @@ pub record TakesNoLine (old new : Option (List ℕ)) (count counted : ℕ) : Typ
   pub no_end : All (λ c. c ≢ 10) bytes
   pub number : counted ≡ count + length bytes
 
--- a byte is known to be left
-abbrev pub HasByte : Option (List ℕ) → Type 0
-HasByte None = ⊤
-HasByte (Some xs) = 0 < length xs
-
--- what an error of reading says: the reader failed, or so many bytes were read and one more is there
-abbrev pub IsReadError : ScriptError → ℕ → Option (List ℕ) → Type 0
-IsReadError ReadFault count left = ⊤
-IsReadError TooLong count left = (count ≡ 16777216) × HasByte left
-IsReadError WriteFault count left = ⊥
+-- what an error of reading says, with so many bytes at hand: the reader failed, and each byte that it gave was read; or as many
+-- bytes were read as a script may have, and one more is at hand
+abbrev pub IsReadError : ScriptError → ℕ → ℕ → Type 0
+IsReadError ReadFault count hand = hand ≡ 0
+IsReadError TooLong count hand = (count ≡ 16777216) × (0 < hand)
+IsReadError WriteFault count hand = ⊥
 
 -- the next byte was read and counted, or none is left, or it failed and nothing was read
-abbrev pub ReadsByte : Option (List ℕ) → Option (List ℕ) → ℕ → ℕ → Result (Option ℕ) ScriptError → Type 0
-ReadsByte old new count counted (Ok None) = IsAtEnd old × (counted ≡ count) × Keeps old new
-ReadsByte old new count counted (Ok (Some byte)) = Consumes old new (byte ∷ []) × (counted ≡ count + 1)
-ReadsByte old new count counted (Err e) = Keeps old new × IsReadError e counted new × (counted ≡ count)
+abbrev pub ReadsByte : Option (List ℕ) → Option (List ℕ) → ℕ → ℕ → ℕ → Result (Option ℕ) ScriptError → Type 0
+ReadsByte old new count counted hand (Ok None) = IsAtEnd old × (counted ≡ count) × Keeps old new
+ReadsByte old new count counted hand (Ok (Some byte)) = Consumes old new (byte ∷ []) × (counted ≡ count + 1)
+ReadsByte old new count counted hand (Err e) = Keeps old new × IsReadError e counted hand × (counted ≡ count)
 
 -- a script's bytes that are still to be read, where the reader's are known
 abbrev pub left_of : {R : Type 0} → (R → Option (List ℕ)) → ScriptReader R → Option (List ℕ)
@@ -72,15 +69,24 @@ left_of remaining script = bytes_left script.piece script.at script.end (remaini
 abbrev pub reader_of : {R : Type 0} → ScriptReader R → R
 reader_of script = script.reader
 
+-- how many bytes are at hand: the reader gave them, and they are still to be read
+abbrev pub at_hand : {R : Type 0} → ScriptReader R → ℕ
+at_hand script = script.end - script.at
+
 -- the number of bytes that were read
 abbrev pub number_read : {R : Type 0} → ScriptReader R → ℕ
 number_read script = script.count
 
 -- what reading a line says: a line was read, no line is left, or it failed
-abbrev pub ReadsLine : Option (List ℕ) → Option (List ℕ) → ℕ → ℕ → Result Bool ScriptError → List ℕ → Type 0
-ReadsLine old new count counted (Ok true) given = TakesLine old new count counted given
-ReadsLine old new count counted (Ok false) given = TakesNone old new count counted given
-ReadsLine old new count counted (Err e) given = TakesNoLine old new count counted × IsReadError e counted new
+abbrev pub ReadsLine : Option (List ℕ) → Option (List ℕ) → ℕ → ℕ → ℕ → Result Bool ScriptError → List ℕ → Type 0
+ReadsLine old new count counted hand (Ok true) given = TakesLine old new count counted given
+ReadsLine old new count counted hand (Ok false) given = TakesNone old new count counted given
+ReadsLine old new count counted hand (Err e) given = TakesNoLine old new count counted × IsReadError e counted hand
+
+-- a byte is known to be left
+abbrev pub HasByte : Option (List ℕ) → Type 0
+HasByte None = ⊤
+HasByte (Some xs) = 0 < length xs
 
 -- a line is read alike as it is handed out
 abbrev pub CutLineIsAlike : Type 0

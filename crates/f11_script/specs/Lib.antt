@@ -5,6 +5,7 @@ pub mod Verbs
 pub mod Requests
 pub mod Input
 pub mod Lines
+pub mod Asking
 pub mod Pieces
 pub mod Answers
 pub mod Spelling

@@ -41,6 +41,9 @@ fn read_some<R: Read>(reader: &mut R, piece: &mut [u8]) -> Result<usize, ScriptE
 pub type Line = ArrayVec<u8, 1202>;
 
 /// A script that is read line by line (profile). It is read in pieces of 4,096 bytes.
+///
+/// It owns its reader, and is dropped with it: a function over any reader asks for `R: Read + Drop`, lends a reader of which it
+/// knows `Read` alone by `&mut`, or is lent the script.
 #[derive(Drop)]
 pub struct ScriptReader<R> {
     reader: R,
@@ -57,7 +60,7 @@ pub struct ScriptReader<R> {
 }
 
 impl<R: Read> ScriptReader<R> {
-    ghost use Rattle.f11_script.specs.Input.{ReadsByte, ReadsLine, left_of, number_read, reader_of};
+    ghost use Rattle.f11_script.specs.Input.{ReadsByte, ReadsLine, at_hand, left_of, number_read, reader_of};
 
     /// A script from its beginning.
     pub fn new(reader: R) -> ScriptReader<R>
@@ -92,7 +95,7 @@ impl<R: Read> ScriptReader<R> {
     /// [`ScriptError::TooLong`] at byte 16,777,217. Each line before it was handed out.
     pub fn read_line(&mut self, line: &mut Line) -> Result<bool, ScriptError>
         ensures { ReadsLine (left_of R.remaining self.old) (left_of R.remaining self.new)
-            (number_read self.old) (number_read self.new) result line.new.items }
+            (number_read self.old) (number_read self.new) (at_hand self.new) result line.new.items }
     {
         line.clear();
         loop {
@@ -117,7 +120,7 @@ impl<R: Read> ScriptReader<R> {
     /// The next byte, and `None` at the end.
     fn next(&mut self) -> Result<Option<u8>, ScriptError>
         ensures next { ReadsByte (left_of R.remaining self.old) (left_of R.remaining self.new)
-            (number_read self.old) (number_read self.new) result }
+            (number_read self.old) (number_read self.new) (at_hand self.new) result }
     {
         self.refill()?;
         if self.at == self.end {
@@ -138,7 +141,7 @@ impl<R: Read> ScriptReader<R> {
             (λ _. Keeps (left_of R.remaining self.old)
             (left_of R.remaining self.new)
             × (self.new.at ≡ self.new.end → IsAtEnd (R.remaining self.new.reader)))
-            (λ e. (e ≡ ReadFault)
+            (λ e. (e ≡ ReadFault) × (self.new.at ≡ self.new.end)
             × Keeps (left_of R.remaining self.old)
             (left_of R.remaining self.new)) }
         ensures count { self.new.count ≡ self.old.count }

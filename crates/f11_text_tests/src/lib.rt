@@ -5,6 +5,10 @@
 #![tactic(auto)]
 
 #[cfg(test)]
+mod counting;
+#[cfg(test)]
+mod faults;
+#[cfg(test)]
 mod lines;
 #[cfg(test)]
 mod longest;
@@ -14,5 +18,7 @@ mod names;
 mod requests;
 #[cfg(test)]
 mod script;
+#[cfg(test)]
+mod serving;
 #[cfg(test)]
 mod texts;

@@ -351,6 +351,7 @@ fn interrupts_have_an_end(rt: HostRuntime) -> Result<(), Fail> {
     let mut writer = slow_of([0; 160], 3);
     bad_line(&mut writer)?;
     assert_eq!(rt; &writer.inner.get_ref()[..10], b"bad line\n\0".as_slice());
+    assert_eq!(rt; bad_line(&mut slow_of([0; 160], 65536)), Ok(()));
     assert_eq!(rt;
         bad_line(&mut slow_of([0; 160], 65537)),
         Err(ScriptError::WriteFault)

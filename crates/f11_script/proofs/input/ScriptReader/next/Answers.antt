@@ -1,5 +1,5 @@
 use Rattle.std.proofs.Common.{arith}
-use Rattle.f11_script.proofs.InputLemmas.{byte_taken, has_byte}
+use Rattle.f11_script.proofs.InputLemmas.{byte_taken}
 use Rattle.f11_script.proofs.input.ScriptReader.next.Goals as goal
 
 pub returns-then-self-eq-LIMIT : goal.returns-then-self-eq-LIMIT
@@ -8,7 +8,7 @@ returns-then-self-eq-LIMIT g c =
     record {
       next = (
         c.in_ok-refill.ensures.filled.0,
-        (omega (arith, c.if-self-eq-LIMIT.true), has_byte s.piece s.at s.end _ (omega (arith, s.in_piece, c.if-self.false)) s.whole),
+        (omega (arith, c.if-self-eq-LIMIT.true), omega (arith, s.in_piece, c.if-self.false)),
         c.in_ok-refill.ensures.count,
       );
     }

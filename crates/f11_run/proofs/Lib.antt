@@ -1,0 +1,4 @@
+-- Lemmas of scripts that are served.
+pub mod ServedLemmas
+pub mod RunLemmas
+pub mod ScriptLemmas

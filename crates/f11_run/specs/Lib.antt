@@ -1,0 +1,4 @@
+-- The definitions of scripts that are served.
+pub mod Served
+pub mod Serving
+pub mod Laws

@@ -1,0 +1,3 @@
+-- Lemmas of consumers.
+pub mod CountLemmas
+pub mod ServedLemmas
