@@ -1,9 +1,11 @@
-//! Requests on devices that fail, or that lie.
-use crate::asks::{Ask, Row, first_wrong, mounted};
-use f11_dev::{FailOnce, Liar};
+//! Requests on devices that fail, stop, or lie.
+use crate::asks::{
+    Ask, MASTER, Row, SIX, Words, X, attributes, first_wrong, full_directory, mounted,
+};
+use f11_dev::{DeviceFault, FailOnce, Fuse, Liar, Memory};
 use f11_fcp::Failed;
-use f11_fixtures::{SYSTEM, volumes};
-use f11_store::{FileId, Mode, Refusal, Reply};
+use f11_fixtures::{SYSTEM, are_found, volumes};
+use f11_store::{Attr, FileId, Mode, Refusal, Reply};
 use f11_vfy::{Report, verify};
 use std::alloc::Global;
 use std::test::Fail;
@@ -19,7 +21,7 @@ const MADE: FileId = FileId {
 };
 
 /// Each request, as it is answered once one has failed the volume.
-const LATER: [Row; 13] = [
+const LATER: [Row; 16] = [
     (1, SYSTEM, Ask::Create, Err(Refusal::VolumeFailed)),
     (
         0,
@@ -42,6 +44,19 @@ const LATER: [Row; 13] = [
         Ask::Protect(FIRST, 0),
         Err(Refusal::VolumeFailed),
     ),
+    (4, SYSTEM, Ask::Find(SIX, X), Err(Refusal::VolumeFailed)),
+    (
+        5,
+        SYSTEM,
+        Ask::Enter(MASTER, X, SIX),
+        Err(Refusal::VolumeFailed),
+    ),
+    (
+        6,
+        SYSTEM,
+        Ask::Remove(MASTER, X),
+        Err(Refusal::VolumeFailed),
+    ),
     (7, SYSTEM, Ask::Space, Err(Refusal::VolumeFailed)),
 ];
 
@@ -62,12 +77,16 @@ const EXTENDED: [Row; 1] = [(0, SYSTEM, Ask::Extend(0, 1), Ok(Reply::Length(1)))
 /// A transfer of that fails.
 const BROKEN: [Row; 1] = [(0, SYSTEM, Ask::Extend(0, 1), Err(Refusal::DeviceFault))];
 
-/// A volume on a device of which one transfer fails, counted from the first that is made here: whether the requests before it are served, it
-/// and all later ones answered so, and the volume accepted then.
-fn fails_once(alloc: Global, transfer: u64, lands: bool) -> Result<bool, Fail> {
-    let device = FailOnce::new(volumes::fresh(alloc, 400)?, transfer, lands);
+/// A volume on a device of which one transfer fails: whether the requests before it are served, it and all later ones answered so, and the
+/// volume accepted then.
+fn fails_once(
+    alloc: Global,
+    device: FailOnce<Memory>,
+    begun: &[Row],
+    broken: &[Row],
+) -> Result<bool, Fail> {
     let mut volume = mounted(alloc, device)?;
-    for rows in [BEGUN.as_slice(), &BROKEN, &LATER] {
+    for rows in [begun, broken, &LATER] {
         if first_wrong(&mut volume, rows).is_some() {
             return Ok(false);
         }
@@ -94,10 +113,125 @@ fn a_transfer_of_extending_fails(rt: HostRuntime) -> Result<(), Fail> {
     assert_eq!(rt; extended, begun.saturating_add(6));
     for transfer in begun..extended {
         for lands in [false, true] {
-            let is_right = fails_once(rt.alloc(), transfer.saturating_add(1), lands)?;
+            let device = volumes::fresh(rt.alloc(), 400)?;
+            let device = FailOnce::new(device, transfer.saturating_add(1), lands);
+            let is_right = fails_once(rt.alloc(), device, &BEGUN, &BROKEN)?;
             assert!(rt; is_right, "{transfer}");
         }
     }
+    Ok(())
+}
+
+/// N.TXT;34 is entered into a directory whose block is full of records.
+const N34: Words = [22400, 0, 0, 32980, 0o34];
+
+const ENTERED: [Row; 1] = [(0, SYSTEM, Ask::Enter(MASTER, N34, SIX), Ok(Reply::Done))];
+
+/// A transfer of that fails.
+const NOT_ENTERED: [Row; 1] = [(
+    0,
+    SYSTEM,
+    Ask::Enter(MASTER, N34, SIX),
+    Err(Refusal::DeviceFault),
+)];
+
+/// It isn't found, and the end is that of 32 records.
+const ABSENT: [Row; 2] = [
+    (0, SYSTEM, Ask::Find(MASTER, N34), Err(Refusal::NoSuchEntry)),
+    (0, SYSTEM, Ask::ReadEnd((4, 4), (1, 2, 0)), Ok(Reply::Done)),
+];
+
+/// How many transfers a full directory's volume has when it is mounted, and when a record was entered then.
+fn transfers_of_entering(alloc: Global) -> Result<(u64, u64), Fail> {
+    let device = full_directory(alloc)?;
+    let made = device.transfers();
+    let mut volume = mounted(alloc, device)?;
+    let begun = volume.lent().transfers().saturating_sub(made);
+    if first_wrong(&mut volume, &ENTERED).is_some() {
+        return Err(DeviceFault)?;
+    }
+    let entered = volume.lent().transfers().saturating_sub(made);
+    Ok((begun, entered))
+}
+
+#[test]
+fn a_transfer_of_entering_fails(rt: HostRuntime) -> Result<(), Fail> {
+    let (begun, entered) = transfers_of_entering(rt.alloc())?;
+    for transfer in begun..entered {
+        for lands in [false, true] {
+            let device = full_directory(rt.alloc())?;
+            let device = FailOnce::new(device, transfer.saturating_add(1), lands);
+            let is_right = fails_once(rt.alloc(), device, &[], &NOT_ENTERED)?;
+            assert!(rt; is_right, "{transfer}");
+        }
+    }
+    Ok(())
+}
+
+/// What the header of the master file directory says where it has 33 records.
+fn thirty_three() -> Attr {
+    let mut ident = [0; 46];
+    ident[0..10].copy_from_slice(&[0x4e, 0xc0, 0x4e, 0xc0, 0, 0, 0x7a, 0x1a, 1, 0]);
+    Attr {
+        owner: SYSTEM,
+        protection: 0o160000,
+        characteristics: 0,
+        ident,
+        attr: attributes(1, 16, (2, 2, 16)),
+    }
+}
+
+/// A volume on a device that stops while a record is entered: whether it is accepted then with these notes, or else with none, and these rows are
+/// right on it.
+fn stops(
+    alloc: Global,
+    device: Fuse<Memory>,
+    notes: &[(u8, u32, u32)],
+    rows: &[Row],
+) -> Result<bool, Fail> {
+    let mut volume = mounted(alloc, device)?;
+    let _ = first_wrong(&mut volume, &ENTERED);
+    let device = match volume.dismount() {
+        Ok(accepted) => accepted.device().into_inner(),
+        Err(Failed(device)) => device.into_inner(),
+    };
+    let Ok(Report::Accepted(accepted, found)) = verify(alloc, device) else {
+        return Ok(false);
+    };
+    if !are_found(&found, notes) && !are_found(&found, &[]) {
+        return Ok(false);
+    }
+    let mut volume = mounted(alloc, accepted.device())?;
+    Ok(first_wrong(&mut volume, rows).is_none())
+}
+
+#[test]
+fn interrupted_enter(rt: HostRuntime) -> Result<(), Fail> {
+    let (begun, entered) = transfers_of_entering(rt.alloc())?;
+    // five of them write: the bitmap, zeros, the header, the record, and the header again
+    assert!(rt; entered >= begun.saturating_add(5));
+    for transfer in begun..entered {
+        let device = Fuse::new(full_directory(rt.alloc())?, transfer);
+        let is_right = stops(rt.alloc(), device, &[(1, 22, 22)], &ABSENT)?;
+        assert!(rt; is_right, "{transfer}");
+    }
+    let space = Reply::Space {
+        free: 377,
+        headers: 10,
+        slots: 16,
+    };
+    let rows: [Row; 3] = [
+        (0, SYSTEM, Ask::Find(MASTER, N34), Ok(Reply::Found(MADE))),
+        (
+            0,
+            SYSTEM,
+            Ask::ReadAttr((4, 4)),
+            Ok(Reply::Attr(thirty_three())),
+        ),
+        (0, SYSTEM, Ask::Space, Ok(space)),
+    ];
+    let device = Fuse::new(full_directory(rt.alloc())?, entered);
+    assert!(rt; stops(rt.alloc(), device, &[], &rows)?);
     Ok(())
 }
 

@@ -7,6 +7,10 @@
 #[cfg(test)]
 mod asks;
 #[cfg(test)]
+mod directories;
+#[cfg(test)]
 mod failures;
+#[cfg(test)]
+mod refusals;
 #[cfg(test)]
 mod requests;
