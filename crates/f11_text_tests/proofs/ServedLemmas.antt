@@ -3,9 +3,9 @@ use Rattle.std.proofs.Common.{◌≡◌, ℕ, List, length, Result, Ok, Err, IfO
 use Rattle.std.specs.Str.Lines.{lines}
 use Rattle.f11_script.specs.Asking.{requests_in}
 use Rattle.f11_script.specs.declared.errors.ScriptError.{ScriptError}
-use Rattle.f11_run.specs.Served.{Service, zeros}
-use Rattle.f11_run.specs.Serving.{Finishes, Place, RunsScript}
-use Rattle.f11_run.proofs.ServedLemmas.{count-is-of-requests}
+use Rattle.f11_serving.specs.Served.{Service, zeros}
+use Rattle.f11_serving.specs.Serving.{Finishes, Place, RunsScript}
+use Rattle.f11_serving.proofs.ServedLemmas.{count-is-of-requests}
 
 finished : {V : Type 0} (S : Service V) (bytes : Option (List ℕ)) (place : Place) (v w : V) (written written' : Option (List ℕ)) (n : ℕ) →
     Finishes S bytes place v w written written' n → IfSome bytes (λ xs. n ≡ length (requests_in (lines xs)))

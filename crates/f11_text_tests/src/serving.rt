@@ -4,8 +4,8 @@ ghost use Rattle.std.specs.Str.Lines.{lines};
 ghost use Rattle.f11_script.specs.Asking.{requests_in};
 
 use f11_bytes::Block;
-use f11_run::{Serves, laws, run_lines, serve_lines};
 use f11_script::{ScriptError, ScriptReader};
+use f11_serving::{Serves, laws, run_lines, serve_lines};
 use f11_store::{Refusal, Reply, Request, Task, Uic};
 use std::io::{self, Cursor, ErrorKind, Read, Write};
 use std::test::Fail;

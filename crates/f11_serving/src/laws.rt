@@ -1,7 +1,7 @@
 //! Laws of scripts that are served, each the contract of a function that does nothing: they show that the definitions say
 //! what is meant.
 
-ghost use Rattle.f11_run.specs.Laws as laws;
+ghost use Rattle.f11_serving.specs.Laws as laws;
 
 use crate::serves::Serves;
 

@@ -5,8 +5,8 @@ use Rattle.f11_script.specs.Answers.{answer_line, bad_line_text}
 use Rattle.f11_script.specs.Lines.{Line, no_request, bad_line, request_line, line_of}
 use Rattle.f11_script.specs.Asking.{Saying, nothing, badly, says, saying_of, asked_by, line_with, requests_in}
 use Rattle.f11_script.proofs.AskingLemmas.{line_asks_alone}
-use Rattle.f11_run.specs.Served.{Service, Behind, ServesLine, IsEnd, ServesLines}
-use Rattle.f11_run.specs.Laws.{PartsAreServed, CountIsOfRequests}
+use Rattle.f11_serving.specs.Served.{Service, Behind, ServesLine, IsEnd, ServesLines}
+use Rattle.f11_serving.specs.Laws.{PartsAreServed, CountIsOfRequests}
 
 -- a line, with more behind what was behind it
 line-more : {V : Type 0} (S : Service V) (l : Line) (old : V) (block text more : List ℕ) (count others : ℕ) (P Q : Behind V) →

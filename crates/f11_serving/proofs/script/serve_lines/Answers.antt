@@ -1,8 +1,8 @@
 use Rattle.std.proofs.Common.{refl, arith}
 use Rattle.f11_script.proofs.InputLemmas.{hand_has}
-use Rattle.f11_run.specs.Serving.{place_of}
-use Rattle.f11_run.proofs.ScriptLemmas.{so-far-none, so-far-more, so-far-ends, so-far-fails, so-far-fault}
-use Rattle.f11_run.proofs.script.serve_lines.Goals as goal
+use Rattle.f11_serving.specs.Serving.{place_of}
+use Rattle.f11_serving.proofs.ScriptLemmas.{so-far-none, so-far-more, so-far-ends, so-far-fails, so-far-fault}
+use Rattle.f11_serving.proofs.script.serve_lines.Goals as goal
 
 pub loop-error-init : goal.loop-error-init
 loop-error-init g c = so-far-none _ _ _ _ _ _ refl c.requires.begins

@@ -1,7 +1,7 @@
 use Rattle.std.proofs.Common.{◌-◌}
 use Rattle.f11_script.specs.Input.{left_of, number_read}
-use Rattle.f11_run.proofs.ScriptLemmas.{SoFar}
-use Rattle.f11_run.proofs.script.serve_lines.Given as goal
+use Rattle.f11_serving.proofs.ScriptLemmas.{SoFar}
+use Rattle.f11_serving.proofs.script.serve_lines.Given as goal
 
 abbrev pub invariant-loop-error : goal.invariant-loop-error
 invariant-loop-error g l =

@@ -1,11 +1,11 @@
 -- Laws of scripts that are served.
 use Rattle.std.specs.Prelude.{◌≡◌, ℕ, ◌+◌, ◌≤◌, Bool, true, List, [], ◌∷◌, ◌++◌, length}
 use Rattle.f11_store.specs.Run.{Call, Answer, Run}
-use Rattle.f11_store.specs.Step.{Step}
 use Rattle.f11_store.specs.Store.{Store}
+use Rattle.f11_runs.specs.Each.{Each, Steps}
 use Rattle.f11_script.specs.Answers.{answer_line, bad_line_text}
 use Rattle.f11_script.specs.Asking.{Asked, Saying, nothing, badly, says, saying_of, called, requests_in}
-use Rattle.f11_run.specs.Served.{Service, ServesLines}
+use Rattle.f11_serving.specs.Served.{Service, ServesLines}
 
 -- lines are served, and others behind them: then all of them are, with both texts, and the requests of both
 abbrev pub PartsAreServed : {V : Type 0} → Service V → Type 0
@@ -19,13 +19,6 @@ abbrev pub CountIsOfRequests : {V : Type 0} → Service V → Type 0
 CountIsOfRequests {V = V} S =
     (lines : List (List ℕ)) (old new : V) (block block' text : List ℕ) (count : ℕ) →
     ServesLines S lines old block text count new block' → count ≡ length (requests_in lines)
-
--- calls are answered one after another, each as the service may
-abbrev pub Each : {V : Type 0} → Service V → V → List Call → List Answer → V → Type 0
-Each S old [] [] new = new ≡ old
-Each S old (call ∷ calls) (answer ∷ answers) new = (between : _) × S old call answer between × Each S between calls answers new
-Each S old [] (answer ∷ answers) new = ⊥
-Each S old (call ∷ calls) [] new = ⊥
 
 -- the calls of requests, the first with this block and each later one with the block of the answer before it
 abbrev pub calls_of : List Asked → List ℕ → List Answer → List Call
@@ -57,21 +50,17 @@ RequestsAreAnswered {V = V} S =
     (lines : List (List ℕ)) (old new : V) (block block' text : List ℕ) (count : ℕ) →
     ServesLines S lines old block text count new block' → Tells lines block text count (λ calls answers. Each S old calls answers new)
 
--- the plain store as a service
-abbrev pub steps : Service Store
-steps s call answer s' = Step s call.task call.caller call.request call.block answer.result s' answer.block
-
 -- lines that are served by steps tell a run
 abbrev pub StepsAreRun : Type 0
 StepsAreRun =
     (lines : List (List ℕ)) (old new : Store) (block block' text : List ℕ) (count : ℕ) →
-    ServesLines steps lines old block text count new block' → Tells lines block text count (λ calls answers. Run old calls answers new)
+    ServesLines Steps lines old block text count new block' → Tells lines block text count (λ calls answers. Run old calls answers new)
 
 -- A service makes steps, seen as a store, where it is sound and nothing fails: its failures are counted and never fall, and it stays sound.
 pub record MakesSteps {V : Type 0} (S : Service V) (view : V → Store) (failures : V → ℕ) (is_sound : V → Bool) : Type 0 where
   pub rises : (v w : V) (call : Call) (answer : Answer) → S v call answer w → failures v ≤ failures w
   pub step : (v w : V) (call : Call) (answer : Answer) → S v call answer w → is_sound v ≡ true → failures w ≡ failures v →
-      steps (view v) call answer (view w) × (is_sound w ≡ true)
+      Steps (view v) call answer (view w) × (is_sound w ≡ true)
 
 -- a sound service that makes steps tells a run where nothing failed from the first line to the last
 abbrev pub SoundIsRun : {V : Type 0} → Service V → Type 0

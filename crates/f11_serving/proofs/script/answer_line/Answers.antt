@@ -1,6 +1,6 @@
-use Rattle.f11_run.specs.Served.{call_with, answer_with}
-use Rattle.f11_run.proofs.ServedLemmas.{one-request}
-use Rattle.f11_run.proofs.script.answer_line.Goals as goal
+use Rattle.f11_serving.specs.Served.{call_with, answer_with}
+use Rattle.f11_serving.proofs.ServedLemmas.{one-request}
+use Rattle.f11_serving.proofs.script.answer_line.Goals as goal
 
 pub returns-in-Ok-reply : goal.returns-in-Ok-reply
 returns-in-Ok-reply g c =

@@ -1,6 +1,6 @@
 use Rattle.std.proofs.Common.{List, ℕ, Option, subst}
-use Rattle.f11_run.specs.Serving.{ServesScript, place_of}
-use Rattle.f11_run.proofs.script.run_lines.Goals as goal
+use Rattle.f11_serving.specs.Serving.{ServesScript, place_of}
+use Rattle.f11_serving.proofs.script.run_lines.Goals as goal
 
 pub returns : goal.returns
 returns g c = record {

@@ -9,9 +9,9 @@ use Rattle.f11_script.specs.Input.{TakesLine, TakesNone, TakesNoLine, IsReadErro
 use Rattle.f11_script.proofs.LineLemmas.{cut_line_is_alike}
 use Rattle.f11_script.specs.declared.errors.ScriptError.{ScriptError}
 use Rattle.f11_script.specs.declared.errors.ScriptError.TheVariants.{ReadFault, WriteFault, TooLong}
-use Rattle.f11_run.specs.Served.{Service, ServesLines, zeros}
-use Rattle.f11_run.specs.Serving.{Place, Reads, Finishes, StopsReading, StopsWriting, ServesScript, AnswersLine}
-use Rattle.f11_run.proofs.ServedLemmas.{parts-are-served, one-alike}
+use Rattle.f11_serving.specs.Served.{Service, ServesLines, zeros}
+use Rattle.f11_serving.specs.Serving.{Place, Reads, Finishes, StopsReading, StopsWriting, ServesScript, AnswersLine}
+use Rattle.f11_serving.proofs.ServedLemmas.{parts-are-served, one-alike}
 
 -- the lines that were read of these bytes, and what is left of them
 abbrev pub ReadTo : Option (List ℕ) → Option (List ℕ) → List (List ℕ) → ℕ → Type 0

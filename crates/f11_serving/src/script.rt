@@ -2,7 +2,7 @@
 
 ghost use Rattle.std.specs.Prelude.{◌≡◌};
 ghost use Rattle.f11_script.specs.Input.{left_of, number_read};
-ghost use Rattle.f11_run.specs.Serving.{AnswersLine, RunsScript, ServesScript, place_of};
+ghost use Rattle.f11_serving.specs.Serving.{AnswersLine, RunsScript, ServesScript, place_of};
 
 use crate::serves::Serves;
 use f11_bytes::Block;

@@ -7,7 +7,7 @@ use Rattle.f11_script.specs.Input.{HasByte, at_hand, left_of, number_read}
 use Rattle.f11_script.specs.declared.errors.ScriptError.{ScriptError}
 use Rattle.f11_script.specs.declared.errors.ScriptError.TheVariants.{ReadFault, WriteFault, TooLong}
 use Rattle.f11_script.specs.declared.input.ScriptReader.{ScriptReader}
-use Rattle.f11_run.specs.Served.{Service, ServesLines, zeros}
+use Rattle.f11_serving.specs.Served.{Service, ServesLines, zeros}
 
 -- The first lines of these bytes were read, and behind them some bytes without a line feed: so many bytes in all, and the others are left.
 pub record AreRead (bytes left : List ℕ) (read : List (List ℕ)) (count : ℕ) : Type 0 where

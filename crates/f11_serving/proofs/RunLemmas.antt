@@ -1,13 +1,15 @@
 -- What lines that are served tell: answers one after another, and a run where they are steps of the plain store.
 use Rattle.std.proofs.Common.{◌≡◌, ℕ, ◌≤◌, Bool, true, List, [], ◌∷◌, ◌++◌, length, sym, ◌∙◌, ap, subst, arith}
-use Rattle.f11_store.specs.Run.{Call, Answer, Run}
+use Rattle.f11_store.specs.Run.{Call, Answer}
 use Rattle.f11_store.specs.Store.{Store}
 use Rattle.f11_script.specs.Answers.{answer_line, bad_line_text}
 use Rattle.f11_script.specs.Lines.{Line, no_request, bad_line, request_line, line_of}
 use Rattle.f11_script.specs.Asking.{Saying, nothing, badly, says, saying_of, asked_by, line_with, requests_in}
 use Rattle.f11_script.proofs.AskingLemmas.{line_asks_alone}
-use Rattle.f11_run.specs.Served.{Service, Behind, ServesLine, ServesLines}
-use Rattle.f11_run.specs.Laws.{Each, steps, calls_of, text_with, text_of, Tells, RequestsAreAnswered, StepsAreRun, MakesSteps, SoundIsRun}
+use Rattle.f11_serving.specs.Served.{Service, Behind, ServesLine, ServesLines}
+use Rattle.f11_runs.specs.Each.{Each, Steps}
+use Rattle.f11_runs.proofs.EachLaws.{steps-are-run as each-is-run}
+use Rattle.f11_serving.specs.Laws.{calls_of, text_with, text_of, Tells, RequestsAreAnswered, StepsAreRun, MakesSteps, SoundIsRun}
 
 -- a line, and what is behind it
 pub record TellsFrom {V : Type 0} (S : Service V) (l : Saying) (rest : List (List ℕ)) (old new : V) (block text : List ℕ) (count : ℕ) : Type 0 where
@@ -42,16 +44,9 @@ requests-are-answered S (line ∷ rest) old new block block' text count h =
     (subst (λ (l : Line). ServesLine S l old block text count P) (line_asks_alone line block) h) in
     record { answers = r.answers; are = r.each; text_is = r.text_is; count_is = r.count_is }
 
--- steps one after another are a run
-each-is-run : (old new : Store) (calls : List Call) (answers : List Answer) → Each steps old calls answers new → Run old calls answers new
-each-is-run old new [] [] h = h
-each-is-run old new [] (a ∷ answers) h = absurd h
-each-is-run old new (c ∷ calls) [] h = absurd h
-each-is-run old new (c ∷ calls) (a ∷ answers) h = (h.0, h.1, each-is-run h.0 new calls answers h.2)
-
 pub steps-are-run : StepsAreRun
 steps-are-run lines old new block block' text count h =
-    let r = requests-are-answered steps lines old new block block' text count h in
+    let r = requests-are-answered Steps lines old new block block' text count h in
     record { answers = r.answers; are = each-is-run old new _ r.answers r.are; text_is = r.text_is; count_is = r.count_is }
 
 -- what each request keeps is kept by all
@@ -77,7 +72,7 @@ line-steps : {V : Type 0} (S : Service V) (view : V → Store) (failures : V →
     (l : Line) (old new : V) (block text : List ℕ) (count : ℕ) (P : Behind V) (Q : Behind Store) → is_sound old ≡ true → failures new ≡ failures old →
     ((v : V) (b t : List ℕ) (k : ℕ) → P v b t k → failures v ≤ failures new) →
     ((v : V) (b t : List ℕ) (k : ℕ) → P v b t k → is_sound v ≡ true → failures new ≡ failures v → Q (view v) b t k) →
-    ServesLine S l old block text count P → ServesLine steps l (view old) block text count Q
+    ServesLine S l old block text count P → ServesLine Steps l (view old) block text count Q
 line-steps S view failures is_sound m no_request old new block text count P Q sound none most behind h = behind old block text count h sound none
 line-steps S view failures is_sound m bad_line old new block text count P Q sound none most behind h =
     (h.0, h.1, behind old block h.0 count h.2 sound none)
@@ -99,11 +94,11 @@ line-steps S view failures is_sound m (request_line call) old new block text cou
 
 lines-step : {V : Type 0} (S : Service V) (view : V → Store) (failures : V → ℕ) (is_sound : V → Bool) → MakesSteps S view failures is_sound →
     (lines : List (List ℕ)) (old new : V) (block block' text : List ℕ) (count : ℕ) → ServesLines S lines old block text count new block' →
-    is_sound old ≡ true → failures new ≡ failures old → ServesLines steps lines (view old) block text count (view new) block'
+    is_sound old ≡ true → failures new ≡ failures old → ServesLines Steps lines (view old) block text count (view new) block'
 lines-step S view failures is_sound m [] old new block block' text count h sound none = (ap view h.0, h.1, h.2, h.3)
 lines-step S view failures is_sound m (line ∷ rest) old new block block' text count h sound none =
     line-steps S view failures is_sound m (line_of line block) old new block text count (λ v b t k. ServesLines S rest v b t k new block')
-    (λ s b t k. ServesLines steps rest s b t k (view new) block') sound none
+    (λ s b t k. ServesLines Steps rest s b t k (view new) block') sound none
     (λ v b t k p. lines-keep S (λ x y. failures x ≤ failures y) (λ x. omega arith) (λ x y z p q. omega (arith, p, q)) m.rises rest v new b block' t k p)
     (λ v b t k p. lines-step S view failures is_sound m rest v new b block' t k p) h
 

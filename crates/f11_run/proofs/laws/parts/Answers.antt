@@ -1,5 +1,0 @@
-use Rattle.f11_run.proofs.ServedLemmas.{parts-are-served}
-use Rattle.f11_run.proofs.laws.parts.Goals as goal
-
-pub returns : goal.returns
-returns g c = parts-are-served g.S.Serves.served

@@ -1,5 +1,0 @@
-use Rattle.f11_run.proofs.RunLemmas.{steps-are-run, sound-is-run}
-use Rattle.f11_run.proofs.laws.runs.Goals as goal
-
-pub returns : goal.returns
-returns g c = record { steps = steps-are-run; sound = sound-is-run g.S.Serves.served }
