@@ -8,5 +8,6 @@ pub mod Output
 pub mod Report
 pub mod Rights
 pub mod RtList
+pub mod RunCommand
 pub mod RtVolume
 pub mod VfyCommand

@@ -3,7 +3,7 @@
 //! A command's contract says which lines it writes and what it answers; it knows nothing of files, words or terminals. The
 //! program opens the files and calls them, and so can whatever else wants their lines. The crate stands on [`f11_dev`], for
 //! devices, on [`f11_home`], for home blocks, on [`f11_header`] and [`f11_map`], for file headers, on [`f11_rad50`], for
-//! names, and on [`f11_store`], for rights.
+//! names, on [`f11_store`], for rights, and on [`f11_fcp`] and [`f11_serving`], for scripts.
 #![tactic(auto)]
 
 mod dump;
@@ -17,6 +17,7 @@ mod rights;
 mod rt_init;
 mod rt_list;
 mod rt_vfy;
+mod run;
 mod vfy;
 mod volume;
 mod volume_dump;
@@ -31,6 +32,7 @@ pub use rights::print_rights;
 pub use rt_init::print_rt_init;
 pub use rt_list::print_rt_list;
 pub use rt_vfy::print_rt_vfy;
+pub use run::{RunFailure, print_run};
 pub use vfy::print_vfy;
 pub use volume::VolumeFault;
 pub use volume_dump::print_header;

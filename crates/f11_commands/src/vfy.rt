@@ -61,7 +61,7 @@ fn write_accepted<W: Write>(
 }
 
 /// Writes the lines of an image with faults.
-fn write_faulty<W: Write>(
+pub(crate) fn write_faulty<W: Write>(
     writer: &mut W,
     faults: &Findings,
     notes: &Findings,

@@ -11,6 +11,7 @@ mod FindLemmas
 mod GrowIndexLemmas
 mod HandleLemmas
 mod KnownLemmas
+pub mod ListLemmas
 mod LookLemmas
 mod MarkLemmas
 mod NamedLemmas

@@ -42,7 +42,9 @@ impl<D: Device> Volume<D> {
     ///
     /// # Errors
     ///
-    /// `VolumeFailed` where an earlier request answered `DeviceFault` or `Damaged`; else the first refusal whose cause holds.
+    /// `VolumeFailed` where an earlier request answered `DeviceFault` or `Damaged`; else the first refusal whose cause holds;
+    /// `NoMemory` for `GrowIndex` where there is none; `DeviceFault` where a transfer failed, and `Damaged` where a device that
+    /// isn't honest gave what no accepted volume has.
     pub fn serve(
         &mut self,
         task: Task,

@@ -3,8 +3,8 @@
 use f11_bytes::{Block, word_bytes};
 use f11_dev::{Device, DeviceFault, Memory};
 use f11_dir::put_words;
-use f11_fcp::Volume;
-use f11_fixtures::{SEVENS, SYSTEM, ZEROS, are_found, file, volumes};
+use f11_fcp::{Call, Volume};
+use f11_fixtures::{SEVENS, SYSTEM, ZEROS, file, get, volumes};
 use f11_rad50::Name;
 use f11_store::{Change, FileId, Lun, Mode, Refusal, Reply, Request, Task, Uic};
 use f11_vfy::{Report, verify};
@@ -239,6 +239,67 @@ pub fn first_wrong<D: Device>(volume: &mut Volume<D>, rows: &[Row]) -> Option<us
     None
 }
 
+impl Ask {
+    /// It as a call of a list.
+    fn call(&self, task: u8, caller: Uic) -> Option<Call> {
+        Some(Call {
+            task: Task::new(task)?,
+            uic: caller,
+            request: self.request()?,
+            block: self.lent(),
+            answer: None,
+        })
+    }
+
+    /// Whether a call of a list has this answer, and a block as it should be.
+    fn is_answered(&self, call: &Call, answer: Result<Reply, Refusal>) -> bool {
+        let wanted = if answer.is_ok() {
+            self.wanted()
+        } else {
+            self.lent()
+        };
+        match call.answer {
+            Some(told) => call.block == wanted && self.told(told) == answer,
+            None => false,
+        }
+    }
+}
+
+/// Asks what rows say as one list, and gives the first row that isn't so.
+pub fn first_wrong_in_list<D: Device>(
+    alloc: Global,
+    volume: &mut Volume<D>,
+    rows: &[Row],
+) -> Result<Option<usize>, Fail> {
+    let mut calls = Vec::new(alloc);
+    for (task, caller, ask, _) in rows {
+        if let Some(call) = ask.call(*task, *caller) {
+            calls.push(call)?;
+        }
+    }
+    volume.run(calls.as_mut_slice());
+    for (i, (_, _, ask, answer)) in rows.iter().enumerate() {
+        match calls.get(i) {
+            Some(call) if ask.is_answered(call, *answer) => {}
+            _ => return Ok(Some(i)),
+        }
+    }
+    Ok(None)
+}
+
+/// Whether two devices have the same blocks.
+pub fn are_alike(mut one: Memory, mut other: Memory) -> Result<bool, Fail> {
+    if one.blocks() != other.blocks() {
+        return Ok(false);
+    }
+    for lbn in 0..one.blocks() {
+        if get(&mut one, lbn)? != get(&mut other, lbn)? {
+            return Ok(false);
+        }
+    }
+    Ok(true)
+}
+
 /// Mounts the volume of a device.
 pub fn mounted<D: Device + Drop>(alloc: Global, device: D) -> Result<Volume<D>, Fail> {
     let Ok(Report::Accepted(accepted, _)) = verify(alloc, device) else {
@@ -258,21 +319,6 @@ pub fn dismounted<D: Device + Drop>(alloc: Global, volume: Volume<D>) -> Result<
     match verify(alloc, accepted.device()) {
         Ok(Report::Accepted(accepted, _)) => Ok(accepted.device()),
         _ => Err(DeviceFault)?,
-    }
-}
-
-/// Whether a volume that no request has failed is accepted with these notes, each a code and two numbers.
-pub fn has_notes<D: Device + Drop>(
-    alloc: Global,
-    volume: Volume<D>,
-    notes: &[(u8, u32, u32)],
-) -> bool {
-    let Ok(accepted) = volume.dismount() else {
-        return false;
-    };
-    match verify(alloc, accepted.device()) {
-        Ok(Report::Accepted(_, found)) => are_found(&found, notes),
-        _ => false,
     }
 }
 

@@ -1,7 +1,7 @@
 //! Directories that tasks look through and change, on honest devices.
 use crate::asks::{
     Ask, FullId, MASTER, Records, Row, SIX, USER, Words, X, dismounted, first_wrong,
-    full_directory, has_notes, mounted,
+    full_directory, mounted,
 };
 use f11_dev::{Device, Memory};
 use f11_fcp::Volume;
@@ -27,8 +27,6 @@ const N1: Words = [22400, 0, 0, 32980, 1];
 
 const N34: Words = [22400, 0, 0, 32980, 0o34];
 
-const USER_DIRECTORY: Words = [52430, 49231, 0, 6778, 1];
-
 /// The name of each record of a block of sevens.
 const SEVENS_NAME: Words = [0x707; 5];
 
@@ -53,9 +51,6 @@ const X_ELSEWHERE: [u16; 8] = [99, 7, 3, 38400, 0, 0, 32980, 1];
 
 /// An empty one whose other words stayed.
 const X_OF_NONE: [u16; 8] = [0, 1, 0, 38400, 0, 0, 32980, 1];
-
-/// One whose words are those of no name.
-const NO_NAME: [u16; 8] = [7, 1, 0, 65535, 0, 0, 32980, 1];
 
 /// What is answered.
 pub type Answer = Result<Reply, Refusal>;
@@ -122,42 +117,6 @@ pub const MADE_SIX: Answer = Ok(Reply::Created(FILE_SIX));
 pub const MADE_SEVEN: Answer = Ok(Reply::Created(FILE_SEVEN));
 
 pub const MADE_EIGHT: Answer = Ok(Reply::Created(FILE_EIGHT));
-
-const TWO_RECORDS: Records = [X_OF_SEVEN, Y_OF_EIGHT, EMPTY];
-
-const ODD_RECORDS: Records = [X_OF_SEVEN, Y_OF_EIGHT, NO_NAME];
-
-/// A directory with a file that is gone, a record without a name, and an end past the allocation.
-const ODD: [Row; 19] = [
-    (0, SYSTEM, Ask::CreateDirectory, MADE_SIX),
-    (0, SYSTEM, Ask::Enter(MASTER, USER_DIRECTORY, SIX), DONE),
-    (0, SYSTEM, Ask::Create, MADE_SEVEN),
-    (0, SYSTEM, Ask::Create, MADE_EIGHT),
-    (0, SYSTEM, Ask::Enter(SIX, X, SEVEN), DONE),
-    (0, SYSTEM, Ask::Enter(SIX, Y, EIGHT), DONE),
-    (0, SYSTEM, Ask::Delete((8, 1)), DONE),
-    (0, SYSTEM, Ask::Access((6, 1), Mode::Write, 0), DONE),
-    (0, SYSTEM, Ask::ReadRecords(0, 1, TWO_RECORDS), DONE),
-    (0, SYSTEM, Ask::WriteRecords(0, 1, ODD_RECORDS), DONE),
-    (0, SYSTEM, Ask::Deaccess(0), DONE),
-    (0, SYSTEM, Ask::SetEnd((6, 1), (9, 9, 0)), DONE),
-    (0, SYSTEM, Ask::Find(SIX, X), FOUND_SEVEN),
-    (0, SYSTEM, Ask::Find(SIX, Y), FOUND_EIGHT),
-    (0, SYSTEM, Ask::Find(SIX, Z), NO_ENTRY),
-    (0, SYSTEM, Ask::Enter(SIX, X, SEVEN), TWICE),
-    (0, SYSTEM, Ask::Remove(SIX, Z), NO_ENTRY),
-    (0, SYSTEM, Ask::Find(SEVEN, X), NO_DIRECTORY),
-    (0, SYSTEM, Ask::Find(MASTER, USER_DIRECTORY), FOUND_SIX),
-];
-
-#[test]
-fn odd_directory(rt: HostRuntime) -> Result<(), Fail> {
-    let mut volume = mounted(rt.alloc(), volumes::fresh(rt.alloc(), 400)?)?;
-    assert_eq!(rt; first_wrong(&mut volume, &ODD), None);
-    // record 1 names no file, and record 2 has no name
-    assert!(rt; has_notes(rt.alloc(), volume, &[(7, 6, 1), (9, 6, 2)]));
-    Ok(())
-}
 
 /// An end in a record counts for the records before it, and one past the allocation for the allocation.
 const ENDS: [Row; 40] = [

@@ -11,6 +11,6 @@ mod directories;
 #[cfg(test)]
 mod failures;
 #[cfg(test)]
-mod refusals;
+mod lists;
 #[cfg(test)]
-mod requests;
+mod refusals;

@@ -5,8 +5,8 @@ use Rattle.clap.specs.Lexer.{strip_byte}
 use Rattle.clap.specs.Words.{Text, subcommand_of, takes}
 use Rattle.clap.proofs.OnLiterals.{clap_on_literals}
 use Rattle.f11_pip.specs.Commands.{MeetsRtInit, program_app}
-use Rattle.f11_pip.specs.Words.{CommandLine, dump_line, home_line, is_option, name_line, rights_line, rt_init_line, rt_list_line, rt_vfy_line, texts_of, vfy_line, words_of}
-use Rattle.f11_pip.proofs.WordsLemmas.{takes-dump, takes-home, takes-name, takes-rights, takes-rt_list, takes-rt_vfy, takes-vfy}
+use Rattle.f11_pip.specs.Words.{CommandLine, dump_line, home_line, is_option, name_line, rights_line, rt_init_line, rt_list_line, rt_vfy_line, run_line, texts_of, vfy_line, words_of}
+use Rattle.f11_pip.proofs.WordsLemmas.{takes-dump, takes-home, takes-name, takes-rights, takes-rt_list, takes-rt_vfy, takes-run, takes-vfy}
 
 -- a word that is no option begins with no hyphen, and isn't two of them
 pub no_hyphens : (word : Text) → is_option word ≡ false → strip_byte 45 word ≡ None
@@ -37,4 +37,5 @@ takes-line (rights_line caller owner word) program plain = takes-rights program 
 takes-line (rt_init_line blocks segments image) program plain = takes-rt_init program blocks segments image (plain 0 [] (omega arith)) (plain 1 [] (omega arith)) (plain 2 [] (omega arith))
 takes-line (rt_list_line image) program plain = takes-rt_list program image (plain 0 [] (omega arith))
 takes-line (rt_vfy_line image) program plain = takes-rt_vfy program image (plain 0 [] (omega arith))
+takes-line (run_line image script) program plain = takes-run program image script (plain 0 [] (omega arith)) (plain 1 [] (omega arith))
 takes-line (vfy_line image) program plain = takes-vfy program image (plain 0 [] (omega arith))

@@ -9,7 +9,7 @@ use Rattle.f11_pip.specs.declared.outcome.Failure.{Failure}
 use Rattle.f11_pip.specs.declared.outcome.Failure.TheVariants.{NoMemory}
 use Rattle.f11_pip.specs.Outcome.{failure_of_kind}
 use Rattle.f11_store.specs.declared.callers.Uic.{Uic}
-use Rattle.f11_pip.specs.Commands.{MeetsDump, MeetsRights, command_and_word, command_and_words, program_app, words_in}
+use Rattle.f11_pip.specs.Commands.{MeetsDump, MeetsRights, MeetsRun, command_and_word, command_and_words, program_app, words_in}
 use Rattle.f11_pip.specs.Octal.{SpellsUic}
 use Rattle.f11_pip.specs.Words.{IsNoUic, is_option}
 
@@ -111,6 +111,22 @@ subcommand_of-dump program [] [] p q = (refl, refl)
 subcommand_of-dump program [] (b ∷ ys) p q = (rw (q, q) refl, rw (q, q) refl)
 subcommand_of-dump program (a ∷ xs) [] p q = (rw (p, p) refl, rw (p, p) refl)
 subcommand_of-dump program (a ∷ xs) (b ∷ ys) p q = (rw (p, p, q, q) refl, rw (p, p, q, q) refl)
+
+pub takes-run : (program image script : Text) → is_option image ≡ false → is_option script ≡ false
+    → takes program_app (program ∷ codes "run" ∷ image ∷ script ∷ []) ≡ true
+unfolding clap_on_literals
+takes-run program [] [] p q = refl
+takes-run program [] (b ∷ ys) p q = rw (q, q) refl
+takes-run program (a ∷ xs) [] p q = rw (p, p) refl
+takes-run program (a ∷ xs) (b ∷ ys) p q = rw (p, p, q, q) refl
+
+pub subcommand_of-run : (program image script : Text) → is_option image ≡ false → is_option script ≡ false
+    → MeetsRun image script (subcommand_of program_app (program ∷ codes "run" ∷ image ∷ script ∷ []))
+unfolding clap_on_literals
+subcommand_of-run program [] [] p q = (refl, refl)
+subcommand_of-run program [] (b ∷ ys) p q = (rw (q, q) refl, rw (q, q) refl)
+subcommand_of-run program (a ∷ xs) [] p q = (rw (p, p) refl, rw (p, p) refl)
+subcommand_of-run program (a ∷ xs) (b ∷ ys) p q = (rw (p, p, q, q) refl, rw (p, p, q, q) refl)
 
 pub subcommand_of-none : {X : Type 0} (text : X → Text) (words : List X) → length words ≤ 1 → subcommand_of program_app (map text words) ≡ None
 unfolding clap_on_literals

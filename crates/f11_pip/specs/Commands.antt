@@ -25,6 +25,10 @@ rights_app = with_rule (with_rule (with_rule (new_app (codes "rights")) (needed_
 abbrev pub dump_app : App
 dump_app = with_rule (with_rule (new_app (codes "dump")) (needed_rule (codes "image"))) (needed_rule (codes "number"))
 
+-- `run IMAGE SCRIPT`
+abbrev pub run_app : App
+run_app = with_rule (with_rule (new_app (codes "run")) (needed_rule (codes "image"))) (needed_rule (codes "script"))
+
 -- `vfy IMAGE`
 abbrev pub vfy_app : App
 vfy_app = with_rule (new_app (codes "vfy")) (needed_rule (codes "image"))
@@ -57,8 +61,8 @@ rt_vfy_app = with_rule (new_app (codes "rt-vfy")) (needed_rule (codes "image"))
 
 -- the commands on Files-11 volumes
 abbrev pub files_app : App
-files_app = with_subcommand (with_subcommand (with_subcommand (with_subcommand (with_subcommand (with_subcommand (new_app (codes "f11_pip")) home_app.top) name_app.top)
-    rights_app.top) dump_app.top) vfy_app.top) init_app.top
+files_app = with_subcommand (with_subcommand (with_subcommand (with_subcommand (with_subcommand (with_subcommand (with_subcommand (new_app (codes "f11_pip")) home_app.top)
+    name_app.top) rights_app.top) dump_app.top) vfy_app.top) init_app.top) run_app.top
 
 -- and those on RT-11 volumes
 abbrev pub program_app : App
@@ -80,6 +84,10 @@ MeetsRights caller owner word met = MeetsWord (codes "rights") (codes "uic") cal
 -- `dump` was met, with these two words
 abbrev pub MeetsDump : Text → Text → Option (Text × List Row) → Type 0
 MeetsDump image number met = MeetsWord (codes "dump") (codes "image") image met × MeetsWord (codes "dump") (codes "number") number met
+
+-- `run` was met, with these two words
+abbrev pub MeetsRun : Text → Text → Option (Text × List Row) → Type 0
+MeetsRun image script met = MeetsWord (codes "run") (codes "image") image met × MeetsWord (codes "run") (codes "script") script met
 
 -- the first words of these names, where there are such
 abbrev pub words_in : List Text → List Row → List (Option Text)
@@ -116,6 +124,10 @@ HasRightsWords caller owner word given = HasWord (codes "uic") caller given × H
 -- `dump` has these two words
 abbrev pub HasDumpWords : Text → Text → ArgMatches → Type 0
 HasDumpWords image number given = HasWord (codes "image") image given × HasWord (codes "number") number given
+
+-- `run` has these two words
+abbrev pub HasRunWords : Text → Text → ArgMatches → Type 0
+HasRunWords image script given = HasWord (codes "image") image given × HasWord (codes "script") script given
 
 -- `init` has these words, the greatest number of files among them or not
 pub record HasInitWords (blocks slots label : Text) (max : Option Text) (image : Text) (given : ArgMatches) : Type 0 where

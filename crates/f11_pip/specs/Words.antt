@@ -6,7 +6,7 @@ use Rattle.f11_pip.specs.Octal.{IsProtection, SpellsProtection, SpellsUic}
 use Rattle.f11_pip.specs.declared.outcome.Failure.{Failure}
 use Rattle.f11_pip.specs.declared.outcome.Failure.TheVariants.{NoMemory}
 use Rattle.f11_pip.specs.declared.words.Words.{Words}
-use Rattle.f11_pip.specs.declared.words.Words.TheVariants.{Dump, Home, Init, Name, Rights, RtInit, RtList, RtVfy, Vfy}
+use Rattle.f11_pip.specs.declared.words.Words.TheVariants.{Dump, Home, Init, Name, Rights, RtInit, RtList, RtVfy, Run, Vfy}
 
 -- a word that begins with a hyphen (45) is an option
 abbrev pub is_option : List ℕ → Bool
@@ -22,6 +22,7 @@ pub data CommandLine : Type 0 where
   rt_init_line : (blocks segments image : List ℕ) → CommandLine
   rt_list_line : (image : List ℕ) → CommandLine
   rt_vfy_line : (image : List ℕ) → CommandLine
+  run_line : (image script : List ℕ) → CommandLine
   vfy_line : (image : List ℕ) → CommandLine
 
 -- the words of a command line behind the program's name, in the order of the usage text
@@ -33,6 +34,7 @@ words_of (rights_line caller owner word) = codes "rights" ∷ caller ∷ owner �
 words_of (rt_init_line blocks segments image) = codes "rt-init" ∷ codes "--blocks" ∷ blocks ∷ codes "--segments" ∷ segments ∷ image ∷ []
 words_of (rt_list_line image) = codes "rt-list" ∷ image ∷ []
 words_of (rt_vfy_line image) = codes "rt-vfy" ∷ image ∷ []
+words_of (run_line image script) = codes "run" ∷ image ∷ script ∷ []
 words_of (vfy_line image) = codes "vfy" ∷ image ∷ []
 
 -- those of its words that no rule names
@@ -44,6 +46,7 @@ texts_of (rights_line caller owner word) = caller ∷ owner ∷ word ∷ []
 texts_of (rt_init_line blocks segments image) = blocks ∷ segments ∷ image ∷ []
 texts_of (rt_list_line image) = image ∷ []
 texts_of (rt_vfy_line image) = image ∷ []
+texts_of (run_line image script) = image ∷ script ∷ []
 texts_of (vfy_line image) = image ∷ []
 
 -- A line of words is that of a command: the program's name stands before its words, none of whose texts is an option.
@@ -61,6 +64,11 @@ AsksDump name text _ = ⊥
 abbrev pub AsksHome : List ℕ → Words → Type 0
 AsksHome name (Home image) = image.now ≡ name
 AsksHome name _ = ⊥
+
+-- the words ask that this script be served on this image
+abbrev pub AsksRun : List ℕ → List ℕ → Words → Type 0
+AsksRun name text (Run image script) = (image.now ≡ name) × (script.now ≡ text)
+AsksRun name text _ = ⊥
 
 -- the words ask that this image be verified
 abbrev pub AsksVfy : List ℕ → Words → Type 0
@@ -112,6 +120,7 @@ Asks (rights_line caller owner word) words = AsksRights caller owner word words
 Asks (rt_init_line blocks segments image) words = AsksRtInit blocks segments image words
 Asks (rt_list_line image) words = AsksRtList image words
 Asks (rt_vfy_line image) words = AsksRtVfy image words
+Asks (run_line image script) words = AsksRun image script words
 Asks (vfy_line image) words = AsksVfy image words
 
 -- a text spells no user's code
@@ -136,6 +145,7 @@ IsUnreadable (rights_line caller owner word) = IsNoUic caller ⊎ (IsNoUic owner
 IsUnreadable (rt_init_line blocks segments image) = ¬ IsNumber blocks ⊎ ¬ IsNumber segments
 IsUnreadable (rt_list_line image) = ⊥
 IsUnreadable (rt_vfy_line image) = ⊥
+IsUnreadable (run_line image script) = ⊥
 IsUnreadable (vfy_line image) = ⊥
 
 -- memory ran out, or one of its texts isn't as it has to be

@@ -8,7 +8,7 @@ struct Synopsis {
     does: &'static str,
 }
 
-const COMMANDS: [Synopsis; 9] = [
+const COMMANDS: [Synopsis; 10] = [
     Synopsis {
         name: "dump",
         words: "f11_pip dump IMAGE NUMBER",
@@ -48,6 +48,11 @@ const COMMANDS: [Synopsis; 9] = [
         name: "rt-vfy",
         words: "f11_pip rt-vfy IMAGE",
         does: "verifies an RT-11 volume: each fault and note, and whether it is accepted",
+    },
+    Synopsis {
+        name: "run",
+        words: "f11_pip run IMAGE SCRIPT",
+        does: "serves the requests of a script on a Files-11 volume, which is verified first",
     },
     Synopsis {
         name: "vfy",

@@ -13,7 +13,7 @@ mod words;
 
 use f11_commands::{
     Answer, print_header, print_home, print_init, print_name, print_rights, print_rt_init,
-    print_rt_list, print_rt_vfy, print_vfy, refuse_init,
+    print_rt_list, print_rt_vfy, print_run, print_vfy, refuse_init,
 };
 use f11_dev::FileImage;
 use f11_store::Uic;
@@ -146,6 +146,12 @@ fn run<W: Write>(rt: &HostRuntime, words: Words<'_>, writer: &mut W) -> Result<A
         Words::RtVfy { image } => {
             let device = FileImage::open_to_read(rt, image)?;
             let (_, answer) = print_rt_vfy(rt.alloc(), device, writer);
+            answer?
+        }
+        Words::Run { image, script } => {
+            let device = FileImage::open(rt, image)?;
+            let script = File::open(rt, script).map_err(|_| Failure::CannotOpen)?;
+            let (_, answer) = print_run(rt.alloc(), device, script, writer);
             answer?
         }
         Words::Vfy { image } => {

@@ -5,7 +5,7 @@ ghost use Rattle.f11_pip.specs.Outcome.{failure_of_kind, status_of};
 ghost use Rattle.f11_pip.specs.declared.outcome.Failure.TheVariants as failures;
 
 use clap::error::ErrorKind;
-use f11_commands::Answer;
+use f11_commands::{Answer, RunFailure};
 use f11_dev::{CannotOpen, NoMemory};
 use std::alloc::AllocError;
 use std::{fmt, io};
@@ -19,6 +19,8 @@ pub enum Failure {
     CannotOpen,
     /// A transfer failed.
     DeviceFault,
+    /// A script can't be read, or its answers can't be written.
+    ScriptFault,
     /// Standard output takes no more.
     CannotWrite,
     /// No memory is left.
@@ -36,6 +38,7 @@ impl fmt::Display for Failure {
             Failure::Usage => "f11_pip: usage",
             Failure::CannotOpen => "f11_pip: cannot open",
             Failure::DeviceFault => "f11_pip: device fault",
+            Failure::ScriptFault => "f11_pip: script fault",
             Failure::CannotWrite => "f11_pip: cannot write",
             Failure::NoMemory => "f11_pip: no memory",
         })
@@ -61,6 +64,20 @@ impl From<f11_commands::Failure> for Failure {
             f11_commands::Failure::DeviceFault => Failure::DeviceFault,
             f11_commands::Failure::CannotWrite => Failure::CannotWrite,
             f11_commands::Failure::NoMemory => Failure::NoMemory,
+        }
+    }
+}
+
+/// A script that isn't served to its end.
+impl From<RunFailure> for Failure {
+    ghost use Rattle.f11_pip.specs.Outcome.{failure_of_run};
+
+    ghost from_gives = { λ run failure. failure ≡ failure_of_run run };
+
+    fn from(failure: RunFailure) -> Self {
+        match failure {
+            RunFailure::Command(failure) => Failure::from(failure),
+            RunFailure::Script(_) => Failure::ScriptFault,
         }
     }
 }
@@ -102,8 +119,8 @@ impl From<clap::Error> for Failure {
     }
 }
 
-/// The exit status of an outcome: 0 where all is well, 1 at a fault, 2 for wrong words, 3 where a file or
-/// a device fails, 4 for want of memory.
+/// The exit status of an outcome: 0 where all is well, 1 at a fault, 2 for wrong words, 3 where a file, a
+/// device or a script fails, 4 for want of memory.
 pub fn status(outcome: Result<Answer, Failure>) -> u8
     ensures { result ≡ status_of outcome }
 {
@@ -111,7 +128,12 @@ pub fn status(outcome: Result<Answer, Failure>) -> u8
         Ok(Answer::Done) => 0,
         Ok(Answer::Fault) => 1,
         Err(Failure::Usage) => 2,
-        Err(Failure::CannotOpen | Failure::DeviceFault | Failure::CannotWrite) => 3,
+        Err(
+            Failure::CannotOpen
+            | Failure::DeviceFault
+            | Failure::ScriptFault
+            | Failure::CannotWrite,
+        ) => 3,
         Err(Failure::NoMemory) => 4,
     }
 }

@@ -2,8 +2,8 @@
 ghost use Rattle.std.specs.Prelude.{◌≡◌, ◌≤◌, ◌⊎◌, length, ℕ, List, false, codes, map, option_map, Option, None, IfOk, IfErr, IsErr, IsOkAnd, MatchResult};
 ghost use Rattle.std.specs.Result.{result_ok};
 ghost use Rattle.clap.specs.Words.{app_of, first_value, found_of, rule_of, subcommand_rows_of};
-ghost use Rattle.f11_pip.specs.Words.{Asks, AsksDump, AsksHome, AsksInit, AsksName, AsksRights, AsksRtInit, AsksRtList, AsksRtVfy, AsksVfy, CommandLine, FailsToAsk, IsLineOf, IsNoInit, IsNoMax, IsNoUic, IsUnreadable, SpellsMax, rights_line, rt_init_line};
-ghost use Rattle.f11_pip.specs.Commands.{HasDumpWords, HasInitWords, HasRightsWords, HasRtInitWords, HasWord, MeetsDump, MeetsInit, MeetsRights, MeetsRtInit, MeetsWord, dump_app, files_app, home_app, init_app, init_options, name_app, needed_rule, option_rule, program_app, rights_app, rt_init_app, rt_list_app, rt_vfy_app, vfy_app};
+ghost use Rattle.f11_pip.specs.Words.{Asks, AsksDump, AsksHome, AsksInit, AsksName, AsksRights, AsksRtInit, AsksRtList, AsksRtVfy, AsksRun, AsksVfy, CommandLine, FailsToAsk, IsLineOf, IsNoInit, IsNoMax, IsNoUic, IsUnreadable, SpellsMax, rights_line, rt_init_line};
+ghost use Rattle.f11_pip.specs.Commands.{HasDumpWords, HasInitWords, HasRightsWords, HasRtInitWords, HasRunWords, HasWord, MeetsDump, MeetsInit, MeetsRights, MeetsRtInit, MeetsRun, MeetsWord, dump_app, files_app, home_app, init_app, init_options, name_app, needed_rule, option_rule, program_app, rights_app, rt_init_app, rt_list_app, rt_vfy_app, run_app, vfy_app};
 ghost use Rattle.f11_pip.specs.Decimal.{IsNumber, SpellsNumber};
 ghost use Rattle.f11_pip.specs.Octal.{IsProtection, SpellsProtection, SpellsUic};
 
@@ -59,6 +59,11 @@ pub enum Words<'a> {
     RtVfy {
         image: &'a str,
     },
+    /// `run IMAGE SCRIPT`
+    Run {
+        image: &'a str,
+        script: &'a str,
+    },
     /// `vfy IMAGE`
     Vfy {
         image: &'a str,
@@ -103,7 +108,8 @@ fn files<'a>(alloc: Global) -> Result<Command<'a>, AllocError>
         .subcommand(rights(alloc)?)?
         .subcommand(dump(alloc)?)?
         .subcommand(vfy(alloc)?)?
-        .subcommand(init(alloc)?)
+        .subcommand(init(alloc)?)?
+        .subcommand(run(alloc)?)
 }
 
 /// The command that the words named.
@@ -135,6 +141,9 @@ fn command_of<'a>(matches: &ArgMatches<'a>) -> Result<Words<'a>, Failure>
     ensures rt_vfy { (image : List ℕ)
         → MeetsWord (codes "rt-vfy") (codes "image") image (subcommand_rows_of matches.now)
         → IsOkAnd result (AsksRtVfy image) }
+    ensures run { (image script : List ℕ)
+        → MeetsRun image script (subcommand_rows_of matches.now)
+        → IsOkAnd result (AsksRun image script) }
     ensures vfy { (image : List ℕ)
         → MeetsWord (codes "vfy") (codes "image") image (subcommand_rows_of matches.now)
         → IsOkAnd result (AsksVfy image) }
@@ -150,6 +159,7 @@ fn command_of<'a>(matches: &ArgMatches<'a>) -> Result<Words<'a>, Failure>
         Some(("rt-init", given)) => rt_init_of(given),
         Some(("rt-list", given)) => rt_list_of(given),
         Some(("rt-vfy", given)) => rt_vfy_of(given),
+        Some(("run", given)) => run_of(given),
         Some(("vfy", given)) => vfy_of(given),
         _ => Err(Failure::Usage),
     }
@@ -350,6 +360,25 @@ fn rt_vfy_of<'a>(given: &ArgMatches<'a>) -> Result<Words<'a>, Failure>
 {
     let image = word_of(given, "image")?;
     Ok(Words::RtVfy { image })
+}
+
+fn run<'a>(alloc: Global) -> Result<Command<'a>, AllocError>
+    ensures { IfOk result (λ command. app_of command ≡ run_app) }
+{
+    Command::new(alloc, "run")
+        .arg(needed(alloc, "image"))?
+        .arg(needed(alloc, "script"))
+}
+
+fn run_of<'a>(given: &ArgMatches<'a>) -> Result<Words<'a>, Failure>
+    ensures run { (image script : List ℕ) → HasRunWords image script given.now
+        → IsOkAnd result (AsksRun image script) }
+    ensures usage { IfErr result (λ failure. failure ≡ Failure.Usage) }
+{
+    Ok(Words::Run {
+        image: word_of(given, "image")?,
+        script: word_of(given, "script")?,
+    })
 }
 
 fn vfy<'a>(alloc: Global) -> Result<Command<'a>, AllocError>

@@ -1,7 +1,7 @@
 -- Calls that were answered one after another, in parts and all the way.
-use Rattle.std.proofs.Common.{◌≡◌, suc, true, List, [], ◌∷◌, ◌++◌, length, refl, sym, ap, subst, arith, All, length-append}
+use Rattle.std.proofs.Common.{◌≡◌, ℕ, ◌+◌, ◌≤◌, suc, Bool, true, List, [], ◌∷◌, ◌++◌, length, refl, sym, ◌∙◌, ap, subst, arith, All, length-append}
 use Rattle.f11_store.specs.Run.{Call, Answer}
-use Rattle.f11_runs.specs.Each.{Each, Steps, Within}
+use Rattle.f11_runs.specs.Each.{Each, Adds, EachCosts, IsSeenAs, Steps, Within}
 use Rattle.f11_runs.specs.Laws.{EmptyChangesNothing, EachIsAnswered, TwoAreOne, OneIsTwo, OneMoreRuns, LastIsStep, RunIsSteps, StepsAreRun, KeptAlong}
 
 module _ {V : Type 0} (R : V → Call → Answer → V → Type 0) where
@@ -57,6 +57,44 @@ each-seen R T view so v w [] [] h = ap view h
 each-seen R T view so v w (c ∷ cs) (a ∷ bs) h = (view h.0, so v h.0 c a h.1, each-seen R T view so h.0 w cs bs h.2)
 each-seen R T view so v w [] (a ∷ bs) h = absurd h
 each-seen R T view so v w (c ∷ cs) [] h = absurd h
+
+-- what is seen as another thing where it is sound and nothing fails, is seen so all the way where nothing failed from the first call to the last
+module _ {V W : Type 0} (R : V → Call → Answer → V → Type 0) (T : W → Call → Answer → W → Type 0) (view : V → W) (failures : V → ℕ) (is_sound : V → Bool)
+    (m : IsSeenAs R T view failures is_sound)
+  where
+    each-rises : (v w : V) (cs : List Call) (bs : List Answer) → Each R v cs bs w → failures v ≤ failures w
+    each-rises v w [] [] h = omega (arith, ap failures h)
+    each-rises v w (c ∷ cs) (a ∷ bs) h = omega (arith, m.rises v h.0 c a h.1, each-rises h.0 w cs bs h.2)
+    each-rises v w [] (a ∷ bs) h = absurd h
+    each-rises v w (c ∷ cs) [] h = absurd h
+
+    pub each-sound : (v w : V) (cs : List Call) (bs : List Answer) → Each R v cs bs w → is_sound v ≡ true → failures w ≡ failures v → Each T (view v) cs bs (view w)
+    each-sound v w [] [] h sound none = ap view h
+    each-sound v w (c ∷ cs) (a ∷ bs) h sound none =
+        let same : failures h.0 ≡ failures v = omega (arith, m.rises v h.0 c a h.1, each-rises h.0 w cs bs h.2, none) in
+        let one = m.seen v h.0 c a h.1 sound same in
+        (view h.0, one.0, each-sound h.0 w cs bs h.2 one.1 (none ∙ sym same))
+    each-sound v w [] (a ∷ bs) h sound none = absurd h
+    each-sound v w (c ∷ cs) [] h sound none = absurd h
+
+-- what each call makes grow by no more than it may cost, where P is and stays, grows by no more than all may
+module _ {V : Type 0} (R : V → Call → Answer → V → Type 0) (cost : V → Call → ℕ) (measure : V → ℕ) (P : V → Type 0)
+    (grows : (v w : V) (c : Call) (a : Answer) → P v → R v c a w → (measure w ≤ measure v + cost v c) × P w)
+  where
+    costs-from : (v w : V) (n : ℕ) (cs : List Call) (bs : List Answer) → Each R v cs bs w →
+        (most : ℕ) × Each (Adds R cost) (record { value = v; sum = n }) cs bs (record { value = w; sum = most }) × (P v → measure w + n ≤ measure v + most)
+    costs-from v w n [] [] h = (n, (λ i. record { value = h i; sum = n }), λ p. omega (arith, ap measure h))
+    costs-from v w n (c ∷ cs) (a ∷ bs) h =
+        let rest = costs-from h.0 w (n + cost v c) cs bs h.2 in
+        let bound : P v → measure w + n ≤ measure v + rest.0 = λ p. let one = grows v h.0 c a p h.1 in omega (arith, one.0, rest.2 one.1) in
+        (rest.0, (record { value = h.0; sum = n + cost v c }, (h.1, refl), rest.1), bound)
+    costs-from v w n [] (a ∷ bs) h = absurd h
+    costs-from v w n (c ∷ cs) [] h = absurd h
+
+    pub each-costs : (v w : V) (cs : List Call) (bs : List Answer) → Each R v cs bs w → (most : ℕ) × EachCosts R cost v cs bs w most × (P v → measure w ≤ measure v + most)
+    each-costs v w cs bs h =
+        let all = costs-from v w 0 cs bs h in
+        (all.0, all.1, λ p. omega (arith, all.2 p))
 
 -- a run is the case of steps
 pub run-is-steps : RunIsSteps

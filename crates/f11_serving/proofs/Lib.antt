@@ -2,3 +2,4 @@
 pub mod ServedLemmas
 pub mod RunLemmas
 pub mod ScriptLemmas
+pub mod VolumeLemmas

@@ -1,15 +1,14 @@
 -- What lines that are served tell: answers one after another, and a run where they are steps of the plain store.
-use Rattle.std.proofs.Common.{◌≡◌, ℕ, ◌≤◌, Bool, true, List, [], ◌∷◌, ◌++◌, length, sym, ◌∙◌, ap, subst, arith}
+use Rattle.std.proofs.Common.{◌≡◌, ℕ, ◌+◌, ◌≤◌, Bool, true, List, [], ◌∷◌, ◌++◌, length, refl, sym, ◌∙◌, ap, subst, arith}
 use Rattle.f11_store.specs.Run.{Call, Answer}
-use Rattle.f11_store.specs.Store.{Store}
 use Rattle.f11_script.specs.Answers.{answer_line, bad_line_text}
 use Rattle.f11_script.specs.Lines.{Line, no_request, bad_line, request_line, line_of}
 use Rattle.f11_script.specs.Asking.{Saying, nothing, badly, says, saying_of, asked_by, line_with, requests_in}
 use Rattle.f11_script.proofs.AskingLemmas.{line_asks_alone}
 use Rattle.f11_serving.specs.Served.{Service, Behind, ServesLine, ServesLines}
-use Rattle.f11_runs.specs.Each.{Each, Steps}
+use Rattle.f11_runs.specs.Each.{Adds, Each, IsSeenAs, Steps}
 use Rattle.f11_runs.proofs.EachLaws.{steps-are-run as each-is-run}
-use Rattle.f11_serving.specs.Laws.{calls_of, text_with, text_of, Tells, RequestsAreAnswered, StepsAreRun, MakesSteps, SoundIsRun}
+use Rattle.f11_serving.specs.Laws.{calls_of, text_with, text_of, Tells, RequestsAreAnswered, StepsAreRun, SoundIsRun}
 
 -- a line, and what is behind it
 pub record TellsFrom {V : Type 0} (S : Service V) (l : Saying) (rest : List (List ℕ)) (old new : V) (block text : List ℕ) (count : ℕ) : Type 0 where
@@ -67,41 +66,121 @@ lines-keep S R self trans each (line ∷ rest) old new block block' text count h
     line-keeps S R trans each (line_of line block) old new block text count (λ v b t k. ServesLines S rest v b t k new block')
     (λ v b t k p. lines-keep S R self trans each rest v new b block' t k p) h
 
--- a line of a sound service is served by steps
-line-steps : {V : Type 0} (S : Service V) (view : V → Store) (failures : V → ℕ) (is_sound : V → Bool) → MakesSteps S view failures is_sound →
-    (l : Line) (old new : V) (block text : List ℕ) (count : ℕ) (P : Behind V) (Q : Behind Store) → is_sound old ≡ true → failures new ≡ failures old →
-    ((v : V) (b t : List ℕ) (k : ℕ) → P v b t k → failures v ≤ failures new) →
-    ((v : V) (b t : List ℕ) (k : ℕ) → P v b t k → is_sound v ≡ true → failures new ≡ failures v → Q (view v) b t k) →
-    ServesLine S l old block text count P → ServesLine Steps l (view old) block text count Q
-line-steps S view failures is_sound m no_request old new block text count P Q sound none most behind h = behind old block text count h sound none
-line-steps S view failures is_sound m bad_line old new block text count P Q sound none most behind h =
-    (h.0, h.1, behind old block h.0 count h.2 sound none)
-line-steps S view failures is_sound m (request_line call) old new block text count P Q sound none most behind h =
-    let less = m.rises old h.next call h.answer h.serves in
-    let rest = most h.next h.answer.block h.more h.others h.rest in
-    let same : failures h.next ≡ failures old = omega (arith, less, rest, none) in
-    let step = m.step old h.next call h.answer h.serves sound same in
-    record {
-      answer = h.answer;
-      next = view h.next;
-      more = h.more;
-      others = h.others;
-      serves = step.0;
-      text_is = h.text_is;
-      count_is = h.count_is;
-      rest = behind h.next h.answer.block h.more h.others h.rest step.1 (none ∙ sym same);
-    }
+-- lines that are served by what is seen as another service are served by that, where nothing failed
+module _ {V W : Type 0} (S : Service V) (T : Service W) (view : V → W) (failures : V → ℕ) (is_sound : V → Bool) (m : IsSeenAs S T view failures is_sound) where
+  line-seen : (l : Line) (old new : V) (block text : List ℕ) (count : ℕ) (P : Behind V) (Q : Behind W) → is_sound old ≡ true → failures new ≡ failures old →
+      ((v : V) (b t : List ℕ) (k : ℕ) → P v b t k → failures v ≤ failures new) →
+      ((v : V) (b t : List ℕ) (k : ℕ) → P v b t k → is_sound v ≡ true → failures new ≡ failures v → Q (view v) b t k) →
+      ServesLine S l old block text count P → ServesLine T l (view old) block text count Q
+  line-seen no_request old new block text count P Q sound none most behind h = behind old block text count h sound none
+  line-seen bad_line old new block text count P Q sound none most behind h = (h.0, h.1, behind old block h.0 count h.2 sound none)
+  line-seen (request_line call) old new block text count P Q sound none most behind h =
+      let less = m.rises old h.next call h.answer h.serves in
+      let rest = most h.next h.answer.block h.more h.others h.rest in
+      let same : failures h.next ≡ failures old = omega (arith, less, rest, none) in
+      let step = m.seen old h.next call h.answer h.serves sound same in
+      record {
+        answer = h.answer;
+        next = view h.next;
+        more = h.more;
+        others = h.others;
+        serves = step.0;
+        text_is = h.text_is;
+        count_is = h.count_is;
+        rest = behind h.next h.answer.block h.more h.others h.rest step.1 (none ∙ sym same);
+      }
 
-lines-step : {V : Type 0} (S : Service V) (view : V → Store) (failures : V → ℕ) (is_sound : V → Bool) → MakesSteps S view failures is_sound →
-    (lines : List (List ℕ)) (old new : V) (block block' text : List ℕ) (count : ℕ) → ServesLines S lines old block text count new block' →
-    is_sound old ≡ true → failures new ≡ failures old → ServesLines Steps lines (view old) block text count (view new) block'
-lines-step S view failures is_sound m [] old new block block' text count h sound none = (ap view h.0, h.1, h.2, h.3)
-lines-step S view failures is_sound m (line ∷ rest) old new block block' text count h sound none =
-    line-steps S view failures is_sound m (line_of line block) old new block text count (λ v b t k. ServesLines S rest v b t k new block')
-    (λ s b t k. ServesLines Steps rest s b t k (view new) block') sound none
-    (λ v b t k p. lines-keep S (λ x y. failures x ≤ failures y) (λ x. omega arith) (λ x y z p q. omega (arith, p, q)) m.rises rest v new b block' t k p)
-    (λ v b t k p. lines-step S view failures is_sound m rest v new b block' t k p) h
+  pub lines-rise : (lines : List (List ℕ)) (old new : V) (block block' text : List ℕ) (count : ℕ) → ServesLines S lines old block text count new block' → failures old ≤ failures new
+  lines-rise = lines-keep S (λ x y. failures x ≤ failures y) (λ x. omega arith) (λ x y z p q. omega (arith, p, q)) m.rises
+
+  pub lines-seen : (lines : List (List ℕ)) (old new : V) (block block' text : List ℕ) (count : ℕ) → ServesLines S lines old block text count new block' →
+      is_sound old ≡ true → failures new ≡ failures old → ServesLines T lines (view old) block text count (view new) block'
+  lines-seen [] old new block block' text count h sound none = (ap view h.0, h.1, h.2, h.3)
+  lines-seen (line ∷ rest) old new block block' text count h sound none =
+      line-seen (line_of line block) old new block text count (λ v b t k. ServesLines S rest v b t k new block')
+      (λ s b t k. ServesLines T rest s b t k (view new) block') sound none
+      (λ v b t k p. lines-rise rest v new b block' t k p)
+      (λ v b t k p. lines-seen rest v new b block' t k p) h
+
+  -- and what is sound stays so
+  line-sound : (l : Line) (old new : V) (block text : List ℕ) (count : ℕ) (P : Behind V) → is_sound old ≡ true → failures new ≡ failures old →
+      ((v : V) (b t : List ℕ) (k : ℕ) → P v b t k → failures v ≤ failures new) →
+      ((v : V) (b t : List ℕ) (k : ℕ) → P v b t k → is_sound v ≡ true → failures new ≡ failures v → is_sound new ≡ true) →
+      ServesLine S l old block text count P → is_sound new ≡ true
+  line-sound no_request old new block text count P sound none most behind h = behind old block text count h sound none
+  line-sound bad_line old new block text count P sound none most behind h = behind old block h.0 count h.2 sound none
+  line-sound (request_line call) old new block text count P sound none most behind h =
+      let less = m.rises old h.next call h.answer h.serves in
+      let rest = most h.next h.answer.block h.more h.others h.rest in
+      let same : failures h.next ≡ failures old = omega (arith, less, rest, none) in
+      behind h.next h.answer.block h.more h.others h.rest (m.seen old h.next call h.answer h.serves sound same).1 (none ∙ sym same)
+
+  pub lines-sound : (lines : List (List ℕ)) (old new : V) (block block' text : List ℕ) (count : ℕ) → ServesLines S lines old block text count new block' →
+      is_sound old ≡ true → failures new ≡ failures old → is_sound new ≡ true
+  lines-sound [] old new block block' text count h sound none = ap is_sound h.0 ∙ sound
+  lines-sound (line ∷ rest) old new block block' text count h sound none =
+      line-sound (line_of line block) old new block text count (λ v b t k. ServesLines S rest v b t k new block') sound none
+      (λ v b t k p. lines-rise rest v new b block' t k p)
+      (λ v b t k p. lines-sound rest v new b block' t k p) h
 
 pub sound-is-run : {V : Type 0} (S : Service V) → SoundIsRun S
 sound-is-run S view failures is_sound m lines old new block block' text count h sound none =
-    steps-are-run lines (view old) (view new) block block' text count (lines-step S view failures is_sound m lines old new block block' text count h sound none)
+    steps-are-run lines (view old) (view new) block block' text count
+    (lines-seen S Steps view failures is_sound m lines old new block block' text count h sound none)
+
+-- costs add along lines, from any sum; where P is and stays, what each request makes grow by no more than its cost grows by no more than their sum
+module _ {V : Type 0} (S : Service V) (cost : V → Call → ℕ) (measure : V → ℕ) (P : V → Type 0)
+    (grows : (v w : V) (c : Call) (a : Answer) → P v → S v c a w → (measure w ≤ measure v + cost v c) × P w)
+  where
+    -- from this sum on, to that
+    pub record CostsFrom (lines : List (List ℕ)) (v : V) (n : ℕ) (block text : List ℕ) (count : ℕ) (w : V) (block' : List ℕ) : Type 0 where
+      pub most : ℕ
+      pub serves : ServesLines (Adds S cost) lines (record { value = v; sum = n }) block text count (record { value = w; sum = most }) block'
+      pub bound : P v → (measure w + n ≤ measure v + most) × P w
+
+    -- the same of a line and what is behind it
+    record LineCosts (l : Line) (rest : List (List ℕ)) (v : V) (n : ℕ) (block text : List ℕ) (count : ℕ) (w : V) (block' : List ℕ) : Type 0 where
+      most : ℕ
+      serves : ServesLine (Adds S cost) l (record { value = v; sum = n }) block text count
+          (λ x b t k. ServesLines (Adds S cost) rest x b t k (record { value = w; sum = most }) block')
+      bound : P v → (measure w + n ≤ measure v + most) × P w
+
+    line-costs : (l : Line) (rest : List (List ℕ)) (v w : V) (n : ℕ) (block block' text : List ℕ) (count : ℕ) →
+        ((u : V) (m : ℕ) (b t : List ℕ) (k : ℕ) → ServesLines S rest u b t k w block' → CostsFrom rest u m b t k w block') →
+        ServesLine S l v block text count (λ u b t k. ServesLines S rest u b t k w block') → LineCosts l rest v n block text count w block'
+    line-costs no_request rest v w n block block' text count behind h =
+        let r = behind v n block text count h in
+        record { most = r.most; serves = r.serves; bound = r.bound }
+    line-costs bad_line rest v w n block block' text count behind h =
+        let r = behind v n block h.0 count h.2 in
+        record { most = r.most; serves = (h.0, h.1, r.serves); bound = r.bound }
+    line-costs (request_line call) rest v w n block block' text count behind h =
+        let r = behind h.next (n + cost v call) h.answer.block h.more h.others h.rest in
+        record {
+          most = r.most;
+          serves = record {
+            answer = h.answer;
+            next = record { value = h.next; sum = n + cost v call };
+            more = h.more;
+            others = h.others;
+            serves = (h.serves, refl);
+            text_is = h.text_is;
+            count_is = h.count_is;
+            rest = r.serves;
+          };
+          bound = λ p.
+              let one = grows v h.next call h.answer p h.serves in
+              let all = r.bound one.1 in
+              (omega (arith, one.0, all.0), all.1);
+        }
+
+    pub costs-from : (lines : List (List ℕ)) (v w : V) (n : ℕ) (block block' text : List ℕ) (count : ℕ) → ServesLines S lines v block text count w block' →
+        CostsFrom lines v n block text count w block'
+    costs-from [] v w n block block' text count h = record {
+      most = n;
+      serves = ((λ i. record { value = h.0 i; sum = n }), h.1, h.2, h.3);
+      bound = λ p. (omega (arith, ap measure h.0), subst P (sym h.0) p);
+    }
+    costs-from (line ∷ rest) v w n block block' text count h =
+        let r = line-costs (line_of line block) rest v w n block block' text count (λ u m b t k p. costs-from rest u w m b block' t k p) h in
+        record { most = r.most; serves = r.serves; bound = r.bound }

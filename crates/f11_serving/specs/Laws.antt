@@ -1,8 +1,8 @@
 -- Laws of scripts that are served.
-use Rattle.std.specs.Prelude.{◌≡◌, ℕ, ◌+◌, ◌≤◌, Bool, true, List, [], ◌∷◌, ◌++◌, length}
+use Rattle.std.specs.Prelude.{◌≡◌, ℕ, ◌+◌, Bool, true, List, [], ◌∷◌, ◌++◌, length}
 use Rattle.f11_store.specs.Run.{Call, Answer, Run}
 use Rattle.f11_store.specs.Store.{Store}
-use Rattle.f11_runs.specs.Each.{Each, Steps}
+use Rattle.f11_runs.specs.Each.{Each, IsSeenAs, Steps}
 use Rattle.f11_script.specs.Answers.{answer_line, bad_line_text}
 use Rattle.f11_script.specs.Asking.{Asked, Saying, nothing, badly, says, saying_of, called, requests_in}
 use Rattle.f11_serving.specs.Served.{Service, ServesLines}
@@ -56,16 +56,10 @@ StepsAreRun =
     (lines : List (List ℕ)) (old new : Store) (block block' text : List ℕ) (count : ℕ) →
     ServesLines Steps lines old block text count new block' → Tells lines block text count (λ calls answers. Run old calls answers new)
 
--- A service makes steps, seen as a store, where it is sound and nothing fails: its failures are counted and never fall, and it stays sound.
-pub record MakesSteps {V : Type 0} (S : Service V) (view : V → Store) (failures : V → ℕ) (is_sound : V → Bool) : Type 0 where
-  pub rises : (v w : V) (call : Call) (answer : Answer) → S v call answer w → failures v ≤ failures w
-  pub step : (v w : V) (call : Call) (answer : Answer) → S v call answer w → is_sound v ≡ true → failures w ≡ failures v →
-      Steps (view v) call answer (view w) × (is_sound w ≡ true)
-
 -- a sound service that makes steps tells a run where nothing failed from the first line to the last
 abbrev pub SoundIsRun : {V : Type 0} → Service V → Type 0
 SoundIsRun {V = V} S =
-    (view : V → Store) (failures : V → ℕ) (is_sound : V → Bool) → MakesSteps S view failures is_sound →
+    (view : V → Store) (failures : V → ℕ) (is_sound : V → Bool) → IsSeenAs S Steps view failures is_sound →
     (lines : List (List ℕ)) (old new : V) (block block' text : List ℕ) (count : ℕ) →
     ServesLines S lines old block text count new block' → is_sound old ≡ true → failures new ≡ failures old →
     Tells lines block text count (λ calls answers. Run (view old) calls answers (view new))

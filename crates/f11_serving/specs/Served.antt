@@ -1,23 +1,12 @@
 -- A script that is served, line by line, by any service of requests (profile).
-use Rattle.std.specs.Prelude.{◌≡◌, ℕ, ◌+◌, List, [], ◌∷◌, ◌++◌, replicate, Result}
+use Rattle.std.specs.Prelude.{◌≡◌, ℕ, ◌+◌, List, [], ◌∷◌, ◌++◌, replicate}
 use Rattle.f11_store.specs.Run.{Call, Answer}
-use Rattle.f11_store.specs.declared.callers.Uic.{Uic}
-use Rattle.f11_store.specs.declared.refusals.Refusal.{Refusal}
-use Rattle.f11_store.specs.declared.requests.Reply.{Reply}
-use Rattle.f11_store.specs.declared.requests.Request.{Request}
 use Rattle.f11_script.specs.Answers.{answer_line, bad_line_text}
 use Rattle.f11_script.specs.Lines.{Line, no_request, bad_line, request_line, line_of}
 
 -- how a service in one state may answer a call, and the state that it is in then
 abbrev pub Service : Type 0 → Type 1
 Service V = V → Call → Answer → V → Type 0
-
--- a request with who asks it and the caller's block, and an answer with the block then
-abbrev pub call_with : ℕ → Uic → Request → List ℕ → Call
-call_with task caller r block = record { task = task; caller = caller; request = r; block = block }
-
-abbrev pub answer_with : Result Reply Refusal → List ℕ → Answer
-answer_with result block = record { result = result; block = block }
 
 -- what may stand behind a line: a state of the service, the block, a text and a number of requests
 abbrev pub Behind : Type 0 → Type 1

@@ -1,16 +1,18 @@
-//! Scripts, served line by line by any service of requests.
+//! Scripts, served line by line by a volume.
 //!
-//! [`serve_lines`] reads a script, asks a service what each line asks, and writes the lines of the answers; [`run_lines`] does
-//! so for a reader. What answers is a [`Serves`], of which the crate knows one relation: how a call may be answered, and the
-//! state then.
+//! [`run_script`] reads a script, asks a volume what each line asks, and writes the lines of the answers. The loop,
+//! [`serve_lines`], and [`run_lines`] for a reader, know no volume: what answers is a [`Serves`], of which they know one
+//! relation, how a call may be answered and the state then.
 //!
-//! It stands on `arrayvec` (the line), `f11_bytes` (blocks), `f11_script` (the language of scripts) and `f11_store`
-//! (requests).
+//! It stands on `arrayvec` (the line), `f11_bytes` (blocks), `f11_fcp` (volumes), `f11_script` (the language of scripts) and
+//! `f11_store` (requests).
 #![tactic(auto)]
 
 pub mod laws;
 mod script;
 mod serves;
+mod volume;
 
 pub use script::{run_lines, serve_lines};
 pub use serves::Serves;
+pub use volume::run_script;

@@ -1,7 +1,7 @@
 //! What answers requests.
 
 ghost use Rattle.f11_store.specs.Run.{Answer, Call};
-ghost use Rattle.f11_serving.specs.Served.{answer_with, call_with};
+ghost use Rattle.f11_runs.specs.Each.{answer_with, call_with};
 
 use f11_bytes::Block;
 use f11_store::{Refusal, Reply, Request, Task, Uic};

@@ -30,6 +30,13 @@ returns-in-Some-dump-default-clause-dump c image number met =
       first_value-rows (found_of c.in-Some-dump-default.given.now) (codes "number") ∙ first_of-met _ _ _ _ number c.in-Some-dump-default.ensures.rows met.1,
     )
 
+pub returns-in-Some-run-default-clause-run : goal.returns-in-Some-run-default-clause-run
+returns-in-Some-run-default-clause-run c image script met =
+    c.run_of.ensures.run image script (
+      first_value-rows (found_of c.in-Some-run-default.given.now) (codes "image") ∙ first_of-met _ _ _ _ image c.in-Some-run-default.ensures.rows met.0,
+      first_value-rows (found_of c.in-Some-run-default.given.now) (codes "script") ∙ first_of-met _ _ _ _ script c.in-Some-run-default.ensures.rows met.1,
+    )
+
 pub returns-in-Some-vfy-default-clause-vfy : goal.returns-in-Some-vfy-default-clause-vfy
 returns-in-Some-vfy-default-clause-vfy c image met =
     c.vfy_of.ensures.vfy image (first_value-rows (found_of c.in-Some-vfy-default.given.now) (codes "image")

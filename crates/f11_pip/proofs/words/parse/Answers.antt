@@ -1,9 +1,9 @@
 use Rattle.std.proofs.Common.{[], arith, ◌∙◌, ap, ap₂, codes, map}
 use Rattle.clap.specs.Words.{is_simple, subcommand_of, takes}
 use Rattle.f11_pip.specs.Commands.{command_and_word, command_and_words, rt_init_names}
-use Rattle.f11_pip.specs.Words.{Asks, IsUnreadable, dump_line, home_line, name_line, rights_line, rt_init_line, rt_list_line, rt_vfy_line, vfy_line}
+use Rattle.f11_pip.specs.Words.{Asks, IsUnreadable, dump_line, home_line, name_line, rights_line, rt_init_line, rt_list_line, rt_vfy_line, run_line, vfy_line}
 use Rattle.f11_pip.proofs.LineLemmas.{takes-line, subcommand_of-rt_init}
-use Rattle.f11_pip.proofs.WordsLemmas.{failure_out_of_memory, match_ok, no_memory_or_none, none_or_no_memory, subcommand_of-rt_list, subcommand_of-rt_vfy, subcommand_of-vfy, subcommand_of-dump, subcommand_of-home, subcommand_of-name, subcommand_of-rights, subcommand_of-none, is_simple-program}
+use Rattle.f11_pip.proofs.WordsLemmas.{failure_out_of_memory, match_ok, no_memory_or_none, none_or_no_memory, subcommand_of-rt_list, subcommand_of-rt_vfy, subcommand_of-run, subcommand_of-vfy, subcommand_of-dump, subcommand_of-home, subcommand_of-name, subcommand_of-rights, subcommand_of-none, is_simple-program}
 use Rattle.f11_pip.proofs.words.parse.Goals as goal
 
 pub returns-in_err-matches-clause-asks : goal.returns-in_err-matches-clause-asks
@@ -44,6 +44,12 @@ returns-clause-asks g c (dump_line image number) line =
     none_or_no_memory (Asks (dump_line image number)) (IsUnreadable (dump_line image number)) c.command_of.result
     (let these = subcommand_of-dump line.program image number (line.plain 0 [] (omega arith)) (line.plain 1 [] (omega arith)) in
     c.command_of.ensures.dump image number (ap (command_and_word (codes "image")) met ∙ these.0, ap (command_and_word (codes "number")) met ∙ these.1))
+returns-clause-asks g c (run_line image script) line =
+    let simple = ap is_simple c.in_ok-program.ensures ∙ is_simple-program in
+    let met = (c.in_ok-matches.ensures.matches simple).1 ∙ ap₂ subcommand_of c.in_ok-program.ensures line.is_line in
+    none_or_no_memory (Asks (run_line image script)) (IsUnreadable (run_line image script)) c.command_of.result
+    (let these = subcommand_of-run line.program image script (line.plain 0 [] (omega arith)) (line.plain 1 [] (omega arith)) in
+    match_ok _ _ c.command_of.result (c.command_of.ensures.run image script (ap (command_and_word (codes "image")) met ∙ these.0, ap (command_and_word (codes "script")) met ∙ these.1)))
 returns-clause-asks g c (rights_line caller owner word) line =
     let simple = ap is_simple c.in_ok-program.ensures ∙ is_simple-program in
     let met = (c.in_ok-matches.ensures.matches simple).1 ∙ ap₂ subcommand_of c.in_ok-program.ensures line.is_line in

@@ -1,4 +1,4 @@
-use Rattle.f11_serving.specs.Served.{call_with, answer_with}
+use Rattle.f11_runs.specs.Each.{answer_with, call_with}
 use Rattle.f11_serving.proofs.ServedLemmas.{one-request}
 use Rattle.f11_serving.proofs.script.answer_line.Goals as goal
 

@@ -1,0 +1,98 @@
+-- A script that is served on an image.
+use Rattle.std.proofs.Common.{◌≡◌, inl, inr, ℕ, ◌&&◌, not, Bool, true, false, List, Option, Result, Ok, Err, refl, sym, ◌∙◌, ap, subst, arith}
+use Rattle.f11_dev.specs.Disk.{Disk}
+use Rattle.f11_dev.specs.Image.{Image}
+use Rattle.f11_dev.specs.Looked.{Looked}
+use Rattle.f11_dev.specs.declared.device.Device.{Ghosts}
+use Rattle.f11_home.specs.Home.{HomeFields, IsHomeOf}
+use Rattle.f11_fcp.specs.Accesses.{Table, held_in, no_entries}
+use Rattle.f11_fcp.specs.Lists.{ServesCall, failures_of, is_sound, store_of_volume}
+use Rattle.f11_fcp.specs.Mounting.{Mounts}
+use Rattle.f11_fcp.specs.Serving.{StaysAccepted, is_spent, state_in}
+use Rattle.f11_fcp.specs.declared.volume.Volume.{Volume}
+use Rattle.f11_files.specs.StoreOf.{store_of}
+use Rattle.f11_runs.specs.Each.{Steps}
+use Rattle.f11_script.specs.declared.errors.ScriptError.{ScriptError}
+use Rattle.f11_serving.specs.Scripts.{ServesScriptRun}
+use Rattle.f11_serving.specs.Serving.{RunsScript}
+use Rattle.f11_serving.proofs.VolumeLemmas.{KeepsVolume, script-keeps-volume}
+use Rattle.f11_store.specs.Store.{Store}
+use Rattle.f11_commands.specs.RunCommand.{EndsRun, EndsServing, ServesImage, WritesNothing, outcome_of}
+use Rattle.f11_commands.specs.declared.outcome.Answer.{Answer}
+use Rattle.f11_commands.specs.declared.outcome.Answer.TheVariants.{Done, Fault}
+use Rattle.f11_commands.specs.declared.outcome.Failure.TheVariants.{DeviceFault, NoMemory, CannotWrite}
+use Rattle.f11_commands.specs.declared.run.RunFailure.{RunFailure}
+use Rattle.f11_commands.specs.declared.run.RunFailure.TheVariants.{Command, Script}
+
+both : (a b : Bool) → a ≡ true → b ≡ false → (a && not b) ≡ true
+both true false h k = refl
+both true true h k = absurd (let never : true ≡ false = k in cc)
+both false b h k = absurd (let never : false ≡ true = h in cc)
+
+-- a volume that was mounted served the script
+module _ {D W : Type 0} {met : Ghosts D} (disk : Disk) (first last : Volume D met) (remaining : Option (List ℕ)) (contents : W → Option (List ℕ)) (before after : W)
+    (result : Result ℕ ScriptError) (mounts : Mounts disk first) (runs : RunsScript ServesCall remaining first last (contents before) (contents after) result)
+    (run : ServesScriptRun first last remaining (contents before) (contents after) result) (accepted : StaysAccepted (state_in last))
+  where
+    kept : KeepsVolume first last
+    kept = script-keeps-volume remaining (contents before) (contents after) first last result runs
+
+    first-is : store_of_volume first ≡ held_in no_entries (store_of disk.image (state_in first).home)
+    first-is =
+        ap (λ (t : Table). held_in t (store_of (state_in first).disk.image (state_in first).home)) mounts.none
+        ∙ ap (λ (i : Image). held_in no_entries (store_of i (state_in first).home)) mounts.looked.image
+
+    last-is : store_of_volume last ≡ held_in (state_in last).table (store_of (state_in last).disk.image (state_in first).home)
+    last-is = ap (λ (h : HomeFields). held_in (state_in last).table (store_of (state_in last).disk.image h)) kept.home
+
+    pub serves-image : ServesImage result remaining disk (state_in last).disk contents before after
+    serves-image = record {
+      home = (state_in first).home;
+      held = (state_in last).table;
+      home_is = mounts.home;
+      accepted = λ is. accepted (kept.honest ∙ mounts.looked.honest ∙ is);
+      run = λ is none.
+          let sound : is_sound first ≡ true = both (state_in first).disk.honest (is_spent first) (mounts.looked.honest ∙ is) mounts.fresh in
+          let same : failures_of last ≡ failures_of first = omega (arith, mounts.looked.failures, none) in
+          subst (λ (s : Store). RunsScript Steps remaining s (held_in (state_in last).table (store_of (state_in last).disk.image (state_in first).home)) (contents before) (contents after) result) first-is
+          (subst (λ (s : Store). RunsScript Steps remaining (store_of_volume first) s (contents before) (contents after) result) last-is (run sound same));
+    }
+
+    by-outcome : (spent : Bool) → EndsServing (outcome_of spent result) remaining disk (state_in last).disk contents before after
+    by-outcome = ends result serves-image
+      where
+        ends : (r : Result ℕ ScriptError) → ServesImage r remaining disk (state_in last).disk contents before after → (spent : Bool) → EndsServing (outcome_of spent r) remaining disk (state_in last).disk contents before after
+        ends r s true = inr (r, s)
+        ends (Ok count) s false = (count, s)
+        ends (Err e) s false = s
+
+    pub ends-serving : (new : Disk) (told : Result Answer RunFailure) → new ≡ (state_in last).disk → told ≡ outcome_of (is_spent last) result → EndsServing told remaining disk new contents before after
+    ends-serving new told at is =
+        subst (λ t. EndsServing t remaining disk new contents before after) (sym is)
+        (subst (λ (d : Disk). EndsServing (outcome_of (is_spent last) result) remaining disk d contents before after) (sym at) (by-outcome (is_spent last)))
+
+-- an image that was looked over first
+module _ {W : Type 0} (remaining : Option (List ℕ)) (contents : W → Option (List ℕ)) (before after : W) (old mid new : Disk) (n : ℕ) (looked : Looked old mid n 0) where
+  serves-behind : (result : Result ℕ ScriptError) → ServesImage result remaining mid new contents before after → ServesImage result remaining old new contents before after
+  serves-behind result s = record {
+    home = s.home;
+    held = s.held;
+    home_is = λ is. subst (λ (i : Image). IsHomeOf i s.home) looked.image (s.home_is (looked.honest ∙ is));
+    accepted = λ is. s.accepted (looked.honest ∙ is);
+    run = λ is none.
+        let same : new.failures ≡ mid.failures = omega (arith, looked.failures, none) in
+        subst (λ (i : Image). RunsScript Steps remaining (held_in no_entries (store_of i s.home)) (held_in s.held (store_of new.image s.home)) (contents before) (contents after) result)
+        looked.image (s.run (looked.honest ∙ is) same);
+  }
+
+  nothing-behind : WritesNothing mid new contents before after → WritesNothing old new contents before after
+  nothing-behind w = record { image = w.image ∙ looked.image; history = w.history ∙ looked.history; written = w.written }
+
+  pub ends-behind : (told : Result Answer RunFailure) → EndsServing told remaining mid new contents before after → EndsRun told remaining old new contents before after
+  ends-behind (Ok Done) h = (h.0, serves-behind (Ok h.0) h.1)
+  ends-behind (Ok Fault) h = absurd h
+  ends-behind (Err (Script e)) h = serves-behind (Err e) h
+  ends-behind (Err (Command DeviceFault)) (inl h) = inl (nothing-behind h)
+  ends-behind (Err (Command DeviceFault)) (inr h) = inr (h.0, serves-behind h.0 h.1)
+  ends-behind (Err (Command NoMemory)) h = nothing-behind h
+  ends-behind (Err (Command CannotWrite)) h = absurd h

@@ -1,0 +1,11 @@
+use Rattle.f11_commands.proofs.RunLemmas.{ends-behind}
+use Rattle.f11_commands.proofs.run.print_run.Goals as goal
+
+pub returns-in-Ok-Accepted : goal.returns-in-Ok-Accepted
+returns-in-Ok-Accepted g c =
+    let report = rw c.in-Ok-Accepted.field-0-is at c.in-Ok-Accepted.ensures.report in
+    record {
+      runs =
+          ends-behind (g.R.Read.remaining c.args.script) g.W.Write.contents c.args.writer.now c.serve.new.writer (g.D.Device.disk c.args.device) _
+          (g.D.Device.disk c.serve.result.0) _ report.looked.looked c.serve.result.1 c.serve.ensures.serves;
+    }

@@ -1,0 +1,57 @@
+-- What `run` does to an image, and what it writes (profile).
+use Rattle.std.specs.Prelude.{◌≡◌, ◌⊎◌, ℕ, Bool, true, false, IsTrue, List, Option, Result, Ok, Err}
+use Rattle.std.specs.Io.KnownBytes.{Keeps}
+use Rattle.f11_dev.specs.Disk.{Disk}
+use Rattle.f11_home.specs.Home.{HomeFields, IsHomeOf}
+use Rattle.f11_fcp.specs.Accesses.{Table, held_in, no_entries}
+use Rattle.f11_files.specs.StoreOf.{store_of}
+use Rattle.f11_runs.specs.Each.{Steps}
+use Rattle.f11_script.specs.declared.errors.ScriptError.{ScriptError}
+use Rattle.f11_serving.specs.Serving.{RunsScript}
+use Rattle.f11_commands.specs.VfyCommand.{PrintsReport}
+use Rattle.f11_commands.specs.declared.outcome.Answer.{Answer}
+use Rattle.f11_commands.specs.declared.outcome.Answer.TheVariants.{Done, Fault}
+use Rattle.f11_commands.specs.declared.outcome.Failure.TheVariants.{DeviceFault, NoMemory, CannotWrite}
+use Rattle.f11_commands.specs.declared.run.RunFailure.{RunFailure}
+use Rattle.f11_commands.specs.declared.run.RunFailure.TheVariants.{Command, Script}
+use Rattle.f11_vfy.specs.Verdict.{IsAccepted}
+use Rattle.f11_vfy.specs.Verify.{LooksOver}
+
+-- A script was served on an image. Where the disk is honest the image is accepted then; and where no transfer failed, it was served by steps of
+-- the plain store, from that of the image, in which nobody holds an access, to that of the image then, with what tasks held at the end.
+pub record ServesImage {W : Type 0} (result : Result ℕ ScriptError) (remaining : Option (List ℕ)) (old new : Disk) (contents : W → Option (List ℕ)) (before after : W) : Type 0 where
+  pub home : HomeFields
+  pub held : Table
+  pub home_is : IsTrue old.honest → IsHomeOf old.image home
+  pub accepted : IsTrue old.honest → IsAccepted new.image
+  pub run : IsTrue old.honest → new.failures ≡ old.failures →
+      RunsScript Steps remaining (held_in no_entries (store_of old.image home)) (held_in held (store_of new.image home)) (contents before) (contents after) result
+
+-- Nothing was written, to the image or the writer.
+pub record WritesNothing {W : Type 0} (old new : Disk) (contents : W → Option (List ℕ)) (before after : W) : Type 0 where
+  pub image : new.image ≡ old.image
+  pub history : new.history ≡ old.history
+  pub written : Keeps (contents before) (contents after)
+
+-- what is told of an accepted image: the script was served; or it was to where it, or its answers, went no further; or a transfer failed, before
+-- the script was served or while it was; or there was no memory for the volume
+abbrev pub EndsServing : {W : Type 0} → Result Answer RunFailure → Option (List ℕ) → Disk → Disk → (W → Option (List ℕ)) → W → W → Type 0
+EndsServing (Ok Done) remaining old new contents before after = (count : ℕ) × ServesImage (Ok count) remaining old new contents before after
+EndsServing (Ok Fault) remaining old new contents before after = ⊥
+EndsServing (Err (Script e)) remaining old new contents before after = ServesImage (Err e) remaining old new contents before after
+EndsServing (Err (Command DeviceFault)) remaining old new contents before after =
+    WritesNothing old new contents before after ⊎ ((result : Result ℕ ScriptError) × ServesImage result remaining old new contents before after)
+EndsServing (Err (Command NoMemory)) remaining old new contents before after = WritesNothing old new contents before after
+EndsServing (Err (Command CannotWrite)) remaining old new contents before after = ⊥
+
+-- and of any: that too; or it has faults, and its report was written; or the writer took no more of that
+abbrev pub EndsRun : {W : Type 0} → Result Answer RunFailure → Option (List ℕ) → Disk → Disk → (W → Option (List ℕ)) → W → W → Type 0
+EndsRun (Ok Fault) remaining old new contents before after = PrintsReport false old new contents before after
+EndsRun (Err (Command CannotWrite)) remaining old new contents before after = LooksOver old new 0
+EndsRun told remaining old new contents before after = EndsServing told remaining old new contents before after
+
+-- how a script ended that a volume served, which a request has failed or not
+abbrev pub outcome_of : Bool → Result ℕ ScriptError → Result Answer RunFailure
+outcome_of true served = Err (Command DeviceFault)
+outcome_of false (Ok count) = Ok Done
+outcome_of false (Err e) = Err (Script e)

@@ -1,0 +1,8 @@
+use Rattle.f11_serving.proofs.VolumeLemmas.{serves-script-run, keeps-script-costs}
+use Rattle.f11_serving.proofs.volume.run_script.Goals as goal
+
+pub returns-clause-run : goal.returns-clause-run
+returns-clause-run g c = serves-script-run c.args.volume.now c.run_lines.new.service _ _ _ c.run_lines.result c.run_lines.ensures.runs
+
+pub returns-clause-costs : goal.returns-clause-costs
+returns-clause-costs g c = keeps-script-costs c.args.volume.now c.run_lines.new.service _ _ _ c.run_lines.result c.run_lines.ensures.runs

@@ -1,0 +1,56 @@
+//! A volume that serves scripts.
+ghost use Rattle.f11_fcp.specs.Lists.{ServesCall};
+ghost use Rattle.f11_fcp.specs.Serving.{StaysAccepted, state_in};
+ghost use Rattle.f11_serving.specs.Scripts.{KeepsScriptCosts, ServesScriptRun};
+ghost use Rattle.f11_serving.specs.Serving.{RunsScript};
+
+use crate::script::run_lines;
+use crate::serves::Serves;
+use f11_bytes::Block;
+use f11_dev::Device;
+use f11_fcp::Volume;
+use f11_script::ScriptError;
+use f11_store::{Refusal, Reply, Request, Task, Uic};
+use std::io::{Read, Write};
+
+/// A volume serves a request as [`Volume::serve`] does.
+impl<D: Device> Serves for Volume<D> {
+    ghost served = { ServesCall };
+
+    fn serve(
+        &mut self,
+        task: Task,
+        caller: Uic,
+        request: &Request,
+        block: &mut Block,
+    ) -> Result<Reply, Refusal> {
+        Volume::serve(self, task, caller, request, block)
+    }
+}
+
+/// Serves the requests of a script, one line after another, and gives their number, refused ones too (profile).
+///
+/// An empty line and a comment are passed over, a bad line is answered `bad line`, and a request is served and answered before
+/// the next line is read. The first request is lent a block of zeros, each later one the block as the last one left it. It
+/// takes no memory but what `GrowIndex` takes. A request that fails the volume ends nothing: the later ones are answered so.
+///
+/// # Errors
+///
+/// [`ScriptError::ReadFault`] where the reader fails, and [`ScriptError::TooLong`] at byte 16,777,217: then each whole line
+/// before that was served, and its answer written. [`ScriptError::WriteFault`] where the writer fails: then each line up to
+/// one was served, and all answers written but some last bytes of that one's.
+pub fn run_script<D: Device, R: Read + Drop, W: Write>(
+    reader: R,
+    writer: &mut W,
+    volume: &mut Volume<D>,
+) -> Result<u32, ScriptError>
+    ensures serves { RunsScript ServesCall (R.remaining reader) volume.old volume.new
+        (W.contents writer.old) (W.contents writer.new) result }
+    ensures run { ServesScriptRun volume.old volume.new (R.remaining reader)
+        (W.contents writer.old) (W.contents writer.new) result }
+    ensures costs { KeepsScriptCosts volume.old volume.new (R.remaining reader)
+        (W.contents writer.old) (W.contents writer.new) result }
+    ensures accepted { StaysAccepted (state_in volume.new) }
+{
+    run_lines(reader, writer, volume)
+}
