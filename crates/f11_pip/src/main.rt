@@ -83,7 +83,8 @@ fn told(
     outcome
 }
 
-/// Does what the words ask for. Standard output is written in pieces of 8 KiB, the last one here.
+/// Does what the words ask for. Standard output is written in pieces of 8 KiB, the last one here; a failure of the work is told
+/// rather than one of that last piece.
 fn answer(rt: &HostRuntime, words: &[String]) -> Result<Answer, Failure> {
     let mut writer = BufWriter::new(rt.alloc(), io::writer(rt)).map_err(failure_of)?;
     let outcome = if help::is_asked(words) {
@@ -93,8 +94,14 @@ fn answer(rt: &HostRuntime, words: &[String]) -> Result<Answer, Failure> {
     } else {
         words::parse(rt.alloc(), words).and_then(|words| run(rt, words, &mut writer))
     };
-    writer.flush()?;
-    outcome
+    let written = writer.flush();
+    match outcome {
+        Ok(_) | Err(Failure::Usage) => {
+            written?;
+            outcome
+        }
+        Err(_) => outcome,
+    }
 }
 
 /// Opens the files that the words name, in their order, and does the work.
