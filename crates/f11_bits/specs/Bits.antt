@@ -1,7 +1,18 @@
 -- The bits of one bitmap block.
-use Rattle.std.specs.Prelude.{ℕ, Bool, ◌&&◌, nat_lt, List}
+use Rattle.std.specs.Prelude.{◌≡◌, ℕ, ◌<◌, ◌≤◌, Bool, true, false, ◌&&◌, nat_lt, List}
 use Rattle.f11_bytes.specs.Bits.{bit}
 
 -- bit k is 1 and below the end
 abbrev pub bit_below : List ℕ → ℕ → ℕ → Bool
 bit_below b end k = nat_lt k end && bit b k
+
+-- no bit from `start` on, before `end`, is 1
+abbrev pub NoneWithin : (ℕ → Bool) → ℕ → ℕ → Type 0
+NoneWithin set start end = (k : ℕ) → start ≤ k → k < end → set k ≡ false
+
+-- The first bit from `start` on, before `end`, that is 1.
+pub record IsFirstSet (set : ℕ → Bool) (start end k : ℕ) : Type 0 where
+  pub above : start ≤ k
+  pub below : k < end
+  pub before : NoneWithin set start k
+  pub is_set : set k ≡ true

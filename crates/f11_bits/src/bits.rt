@@ -4,7 +4,7 @@ ghost use Rattle.std.specs.Prelude.{◌≡◌, ℕ, ◌+◌, ◌<◌, ◌≤◌,
 ghost use Rattle.f11_bytes.specs.Bits.{bit};
 ghost use Rattle.f11_bytes.specs.Words.{word_sum as sum_of_words};
 ghost use Rattle.f11_bits.specs.Bitmap.{count_below};
-ghost use Rattle.f11_bits.specs.Bits.{bit_below};
+ghost use Rattle.f11_bits.specs.Bits.{bit_below, IsFirstSet, NoneWithin};
 ghost use Rattle.f11_bits.specs.Run.{IsFirstRun, NoneFrom};
 
 use f11_bytes::{Block, is_set, set_bit, sum_words};
@@ -29,9 +29,36 @@ pub fn first_run(block: &Block, from: u32, most: u32) -> Option<(u32, u32)>
     ensures run { MatchOption result (NoneFrom (bit_below block.now 4096) from)
         (λ run. IsFirstRun (bit_below block.now 4096) from most run.0 run.1) }
 {
-    for k in from..BITS {
+    match first_set(block, from) {
+        Some(k) => Some((k, run_length(block, k, most.min(LONGEST), BITS))),
+        None => None,
+    }
+}
+
+/// The first bit at or above `from` that is 1. Bytes of zeros are passed over.
+fn first_set(block: &Block, from: u32) -> Option<u32>
+    ensures { MatchOption result (NoneFrom (bit_below block.now 4096) from)
+        (λ k. IsFirstSet (bit_below block.now 4096) from 4096 k) }
+{
+    for byte in from / 8..BITS / 8 {
+        if block[byte as usize] != 0
+            && let Some(k) = first_set_in(block, from.max(8 * byte), 8 * byte + 8)
+        {
+            return Some(k);
+        }
+    }
+    None
+}
+
+/// The first bit from `start` on, before `end`, that is 1.
+fn first_set_in(block: &Block, start: u32, end: u32) -> Option<u32>
+    requires { end ≤ 4096 }
+    ensures { MatchOption result (NoneWithin (bit_below block.now 4096) start end)
+        (λ k. IsFirstSet (bit_below block.now 4096) start end k) }
+{
+    for k in start..end {
         if is_set(block, k) {
-            return Some((k, run_length(block, k, most.min(LONGEST), BITS)));
+            return Some(k);
         }
     }
     None

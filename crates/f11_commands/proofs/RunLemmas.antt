@@ -1,5 +1,5 @@
 -- A script that is served on an image.
-use Rattle.std.proofs.Common.{◌≡◌, inl, inr, ℕ, ◌&&◌, not, Bool, true, false, List, Option, Result, Ok, Err, refl, sym, ◌∙◌, ap, subst, arith}
+use Rattle.std.proofs.Common.{◌≡◌, ◌⊎◌, inl, inr, ℕ, ◌&&◌, not, Bool, true, false, List, Option, Result, Ok, Err, refl, sym, ◌∙◌, ap, subst, arith}
 use Rattle.f11_dev.specs.Disk.{Disk}
 use Rattle.f11_dev.specs.Image.{Image}
 use Rattle.f11_dev.specs.Looked.{Looked}
@@ -17,9 +17,10 @@ use Rattle.f11_serving.specs.Scripts.{ServesScriptRun}
 use Rattle.f11_serving.specs.Serving.{RunsScript}
 use Rattle.f11_serving.proofs.VolumeLemmas.{KeepsVolume, script-keeps-volume}
 use Rattle.f11_store.specs.Store.{Store}
-use Rattle.f11_commands.specs.RunCommand.{EndsRun, EndsServing, ServesImage, WritesNothing, outcome_of}
+use Rattle.f11_commands.specs.RunCommand.{EndsRun, EndsServing, HasFaults, ServesImage, WritesNothing, outcome_of}
 use Rattle.f11_commands.specs.declared.outcome.Answer.{Answer}
 use Rattle.f11_commands.specs.declared.outcome.Answer.TheVariants.{Done, Fault}
+use Rattle.f11_commands.specs.declared.outcome.Failure.{Failure}
 use Rattle.f11_commands.specs.declared.outcome.Failure.TheVariants.{DeviceFault, NoMemory, CannotWrite}
 use Rattle.f11_commands.specs.declared.run.RunFailure.{RunFailure}
 use Rattle.f11_commands.specs.declared.run.RunFailure.TheVariants.{Command, Script}
@@ -58,18 +59,19 @@ module _ {D W : Type 0} {met : Ghosts D} (disk : Disk) (first last : Volume D me
           (subst (λ (s : Store). RunsScript Steps remaining (store_of_volume first) s (contents before) (contents after) result) last-is (run sound same));
     }
 
-    by-outcome : (spent : Bool) → EndsServing (outcome_of spent result) remaining disk (state_in last).disk contents before after
+    by-outcome : (spent : Bool) → is_spent last ≡ spent → EndsServing (outcome_of spent result) remaining disk (state_in last).disk contents before after
     by-outcome = ends result serves-image
       where
-        ends : (r : Result ℕ ScriptError) → ServesImage r remaining disk (state_in last).disk contents before after → (spent : Bool) → EndsServing (outcome_of spent r) remaining disk (state_in last).disk contents before after
-        ends r s true = inr (r, s)
-        ends (Ok count) s false = (count, s)
-        ends (Err e) s false = s
+        ends : (r : Result ℕ ScriptError) → ServesImage r remaining disk (state_in last).disk contents before after → (spent : Bool) → is_spent last ≡ spent
+            → EndsServing (outcome_of spent r) remaining disk (state_in last).disk contents before after
+        ends r s true is = (inr (r, s), λ honest. let more = kept.more (mounts.looked.honest ∙ honest) mounts.fresh is in omega (arith, more, mounts.looked.failures))
+        ends (Ok count) s false is = (count, s, omega (arith, kept.same is, mounts.looked.failures))
+        ends (Err e) s false is = (s, omega (arith, kept.same is, mounts.looked.failures))
 
     pub ends-serving : (new : Disk) (told : Result Answer RunFailure) → new ≡ (state_in last).disk → told ≡ outcome_of (is_spent last) result → EndsServing told remaining disk new contents before after
     ends-serving new told at is =
         subst (λ t. EndsServing t remaining disk new contents before after) (sym is)
-        (subst (λ (d : Disk). EndsServing (outcome_of (is_spent last) result) remaining disk d contents before after) (sym at) (by-outcome (is_spent last)))
+        (subst (λ (d : Disk). EndsServing (outcome_of (is_spent last) result) remaining disk d contents before after) (sym at) (by-outcome (is_spent last) refl))
 
 -- an image that was looked over first
 module _ {W : Type 0} (remaining : Option (List ℕ)) (contents : W → Option (List ℕ)) (before after : W) (old mid new : Disk) (n : ℕ) (looked : Looked old mid n 0) where
@@ -89,10 +91,20 @@ module _ {W : Type 0} (remaining : Option (List ℕ)) (contents : W → Option (
   nothing-behind w = record { image = w.image ∙ looked.image; history = w.history ∙ looked.history; written = w.written }
 
   pub ends-behind : (told : Result Answer RunFailure) → EndsServing told remaining mid new contents before after → EndsRun told remaining old new contents before after
-  ends-behind (Ok Done) h = (h.0, serves-behind (Ok h.0) h.1)
+  ends-behind (Ok Done) h = (h.0, serves-behind (Ok h.0) h.1, omega (arith, h.2, looked.failures))
   ends-behind (Ok Fault) h = absurd h
-  ends-behind (Err (Script e)) h = serves-behind (Err e) h
-  ends-behind (Err (Command DeviceFault)) (inl h) = inl (nothing-behind h)
-  ends-behind (Err (Command DeviceFault)) (inr h) = inr (h.0, serves-behind h.0 h.1)
-  ends-behind (Err (Command NoMemory)) h = nothing-behind h
+  ends-behind (Err (Script e)) h = (serves-behind (Err e) h.0, omega (arith, h.1, looked.failures))
+  ends-behind (Err (Command DeviceFault)) h = (begun h.0, λ honest. let more = h.1 (looked.honest ∙ honest) in omega (arith, more, looked.failures))
+    where
+      begun : WritesNothing mid new contents before after ⊎ ((result : Result ℕ ScriptError) × ServesImage result remaining mid new contents before after)
+          → WritesNothing old new contents before after ⊎ ((result : Result ℕ ScriptError) × ServesImage result remaining old new contents before after)
+      begun (inl w) = inl (nothing-behind w)
+      begun (inr s) = inr (s.0, serves-behind s.0 s.1)
+  ends-behind (Err (Command NoMemory)) h = (nothing-behind h.0, omega (arith, h.1, looked.failures))
   ends-behind (Err (Command CannotWrite)) h = absurd h
+
+-- an image with faults whose report wasn't written to its end
+pub ends-unwritten : {W : Type 0} (remaining : Option (List ℕ)) (contents : W → Option (List ℕ)) (before after : W) (old new : Disk) (run : RunFailure) (failure : Failure)
+    → run ≡ Command failure → failure ≡ CannotWrite → HasFaults old new → EndsRun (Err run) remaining old new contents before after
+ends-unwritten remaining contents before after old new run failure is failed h =
+    subst (λ (r : RunFailure). EndsRun (Err r) remaining old new contents before after) (sym (is ∙ ap Command failed)) h

@@ -1,7 +1,8 @@
 -- What `run` does to an image, and what it writes (profile).
-use Rattle.std.specs.Prelude.{◌≡◌, ◌⊎◌, ℕ, Bool, true, false, IsTrue, List, Option, Result, Ok, Err}
+use Rattle.std.specs.Prelude.{◌≡◌, ◌≢◌, ◌⊎◌, ℕ, ◌<◌, Bool, true, false, IsTrue, List, [], Option, Result, Ok, Err}
 use Rattle.std.specs.Io.KnownBytes.{Keeps}
 use Rattle.f11_dev.specs.Disk.{Disk}
+use Rattle.f11_findings.specs.declared.finding.Finding.{Finding}
 use Rattle.f11_home.specs.Home.{HomeFields, IsHomeOf}
 use Rattle.f11_fcp.specs.Accesses.{Table, held_in, no_entries}
 use Rattle.f11_files.specs.StoreOf.{store_of}
@@ -15,7 +16,7 @@ use Rattle.f11_commands.specs.declared.outcome.Failure.TheVariants.{DeviceFault,
 use Rattle.f11_commands.specs.declared.run.RunFailure.{RunFailure}
 use Rattle.f11_commands.specs.declared.run.RunFailure.TheVariants.{Command, Script}
 use Rattle.f11_vfy.specs.Verdict.{IsAccepted}
-use Rattle.f11_vfy.specs.Verify.{LooksOver}
+use Rattle.f11_vfy.specs.Verify.{Examines}
 
 -- A script was served on an image. Where the disk is honest the image is accepted then; and where no transfer failed, it was served by steps of
 -- the plain store, from that of the image, in which nobody holds an access, to that of the image then, with what tasks held at the end.
@@ -33,21 +34,29 @@ pub record WritesNothing {W : Type 0} (old new : Disk) (contents : W → Option 
   pub history : new.history ≡ old.history
   pub written : Keeps (contents before) (contents after)
 
--- what is told of an accepted image: the script was served; or it was to where it, or its answers, went no further; or a transfer failed, before
--- the script was served or while it was; or there was no memory for the volume
+-- what is told of an accepted image: the script was served, or it was to where it, or its answers, went no further, and no transfer failed; or one
+-- failed on an honest disk, before the script was served or while it was; or there was no memory for the volume
 abbrev pub EndsServing : {W : Type 0} → Result Answer RunFailure → Option (List ℕ) → Disk → Disk → (W → Option (List ℕ)) → W → W → Type 0
-EndsServing (Ok Done) remaining old new contents before after = (count : ℕ) × ServesImage (Ok count) remaining old new contents before after
+EndsServing (Ok Done) remaining old new contents before after =
+    (count : ℕ) × ServesImage (Ok count) remaining old new contents before after × (new.failures ≡ old.failures)
 EndsServing (Ok Fault) remaining old new contents before after = ⊥
-EndsServing (Err (Script e)) remaining old new contents before after = ServesImage (Err e) remaining old new contents before after
+EndsServing (Err (Script e)) remaining old new contents before after =
+    ServesImage (Err e) remaining old new contents before after × (new.failures ≡ old.failures)
 EndsServing (Err (Command DeviceFault)) remaining old new contents before after =
-    WritesNothing old new contents before after ⊎ ((result : Result ℕ ScriptError) × ServesImage result remaining old new contents before after)
-EndsServing (Err (Command NoMemory)) remaining old new contents before after = WritesNothing old new contents before after
+    (WritesNothing old new contents before after ⊎ ((result : Result ℕ ScriptError) × ServesImage result remaining old new contents before after))
+    × (IsTrue old.honest → old.failures < new.failures)
+EndsServing (Err (Command NoMemory)) remaining old new contents before after =
+    WritesNothing old new contents before after × (new.failures ≡ old.failures)
 EndsServing (Err (Command CannotWrite)) remaining old new contents before after = ⊥
+
+-- a report wasn't written to its end: the image was verified, and has faults
+abbrev pub HasFaults : Disk → Disk → Type 0
+HasFaults old new = (faults : List Finding) × (notes : List Finding) × Examines faults notes old new × (faults ≢ [])
 
 -- and of any: that too; or it has faults, and its report was written; or the writer took no more of that
 abbrev pub EndsRun : {W : Type 0} → Result Answer RunFailure → Option (List ℕ) → Disk → Disk → (W → Option (List ℕ)) → W → W → Type 0
 EndsRun (Ok Fault) remaining old new contents before after = PrintsReport false old new contents before after
-EndsRun (Err (Command CannotWrite)) remaining old new contents before after = LooksOver old new 0
+EndsRun (Err (Command CannotWrite)) remaining old new contents before after = HasFaults old new
 EndsRun told remaining old new contents before after = EndsServing told remaining old new contents before after
 
 -- how a script ended that a volume served, which a request has failed or not

@@ -40,9 +40,10 @@ impl From<Failure> for RunFailure {
 ///
 /// # Errors
 ///
-/// [`Failure::DeviceFault`] where a transfer failed, a request's too: then all lines were served and answered, but with the
-/// later requests refused. [`Failure::NoMemory`] where there was no memory, and [`Failure::CannotWrite`] where the writer
-/// takes no more of a report. Any [`ScriptError`] where the script couldn't be served further.
+/// [`Failure::DeviceFault`] where a transfer failed, before the script was served or in a request, behind which each is
+/// answered `VolumeFailed`; also where a device that isn't honest gave what no accepted volume has. [`Failure::NoMemory`] where
+/// there was no memory for the volume, and [`Failure::CannotWrite`] where the writer takes no more of a report. Any
+/// [`ScriptError`] where the script couldn't be served further and no transfer failed.
 pub fn print_run<D: Device, R: Read + Drop, W: Write>(
     alloc: Global,
     device: D,
@@ -54,10 +55,12 @@ pub fn print_run<D: Device, R: Read + Drop, W: Write>(
 {
     match verify(alloc, device) {
         Ok(Report::Accepted(accepted, _)) => serve(alloc, accepted, script, writer),
-        Ok(Report::Faulty(device, faults, notes)) => (
-            device,
-            write_faulty(writer, &faults, &notes).map_err(RunFailure::from),
-        ),
+        Ok(Report::Faulty(device, faults, notes)) => {
+            match write_faulty(writer, &faults, &notes) {
+                Ok(answer) => (device, Ok(answer)),
+                Err(failure) => (device, Err(failure.into())),
+            }
+        }
         Err(VfyError::DeviceFault(device)) => (device, Err(Failure::DeviceFault.into())),
         Err(VfyError::NoMemory(device)) => (device, Err(Failure::NoMemory.into())),
     }

@@ -62,14 +62,25 @@ const COMMANDS: [Synopsis; 10] = [
 ];
 
 /// Whether the words, of which the first is the program's name, ask for help: by `help` in a command's place, or by
-/// `--help` or `-h` there or behind a command.
+/// `--help` or `-h` there or behind a command, before a word `--`.
 pub fn is_asked(words: &[String]) -> bool {
     match words {
-        [_, first, rest @ ..] => {
-            first.as_str() == "help" || is_help(first) || rest.iter().any(is_help)
-        }
+        [_, first, rest @ ..] => first.as_str() == "help" || is_help(first) || has_help(rest),
         _ => false,
     }
+}
+
+/// Whether a word before `--` asks for help. Behind it each word is taken as it is.
+fn has_help(words: &[String]) -> bool {
+    for word in words {
+        if word.as_str() == "--" {
+            return false;
+        }
+        if is_help(word) {
+            return true;
+        }
+    }
+    false
 }
 
 fn is_help(word: &String) -> bool {

@@ -1,4 +1,4 @@
--- Stores as a mounted volume's, whatever tasks ask of it (profile).
+-- Stores whose accesses and slots are right, and stay so whatever tasks ask (profile).
 use Rattle.std.specs.Prelude.{◌≡◌, ◌≢◌, ℕ, ◌<◌, Bool, true, false, List, [], ◌∷◌, take, Option, Some, None}
 use Rattle.f11_store.specs.declared.requests.Request.{Request}
 use Rattle.f11_store.specs.declared.requests.Request.TheVariants as request

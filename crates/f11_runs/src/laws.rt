@@ -19,7 +19,7 @@ pub fn steps()
     ensures kept { laws.KeptAlong }
 {}
 
-/// A store that stands, as a mounted volume's does, stands after each step and all along a list.
+/// A store that stands does so after each step and all along a list.
 pub fn standing()
     ensures first { laws.UnaccessedStands }
     ensures step { laws.StepStands }

@@ -1,5 +1,5 @@
 -- The text of an answer (profile).
-use Rattle.std.specs.Prelude.{ℕ, ◌/◌, ◌%◌, ◌==◌, false, List, [], ◌∷◌, ◌++◌, length, take, Option, Result, Ok, Err, codes, slice_index, if◌then◌else◌}
+use Rattle.std.specs.Prelude.{ℕ, ◌/◌, ◌%◌, ◌==◌, ◌<◌, false, List, [], ◌∷◌, ◌++◌, length, take, Option, Result, Ok, Err, codes, slice_index, if◌then◌else◌}
 use Rattle.std.specs.Fmt.{decimal, digit_glyph}
 use Rattle.std.specs.Io.KnownBytes.{Appends}
 use Rattle.std.specs.List.{flat_map}
@@ -93,6 +93,6 @@ answer_line r block answer = answer_text r block answer ++ 10 ∷ []
 abbrev pub bad_line_text : List ℕ
 bad_line_text = codes "bad line" ++ 10 ∷ []
 
--- some first bytes of a text were written
+-- some first bytes of a text were written, and not all
 abbrev pub AppendsSome : Option (List ℕ) → Option (List ℕ) → List ℕ → Type 0
-AppendsSome old new text = (n : ℕ) × Appends old new (take n text)
+AppendsSome old new text = (n : ℕ) × (n < length text) × Appends old new (take n text)

@@ -39,13 +39,14 @@ read-more (Some xs) (Some ys) (Some zs) read n m given h t = (
 )
 
 read-all : (a b c : Option (List ℕ)) (read : List (List ℕ)) (n m : ℕ) (given : List ℕ) → ReadTo a b read n → TakesNone b c n m given →
-    IfSome a (λ xs. (lines xs ≡ read) × (c ≡ Some []))
+    IfSome a (λ xs. (lines xs ≡ read) × (c ≡ Some []) × (length xs ≡ m))
 read-all None b c read n m given h t = tt
 read-all (Some xs) None c read n m given h t = absurd h
 read-all (Some xs) (Some ys) None read n m given h t = absurd t.kept
 read-all (Some xs) (Some ys) (Some zs) read n m given h t = (
   h.2 ∙ ap (λ r. read ++ lines r) t.at_end ∙ append-nil read,
   ap (λ r. Some r) (t.kept ∙ t.at_end),
+  omega (arith, ap length h.1, length-append h.0 ys, ap length t.at_end, h.3, t.number),
 )
 
 read-part : (a b c : Option (List ℕ)) (read : List (List ℕ)) (n m : ℕ) → ReadTo a b read n → TakesNoLine b c n m → Reads a c read m
@@ -115,34 +116,39 @@ so-far-more S a b c old v u block block' w0 w w' count n m given text number mor
     })
 
 pub so-far-ends : {V : Type 0} (S : Service V) (a b : Option (List ℕ)) (place : Place) (old v : V) (block : List ℕ) (w0 w : Option (List ℕ))
-    (count n m : ℕ) (given : List ℕ) → SoFar S a b old v block w0 w count n → TakesNone b place.left n m given → Finishes S a place old v w0 w count
-so-far-ends S a b place old v block w0 w count n m given h t = record {
+    (count n : ℕ) (given : List ℕ) → SoFar S a b old v block w0 w count n → TakesNone b place.left n place.count given → place.count ≤ 16777216 →
+    Finishes S a place old v w0 w count
+so-far-ends S a b place old v block w0 w count n given h t few = record {
   read = h.read;
-  all = read-all a b place.left h.read n m given h.to t;
+  all = read-all a b place.left h.read n place.count given h.to t;
+  few = few;
   answers = record { text = h.text; block = block; serves = h.serves; wrote = h.wrote };
 }
 
 so-far-stops : {V : Type 0} (S : Service V) (a b : Option (List ℕ)) (place : Place) (old v : V) (block : List ℕ) (w0 w : Option (List ℕ))
-    (count n : ℕ) → SoFar S a b old v block w0 w count n → TakesNoLine b place.left n place.count → StopsReading S a place old v w0 w
-so-far-stops S a b place old v block w0 w count n h t = record {
+    (count n : ℕ) → SoFar S a b old v block w0 w count n → TakesNoLine b place.left n place.count → place.count ≤ 16777216 →
+    StopsReading S a place old v w0 w
+so-far-stops S a b place old v block w0 w count n h t few = record {
   read = h.read;
   reads = read-part a b place.left h.read n place.count h.to t;
+  few = few;
   count = count;
   answers = record { text = h.text; block = block; serves = h.serves; wrote = h.wrote };
 }
 
 pub so-far-fails : {V : Type 0} (S : Service V) (a b : Option (List ℕ)) (place : Place) (old v : V) (block : List ℕ) (w0 w : Option (List ℕ))
     (count n : ℕ) (e : ScriptError) → SoFar S a b old v block w0 w count n → TakesNoLine b place.left n place.count × IsReadError e place.count place.hand →
-    (0 < place.hand → HasByte place.left) → ServesScript S a place old v w0 w (Err e)
-so-far-fails S a b place old v block w0 w count n ReadFault h t has = (so-far-stops S a b place old v block w0 w count n h t.0, t.1)
-so-far-fails S a b place old v block w0 w count n TooLong h t has =
-    (so-far-stops S a b place old v block w0 w count n h t.0, t.1.0, t.1.1, has t.1.1)
-so-far-fails S a b place old v block w0 w count n WriteFault h t has = absurd t.1
+    (0 < place.hand → HasByte place.left) → place.count ≤ 16777216 → ServesScript S a place old v w0 w (Err e)
+so-far-fails S a b place old v block w0 w count n ReadFault h t has few = (so-far-stops S a b place old v block w0 w count n h t.0 few, t.1)
+so-far-fails S a b place old v block w0 w count n TooLong h t has few =
+    (so-far-stops S a b place old v block w0 w count n h t.0 few, t.1.0, t.1.1, has t.1.1)
+so-far-fails S a b place old v block w0 w count n WriteFault h t has few = absurd t.1
 
 so-far-breaks : {V : Type 0} (S : Service V) (a b : Option (List ℕ)) (place : Place) (old v u : V) (block block' : List ℕ) (w0 w w' : Option (List ℕ))
     (count n : ℕ) (given text : List ℕ) (number : ℕ) → SoFar S a b old v block w0 w count n → TakesLine b place.left n place.count given →
-    ServesLines S (given ∷ []) v block text number u block' → AppendsSome w w' text → StopsWriting S a place old u w0 w'
-so-far-breaks S a b place old v u block block' w0 w w' count n given text number h t serves wrote = record {
+    ServesLines S (given ∷ []) v block text number u block' → AppendsSome w w' text → place.count ≤ 16777216 → StopsWriting S a place old u w0 w'
+so-far-breaks S a b place old v u block block' w0 w w' count n given text number h t serves wrote few = record {
+  few = few;
   read = h.read;
   last = t.line;
   reads = read-whole a place.left (h.read ++ t.line ∷ []) place.count (read-more a b place.left h.read n place.count given h.to t);
@@ -162,7 +168,7 @@ so-far-breaks S a b place old v u block block' w0 w w' count n given text number
 
 pub so-far-fault : {V : Type 0} (S : Service V) (a b : Option (List ℕ)) (place : Place) (old v u : V) (block block' : List ℕ) (w0 w w' : Option (List ℕ))
     (count n : ℕ) (given : List ℕ) (e : ScriptError) → SoFar S a b old v block w0 w count n → TakesLine b place.left n place.count given →
-    AnswersLine S given v u block block' w w' (Err e) → ServesScript S a place old u w0 w' (Err e)
-so-far-fault S a b place old v u block block' w0 w w' count n given e h t x =
+    AnswersLine S given v u block block' w w' (Err e) → place.count ≤ 16777216 → ServesScript S a place old u w0 w' (Err e)
+so-far-fault S a b place old v u block block' w0 w w' count n given e h t x few =
     subst (λ (k : ScriptError). ServesScript S a place old u w0 w' (Err k)) (sym x.4)
-    (so-far-breaks S a b place old v u block block' w0 w w' count n given x.0 x.1 h t x.2 x.3)
+    (so-far-breaks S a b place old v u block block' w0 w w' count n given x.0 x.1 h t x.2 x.3 few)

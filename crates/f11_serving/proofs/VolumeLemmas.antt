@@ -1,12 +1,16 @@
 -- Scripts that a volume serves: a run of its store, and its transfers.
-use Rattle.std.proofs.Common.{◌≡◌, ℕ, ◌+◌, ◌≤◌, Bool, true, false, IsTrue, List, [], ◌∷◌, Option, Result, Ok, Err, refl, ◌∙◌, ap, arith}
+use Rattle.std.proofs.Common.{◌≡◌, ℕ, ◌+◌, ◌<◌, ◌≤◌, ◌||◌, Bool, true, false, IsTrue, List, [], ◌∷◌, Option, Result, Ok, Err, refl, sym, ◌∙◌, ap, arith}
 use Rattle.f11_dev.specs.declared.device.Device.{Ghosts}
 use Rattle.f11_store.specs.Run.{Call, Answer}
+use Rattle.f11_store.specs.declared.refusals.Refusal.{Refusal}
+use Rattle.f11_store.specs.declared.refusals.Refusal.TheVariants.{DeviceFault, Damaged}
+use Rattle.f11_store.specs.declared.requests.Reply.{Reply}
+use Rattle.f11_files.specs.Answers.{is_grave, is_refused}
 use Rattle.f11_runs.specs.Each.{Adds, IsSeenAs, Steps}
 use Rattle.f11_script.specs.declared.errors.ScriptError.{ScriptError}
 use Rattle.f11_script.specs.declared.errors.ScriptError.TheVariants.{ReadFault, WriteFault, TooLong}
 use Rattle.f11_fcp.specs.Lists.{ServesCall, cost_of, failures_of, is_sound, store_of_volume, transfers_of}
-use Rattle.f11_fcp.specs.Handles.{State}
+use Rattle.f11_fcp.specs.Handles.{State, faults_in, is_damage}
 use Rattle.f11_fcp.specs.Serving.{is_spent, state_in}
 use Rattle.f11_fcp.specs.declared.volume.Volume.{Volume}
 use Rattle.f11_fcp.proofs.ListLemmas.{grows, seen-as-steps}
@@ -28,10 +32,10 @@ module _ {V W : Type 0} (S : Service V) (T : Service W) (view : V → W) (failur
     }
 
     reading-seen : (place : Place) → StopsReading S bytes place old new written written' → StopsReading T bytes place (view old) (view new) written written'
-    reading-seen place s = record { read = s.read; reads = s.reads; count = s.count; answers = answers-seen s.read s.count s.answers }
+    reading-seen place s = record { read = s.read; reads = s.reads; few = s.few; count = s.count; answers = answers-seen s.read s.count s.answers }
 
     pub script-seen : (result : Result ℕ ScriptError) → RunsScript S bytes old new written written' result → RunsScript T bytes (view old) (view new) written written' result
-    script-seen (Ok count) h = (h.0, record { read = h.1.read; all = h.1.all; answers = answers-seen h.1.read count h.1.answers })
+    script-seen (Ok count) h = (h.0, record { read = h.1.read; all = h.1.all; few = h.1.few; answers = answers-seen h.1.read count h.1.answers })
     script-seen (Err ReadFault) h = (h.0, (reading-seen h.0 h.1.0, h.1.1))
     script-seen (Err TooLong) h = (h.0, (reading-seen h.0 h.1.0, h.1.1, h.1.2, h.1.3))
     script-seen (Err WriteFault) h =
@@ -45,6 +49,7 @@ module _ {V W : Type 0} (S : Service V) (T : Service W) (view : V → W) (failur
             read = s.read;
             last = s.last;
             reads = s.reads;
+            few = s.few;
             count = s.count;
             between = view s.between;
             block = s.block;
@@ -94,13 +99,13 @@ module _ {V : Type 0} (S : Service V) (cost : V → Call → ℕ) (measure : V �
     script-costs (Ok count) h =
         let a = h.1.answers in
         let c = costs-from S cost measure P rises h.1.read old new 0 zeros a.block a.text count a.serves in
-        (c.most, (h.0, record { read = h.1.read; all = h.1.all; answers = record { text = a.text; block = a.block; serves = c.serves; wrote = a.wrote } }), λ p. omega (arith, (c.bound p).0))
+        (c.most, (h.0, record { read = h.1.read; all = h.1.all; few = h.1.few; answers = record { text = a.text; block = a.block; serves = c.serves; wrote = a.wrote } }), λ p. omega (arith, (c.bound p).0))
     script-costs (Err ReadFault) h =
         let s = h.1.0 in
         let a = s.answers in
         let c = costs-from S cost measure P rises s.read old new 0 zeros a.block a.text s.count a.serves in (
           c.most,
-          (h.0, (record { read = s.read; reads = s.reads; count = s.count; answers = record { text = a.text; block = a.block; serves = c.serves; wrote = a.wrote } }, h.1.1)),
+          (h.0, (record { read = s.read; reads = s.reads; few = s.few; count = s.count; answers = record { text = a.text; block = a.block; serves = c.serves; wrote = a.wrote } }, h.1.1)),
           λ p. omega (arith, (c.bound p).0),
         )
     script-costs (Err TooLong) h =
@@ -108,7 +113,7 @@ module _ {V : Type 0} (S : Service V) (cost : V → Call → ℕ) (measure : V �
         let a = s.answers in
         let c = costs-from S cost measure P rises s.read old new 0 zeros a.block a.text s.count a.serves in (
           c.most,
-          (h.0, (record { read = s.read; reads = s.reads; count = s.count; answers = record { text = a.text; block = a.block; serves = c.serves; wrote = a.wrote } }, h.1.1, h.1.2, h.1.3)),
+          (h.0, (record { read = s.read; reads = s.reads; few = s.few; count = s.count; answers = record { text = a.text; block = a.block; serves = c.serves; wrote = a.wrote } }, h.1.1, h.1.2, h.1.3)),
           λ p. omega (arith, (c.bound p).0),
         )
     script-costs (Err WriteFault) h =
@@ -122,6 +127,7 @@ module _ {V : Type 0} (S : Service V) (cost : V → Call → ℕ) (measure : V �
               read = s.read;
               last = s.last;
               reads = s.reads;
+              few = s.few;
               count = s.count;
               between = record { value = s.between; sum = first.most };
               block = s.block;
@@ -139,28 +145,91 @@ module _ {V : Type 0} (S : Service V) (cost : V → Call → ℕ) (measure : V �
           λ p. let one = first.bound p in omega (arith, one.0, (then.bound one.1).0),
         )
 
--- the home block, and whether the disk is honest
+-- what fails the volume is a transfer that failed, on an honest disk
+light-none : (result : Result Reply Refusal) → is_refused is_grave result ≡ false → faults_in result ≡ 0
+light-none (Ok reply) light = refl
+light-none (Err DeviceFault) light = absurd (let never : true ≡ false = light in cc)
+light-none (Err _) light = refl
+
+grave-one : (result : Result Reply Refusal) → is_refused is_grave result ≡ true → is_refused is_damage result ≡ false → faults_in result ≡ 1
+grave-one (Ok reply) grave undamaged = absurd (let never : false ≡ true = grave in cc)
+grave-one (Err DeviceFault) grave undamaged = refl
+grave-one (Err Damaged) grave undamaged = absurd (let never : true ≡ false = undamaged in cc)
+grave-one (Err _) grave undamaged = absurd (let never : false ≡ true = grave in cc)
+
+-- the home block and whether the disk is honest stay; once a request has failed the volume that stays so; while none has no transfer fails, and
+-- where one does a transfer failed, on an honest disk
 module _ {D : Type 0} {met : Ghosts D} where
   pub record KeepsVolume (v w : Volume D met) : Type 0 where
     pub home : (state_in w).home ≡ (state_in v).home
     pub honest : (state_in w).disk.honest ≡ (state_in v).disk.honest
+    pub spent : is_spent v ≡ true → is_spent w ≡ true
+    pub rises : failures_of v ≤ failures_of w
+    pub same : is_spent w ≡ false → failures_of w ≡ failures_of v
+    pub more : IsTrue (state_in v).disk.honest → is_spent v ≡ false → is_spent w ≡ true → failures_of v < failures_of w
 
   call-keeps : (v w : Volume D met) (c : Call) (a : Answer) → ServesCall v c a w → KeepsVolume v w
   call-keeps v w c a served = by_spent (is_spent v) refl
     where
       by_spent : (b : Bool) → is_spent v ≡ b → KeepsVolume v w
       by_spent true is =
-          let same = (served.serving.untouched is).0 in
-          record { home = ap (λ (x : State). x.home) same; honest = ap (λ (x : State). x.disk.honest) same }
+          let state = (served.serving.untouched is).0 in
+          let failures : failures_of w ≡ failures_of v = ap (λ (x : State). x.disk.failures) state in
+          record {
+            home = ap (λ (x : State). x.home) state;
+            honest = ap (λ (x : State). x.disk.honest) state;
+            spent = λ _. served.serving.next ∙ ap (λ b. b || is_refused is_grave a.result) is;
+            rises = omega (arith, failures);
+            same = λ _. failures;
+            more = λ _ alive _. absurd (let never : true ≡ false = sym is ∙ alive in cc);
+          }
       by_spent false is =
           let handled = served.serving.handled is in
-          record { home = handled.home; honest = handled.writes.went.honest }
+          let next : is_spent w ≡ is_refused is_grave a.result = served.serving.next ∙ ap (λ b. b || is_refused is_grave a.result) is in
+          record {
+            home = handled.home;
+            honest = handled.writes.went.honest;
+            spent = λ was. absurd (let never : false ≡ true = sym is ∙ was in cc);
+            rises = omega (arith, handled.writes.went.failures);
+            same = λ alive. omega (arith, handled.writes.went.failures, light-none a.result (sym next ∙ alive));
+            more = λ honest _ failed. omega (arith, handled.writes.went.failures, grave-one a.result (sym next ∙ failed) (handled.undamaged honest));
+          }
+
+  volume-self : (v : Volume D met) → KeepsVolume v v
+  volume-self v = record {
+    home = refl;
+    honest = refl;
+    spent = λ was. was;
+    rises = omega arith;
+    same = λ _. refl;
+    more = λ _ alive failed. absurd (let never : false ≡ true = sym alive ∙ failed in cc);
+  }
+
+  volume-trans : (u v w : Volume D met) → KeepsVolume u v → KeepsVolume v w → KeepsVolume u w
+  volume-trans u v w one then = record {
+    home = then.home ∙ one.home;
+    honest = then.honest ∙ one.honest;
+    spent = λ was. then.spent (one.spent was);
+    rises = omega (arith, one.rises, then.rises);
+    same = λ alive. then.same alive ∙ one.same (alive-before alive);
+    more = λ honest alive failed. by_spent (is_spent v) refl honest alive failed;
+  }
+    where
+      alive-before : is_spent w ≡ false → is_spent v ≡ false
+      alive-before alive = before (is_spent v) refl
+        where
+          before : (b : Bool) → is_spent v ≡ b → is_spent v ≡ false
+          before false is = is
+          before true is = absurd (let never : true ≡ false = sym (then.spent is) ∙ alive in cc)
+
+      by_spent : (b : Bool) → is_spent v ≡ b → IsTrue (state_in u).disk.honest → is_spent u ≡ false → is_spent w ≡ true → failures_of u < failures_of w
+      by_spent true is honest alive failed = let first = one.more honest alive is in omega (arith, first, then.rises)
+      by_spent false is honest alive failed = let second = then.more (one.honest ∙ honest) is failed in omega (arith, one.rises, second)
 
   pub script-keeps-volume : (bytes written written' : Option (List ℕ)) (old new : Volume D met) (result : Result ℕ ScriptError) →
       RunsScript ServesCall bytes old new written written' result → KeepsVolume old new
   script-keeps-volume bytes written written' old new result h =
-      script-keeps ServesCall KeepsVolume (λ v. record { home = refl; honest = refl })
-      (λ u v w one then. record { home = then.home ∙ one.home; honest = then.honest ∙ one.honest }) call-keeps bytes written written' old new result h
+      script-keeps ServesCall KeepsVolume volume-self volume-trans call-keeps bytes written written' old new result h
 
 module _ {D : Type 0} {met : Ghosts D} (old new : Volume D met) (bytes written written' : Option (List ℕ)) (result : Result ℕ ScriptError)
     (runs : RunsScript ServesCall bytes old new written written' result)

@@ -1,5 +1,5 @@
 -- What serving a script tells, whatever it answers (profile).
-use Rattle.std.specs.Prelude.{◌≡◌, ◌≢◌, ℕ, ◌+◌, ◌<◌, ⊤, List, [], ◌∷◌, ◌++◌, length, All, Option, Some, None, IfSome, Bool, true, false, Result, Ok, Err}
+use Rattle.std.specs.Prelude.{◌≡◌, ◌≢◌, ℕ, ◌+◌, ◌<◌, ◌≤◌, ⊤, List, [], ◌∷◌, ◌++◌, length, All, Option, Some, None, IfSome, Bool, true, false, Result, Ok, Err}
 use Rattle.std.specs.Io.KnownBytes.{Appends}
 use Rattle.std.specs.Str.Lines.{lines}
 use Rattle.f11_script.specs.Answers.{AppendsSome}
@@ -40,16 +40,18 @@ pub record Answers {V : Type 0} (S : Service V) (read : List (List ℕ)) (old ne
   pub serves : ServesLines S read old zeros text count new block
   pub wrote : Appends written written' text
 
--- The script was served to its end: all its lines were, and nothing is left.
+-- The script was served to its end: all its lines were, each byte was read, no more of them than a script may have, and nothing is left.
 pub record Finishes {V : Type 0} (S : Service V) (bytes : Option (List ℕ)) (place : Place) (old new : V) (written written' : Option (List ℕ)) (count : ℕ) : Type 0 where
   pub read : List (List ℕ)
-  pub all : IfSome bytes (λ xs. (lines xs ≡ read) × (place.left ≡ Some []))
+  pub all : IfSome bytes (λ xs. (lines xs ≡ read) × (place.left ≡ Some []) × (length xs ≡ place.count))
+  pub few : place.count ≤ 16777216
   pub answers : Answers S read old new written written' count
 
 -- The script could not be read further: each line before that was served.
 pub record StopsReading {V : Type 0} (S : Service V) (bytes : Option (List ℕ)) (place : Place) (old new : V) (written written' : Option (List ℕ)) : Type 0 where
   pub read : List (List ℕ)
   pub reads : Reads bytes place.left read place.count
+  pub few : place.count ≤ 16777216
   pub count : ℕ
   pub answers : Answers S read old new written written' count
 
@@ -59,6 +61,7 @@ pub record StopsWriting {V : Type 0} (S : Service V) (bytes : Option (List ℕ))
   pub read : List (List ℕ)
   pub last : List ℕ
   pub reads : Reads bytes place.left (read ++ last ∷ []) place.count
+  pub few : place.count ≤ 16777216
   pub count : ℕ
   pub between : V
   pub block : List ℕ

@@ -10,14 +10,14 @@ loop-error-init g c = so-far-none _ _ _ _ _ _ refl c.requires.begins
 pub returns-then-not-more : goal.returns-then-not-more
 returns-then-not-more g c =
     let t = rw c.if-not-more.true at c.in-Ok.ensures in
-    record { serves = so-far-ends _ _ _ (place_of g.R.Read.remaining c.read_line.new.self) _ _ _ _ _ _ _ _ _ c.loop-error.invariant t }
+    record { serves = so-far-ends _ _ _ (place_of g.R.Read.remaining c.read_line.new.self) _ _ _ _ _ _ _ _ c.loop-error.invariant t c.read_line.new.self.limited }
 
 pub returns-in-Err : goal.returns-in-Err
 returns-in-Err g c =
     let s = c.read_line.new.self in
     record {
       serves = so-far-fails _ _ _ (place_of g.R.Read.remaining s) _ _ _ _ _ _ _ c.in-Err.error c.loop-error.invariant c.in-Err.ensures
-          (λ more. hand_has s.piece s.at s.end (g.R.Read.remaining s.reader) s.whole more);
+          (λ more. hand_has s.piece s.at s.end (g.R.Read.remaining s.reader) s.whole more) s.limited;
     }
 
 pub returns-in-Err-answer_line : goal.returns-in-Err-answer_line
@@ -25,7 +25,7 @@ returns-in-Err-answer_line g c =
     let t = rw c.if-not-more.false at c.in-Ok.ensures in
     record {
       serves = so-far-fault _ _ _ (place_of g.R.Read.remaining c.read_line.new.self) _ _ _ _ _ _ _ _ _ _ _ _ c.loop-error.invariant t
-          (rw c.as_slice.ensures.value at c.in-Err-answer_line.ensures.answers);
+          (rw c.as_slice.ensures.value at c.in-Err-answer_line.ensures.answers) c.read_line.new.self.limited;
     }
 
 pub loop-error-preserved-then-asked : goal.loop-error-preserved-then-asked

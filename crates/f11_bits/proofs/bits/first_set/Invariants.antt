@@ -1,0 +1,6 @@
+use Rattle.std.proofs.Common.{◌*◌}
+use Rattle.f11_bits.specs.Bits.{bit_below, NoneWithin}
+use Rattle.f11_bits.proofs.bits.first_set.Given as goal
+
+abbrev pub invariant-loop-byte : goal.invariant-loop-byte
+invariant-loop-byte l = NoneWithin (bit_below l.block 4096) l.from (8 * l.byte)
