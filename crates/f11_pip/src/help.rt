@@ -8,6 +8,9 @@ struct Synopsis {
     does: &'static str,
 }
 
+/// The program's name and version, and what it was proved and built with.
+const VERSION: &str = "f11_pip 0.1, proved and built with rattle-kit-13f";
+
 const COMMANDS: [Synopsis; 10] = [
     Synopsis {
         name: "dump",
@@ -85,6 +88,19 @@ fn has_help(words: &[String]) -> bool {
 
 fn is_help(word: &String) -> bool {
     matches!(word.as_str(), "--help" | "-h")
+}
+
+/// Whether the words, of which the first is the program's name, ask for its version: by `--version` alone.
+pub fn is_version(words: &[String]) -> bool {
+    match words {
+        [_, only] => only.as_str() == "--version",
+        _ => false,
+    }
+}
+
+/// Writes the program's version.
+pub fn write_version<W: Write>(writer: &mut W) -> io::Result<()> {
+    writeln!(writer, "{}", VERSION)
 }
 
 /// Writes each command's words and what it does, two lines a command.

@@ -91,6 +91,10 @@ fn answer(rt: &HostRuntime, words: &[String]) -> Result<Answer, Failure> {
         help::write_all(&mut writer)
             .map_err(Failure::from)
             .and(Err(Failure::Usage))
+    } else if help::is_version(words) {
+        help::write_version(&mut writer)
+            .map_err(Failure::from)
+            .and(Ok(Answer::Done))
     } else {
         words::parse(rt.alloc(), words).and_then(|words| run(rt, words, &mut writer))
     };
