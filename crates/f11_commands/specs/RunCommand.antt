@@ -15,7 +15,7 @@ use Rattle.f11_commands.specs.declared.outcome.Answer.TheVariants.{Done, Fault}
 use Rattle.f11_commands.specs.declared.outcome.Failure.TheVariants.{DeviceFault, NoMemory, CannotWrite}
 use Rattle.f11_commands.specs.declared.run.RunFailure.{RunFailure}
 use Rattle.f11_commands.specs.declared.run.RunFailure.TheVariants.{Command, Script}
-use Rattle.f11_vfy.specs.Verdict.{IsAccepted}
+use Rattle.f11_volume.specs.Verdict.{IsAccepted}
 use Rattle.f11_vfy.specs.Verify.{Examines}
 
 -- A script was served on an image. Where the disk is honest the image is accepted then; and where no transfer failed, it was served by steps of

@@ -20,7 +20,7 @@ use Rattle.f11_files.specs.Answers.{Reads, Writes, FailsToWrite, Does, is_among,
 use Rattle.f11_files.specs.StoreOf.{store_of}
 use Rattle.f11_files.proofs.AnswerLemmas.{reads-more, reads-looked}
 use Rattle.f11_dev.proofs.LookedLemmas.{looked_none}
-use Rattle.f11_vfy.specs.Volume.{Volume}
+use Rattle.f11_volume.specs.Volume.{Volume}
 use Rattle.f11_fcp.specs.Accesses.{Table, held_in, accesses}
 use Rattle.f11_fcp.specs.Handles.{State, store_at, Meanwhile, is_failed, is_damage, own_causes, Handles}
 use Rattle.f11_store.proofs.HeldLaws.{lags-held}

@@ -3,7 +3,7 @@ use Rattle.std.proofs.Common.{◌≡◌, ℕ, ◌+◌, ◌<◌, ◌≤◌, ◌==
 use Rattle.f11_dev.specs.Image.{Image}
 use Rattle.f11_dev.proofs.WentLemmas.{went_more, went_weaker}
 use Rattle.f11_home.specs.Home.{HomeFields}
-use Rattle.f11_vfy.specs.Sound.{HasSoundVolume}
+use Rattle.f11_volume.specs.Sound.{HasSoundVolume}
 use Rattle.f11_store.specs.Causes.{first_refusal, holds_none}
 use Rattle.f11_store.specs.Changes.{after_deaccess, after_giving_up}
 use Rattle.f11_store.specs.Cost.{deaccess_cost}

@@ -17,7 +17,7 @@ use Rattle.f11_store.specs.declared.refusals.Refusal.TheVariants.{NoMemory}
 use Rattle.f11_store.specs.declared.requests.Reply.{Reply}
 use Rattle.f11_store.specs.declared.requests.Request.{Request}
 use Rattle.f11_store.specs.declared.requests.Request.TheVariants as request
-use Rattle.f11_vfy.specs.Sound.{HasSoundVolume}
+use Rattle.f11_volume.specs.Sound.{HasSoundVolume}
 use Rattle.f11_files.specs.Answers.{Writes, is_among, is_cause, is_grave, is_light, is_refused, faults_of}
 use Rattle.f11_files.specs.Open.{disk_in, home_in, counts_in, has_failed, is_honest, store_in}
 use Rattle.f11_files.specs.StoreOf.{store_of}

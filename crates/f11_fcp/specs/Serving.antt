@@ -9,7 +9,7 @@ use Rattle.f11_store.specs.declared.requests.Request.{Request}
 use Rattle.f11_store.specs.declared.requests.Request.TheVariants as request
 use Rattle.f11_files.specs.Answers.{is_grave, is_refused}
 use Rattle.f11_files.specs.Open as files
-use Rattle.f11_vfy.specs.Verdict.{IsAccepted}
+use Rattle.f11_volume.specs.Verdict.{IsAccepted}
 use Rattle.f11_fcp.specs.Handles.{State, state_of, Handles}
 use Rattle.f11_fcp.specs.Places.{table_of}
 use Rattle.f11_fcp.specs.declared.volume.Volume.{Volume}

@@ -15,7 +15,7 @@ use Rattle.f11_store.specs.Store.{Store}
 use Rattle.f11_store.specs.declared.callers.Uic.{Uic}
 use Rattle.f11_store.specs.declared.files.FileId.{FileId}
 use Rattle.f11_store.specs.declared.refusals.Refusal.TheVariants.{DeviceFault}
-use Rattle.f11_vfy.specs.Contents.{block_or_zeros}
+use Rattle.f11_volume.specs.Contents.{block_or_zeros}
 use Rattle.f11_files.specs.Allocation.{LinksLoose, NamesMore}
 use Rattle.f11_files.specs.Answers.{Breaks}
 use Rattle.f11_files.specs.Drops.{with_more_free}

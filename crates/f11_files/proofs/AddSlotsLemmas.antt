@@ -9,7 +9,7 @@ use Rattle.f11_store.specs.Changes.{GrowsIndex}
 use Rattle.f11_store.specs.File.{need}
 use Rattle.f11_store.specs.Store.{Store, index_file}
 use Rattle.f11_store.specs.declared.refusals.Refusal.{Refusal}
-use Rattle.f11_vfy.specs.Sound.{HasSoundVolume}
+use Rattle.f11_volume.specs.Sound.{HasSoundVolume}
 use Rattle.f11_files.specs.Answers.{Writes, Breaks}
 use Rattle.f11_files.specs.Drops.{with_more_free}
 use Rattle.f11_files.specs.GrowIndex.{AddsSlots, AppendingSlots, AppendsSlots, GrewIndex, GrowingIndexBy, GrowsSome}

@@ -14,8 +14,8 @@ use Rattle.f11_index.specs.Table.{Table, IsLive}
 use Rattle.f11_index.proofs.NextLemmas.{live-tested}
 use Rattle.f11_index.proofs.PlaceLemmas.{range_with_len-more}
 use Rattle.f11_store.specs.declared.callers.Uic.{Uic}
-use Rattle.f11_vfy.specs.Space.{storage_bitmap}
-use Rattle.f11_vfy.specs.Volume.{volume_of, IsCell}
+use Rattle.f11_volume.specs.Space.{storage_bitmap}
+use Rattle.f11_volume.specs.Volume.{volume_of, IsCell}
 use Rattle.f11_files.specs.Allocation.{named_by, free_list, ownership_in, GainsBlocksAs}
 use Rattle.f11_files.specs.AllocationLaws.{CellsAreNamed, FileBlocksAreNamed, FreeBlocksAreStored, GainsAdd}
 use Rattle.f11_files.specs.StoreOf.{store_of}

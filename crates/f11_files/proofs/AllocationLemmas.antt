@@ -22,7 +22,7 @@ use Rattle.f11_index.proofs.NextLemmas.{live-tested}
 use Rattle.f11_chain.specs.FileHeaders.{file_blocks}
 use Rattle.f11_chain.proofs.ChangeLemmas.{file-stays}
 use Rattle.f11_store.specs.declared.callers.Uic.{Uic}
-use Rattle.f11_vfy.specs.Volume.{Volume}
+use Rattle.f11_volume.specs.Volume.{Volume}
 use Rattle.f11_writes.specs.Kept.{KeepsButSlot}
 use Rattle.f11_writes.specs.OtherSlots.{KeepsOtherSlots}
 use Rattle.f11_writes.proofs.OtherSlotLemmas.{file-was, live-was, next-was, nowhere, turned}

@@ -14,7 +14,7 @@ use Rattle.f11_store.specs.Store.{Store}
 use Rattle.f11_store.specs.declared.files.FileId.{FileId}
 use Rattle.f11_store.specs.declared.refusals.Refusal.TheVariants.{DeviceFault}
 use Rattle.f11_store.proofs.LagLaws.{change_lags}
-use Rattle.f11_vfy.specs.Volume.{Volume, volume_of}
+use Rattle.f11_volume.specs.Volume.{Volume, volume_of}
 use Rattle.f11_writes.specs.Kept.{KeepsButSlot, WritesHeader}
 use Rattle.f11_files.specs.Allocation.{KeepsBlocks}
 use Rattle.f11_files.specs.Answers.{Meanwhile}

@@ -9,7 +9,7 @@ use Rattle.f11_store.specs.declared.files.FileId.{FileId}
 use Rattle.f11_store.specs.declared.refusals.Refusal.TheVariants.{DeviceFault}
 use Rattle.f11_store.specs.Lags.{LagsBy}
 use Rattle.f11_store.proofs.LagLaws.{change_lags}
-use Rattle.f11_vfy.specs.Volume.{volume_of}
+use Rattle.f11_volume.specs.Volume.{volume_of}
 use Rattle.f11_writes.specs.Kept.{WritesBlock}
 use Rattle.f11_writes.proofs.OtherLemmas.{file-keeps}
 use Rattle.f11_files.specs.Allocation.{KeepsBlocks}

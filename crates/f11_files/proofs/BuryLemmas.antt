@@ -26,7 +26,7 @@ use Rattle.f11_store.specs.Changes.{with_file}
 use Rattle.f11_store.specs.Refusal.{refusal_number}
 use Rattle.f11_store.specs.Store.{Store}
 use Rattle.f11_store.specs.declared.refusals.Refusal.TheVariants.{DeviceFault}
-use Rattle.f11_vfy.specs.Volume.{Volume, volume_of}
+use Rattle.f11_volume.specs.Volume.{Volume, volume_of}
 use Rattle.f11_writes.specs.Kept.{WritesHeader, WritesSlotBit}
 use Rattle.f11_writes.specs.OtherSlots.{KeepsOtherSlots}
 use Rattle.f11_writes.proofs.BitLemmas.{clear-keeps}

@@ -25,11 +25,11 @@ use Rattle.f11_store.specs.Lags.{with_no_mark}
 use Rattle.f11_store.specs.Store.{Store}
 use Rattle.f11_store.specs.declared.files.Attr.{Attr}
 use Rattle.f11_store.specs.declared.files.FileId.{FileId}
-use Rattle.f11_vfy.specs.Sound.{HasSoundVolume}
+use Rattle.f11_volume.specs.Sound.{HasSoundVolume}
 use Rattle.f11_writes.specs.Kept.{file_in}
 use Rattle.f11_writes.specs.OtherSlots.{KeepsOtherSlots}
-use Rattle.f11_vfy.specs.Volume.{volume_of}
-use Rattle.f11_vfy.proofs.FileLemmas.{image-files}
+use Rattle.f11_volume.specs.Volume.{volume_of}
+use Rattle.f11_volume.proofs.FileLemmas.{image-files}
 use Rattle.f11_files.specs.Allocation.{ownership_in, AddsZeroSlots, GainsBlocks}
 use Rattle.f11_files.specs.Clear.{Clearing, ClearsMark}
 use Rattle.f11_files.specs.FieldLaws.{SaysBut, ChangesFile}

@@ -19,7 +19,7 @@ use Rattle.f11_store.specs.Store.{Store, file_named}
 use Rattle.f11_store.specs.declared.files.FileId.{FileId}
 use Rattle.f11_store.specs.declared.refusals.Refusal.TheVariants.{Damaged}
 use Rattle.f11_store.specs.declared.refusals.Refusal.{Refusal}
-use Rattle.f11_vfy.specs.Space.{storage_bitmap}
+use Rattle.f11_volume.specs.Space.{storage_bitmap}
 use Rattle.f11_files.specs.Answers.{IsRight, Reads, is_cause, is_grave}
 use Rattle.f11_files.specs.Clear.{ClearsMark}
 use Rattle.f11_files.specs.Extend.{IsTailOf}
@@ -36,7 +36,7 @@ use Rattle.f11_files.proofs.NamedLemmas.{block-is, is-file}
 use Rattle.f11_files.proofs.OpenLemmas.{looked-for}
 use Rattle.f11_files.proofs.RoomLemmas.{last-is, last-of}
 use Rattle.f11_files.specs.Allocation.{ownership_in}
-use Rattle.f11_vfy.specs.Volume.{volume_of}
+use Rattle.f11_volume.specs.Volume.{volume_of}
 
 -- the storage bitmap of a store has a block for each 4096 blocks
 store-bitmap : (image : Image) (home : HomeFields) → (store_of image home).bitmap_blocks ≡ length (storage_bitmap image home).places

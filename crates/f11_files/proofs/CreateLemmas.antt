@@ -25,9 +25,9 @@ use Rattle.f11_store.specs.declared.files.FileId.{FileId}
 use Rattle.f11_store.specs.declared.refusals.Refusal.TheVariants.{NoHeader, DeviceFault}
 use Rattle.f11_store.proofs.Frees.{same_limits}
 use Rattle.f11_store.proofs.LagLaws.{taken_lags, created_lags}
-use Rattle.f11_vfy.specs.Sound.{HasSoundVolume}
-use Rattle.f11_vfy.specs.Space.{storage_bitmap}
-use Rattle.f11_vfy.specs.Volume.{volume_of}
+use Rattle.f11_volume.specs.Sound.{HasSoundVolume}
+use Rattle.f11_volume.specs.Space.{storage_bitmap}
+use Rattle.f11_volume.specs.Volume.{volume_of}
 use Rattle.f11_files.specs.Allocation.{KeepsBlocks}
 use Rattle.f11_files.specs.Answers.{Meanwhile, IsUnderWay}
 use Rattle.f11_files.specs.Create.{Creates, FailsToCreate, new_work}

@@ -33,10 +33,10 @@ use Rattle.f11_store.specs.declared.refusals.Refusal.TheVariants.{DeviceFault}
 use Rattle.f11_store.specs.declared.refusals.Refusal.{Refusal}
 use Rattle.f11_store.proofs.Growth.{alike}
 use Rattle.f11_store.proofs.LagLaws.{frees_lags}
-use Rattle.f11_vfy.specs.Contents.{pointer_count, file_of}
-use Rattle.f11_vfy.specs.Sound.{HasSoundVolume}
-use Rattle.f11_vfy.specs.Volume.{Volume, volume_of, IsCell}
-use Rattle.f11_vfy.proofs.FileLemmas.{image-files, reached-are, file-headers-are, file-blocks-are}
+use Rattle.f11_volume.specs.Contents.{pointer_count, file_of}
+use Rattle.f11_volume.specs.Sound.{HasSoundVolume}
+use Rattle.f11_volume.specs.Volume.{Volume, volume_of, IsCell}
+use Rattle.f11_volume.proofs.FileLemmas.{image-files, reached-are, file-headers-are, file-blocks-are}
 use Rattle.f11_writes.specs.Kept.{file_in, WritesHeader}
 use Rattle.f11_writes.specs.OtherSlots.{KeepsOtherSlots}
 use Rattle.f11_writes.specs.Volumes.{MayName, MayBecome, links_to_none}

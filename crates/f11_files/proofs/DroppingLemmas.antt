@@ -23,9 +23,9 @@ use Rattle.f11_store.specs.Changes.{is_in, with_file, without_slots}
 use Rattle.f11_store.specs.Refusal.{refusal_number}
 use Rattle.f11_store.specs.Store.{Store}
 use Rattle.f11_store.specs.declared.refusals.Refusal.{Refusal}
-use Rattle.f11_vfy.specs.Contents.{pointer_count}
-use Rattle.f11_vfy.specs.Sound.{HasSoundVolume}
-use Rattle.f11_vfy.specs.Volume.{Volume, volume_of}
+use Rattle.f11_volume.specs.Contents.{pointer_count}
+use Rattle.f11_volume.specs.Sound.{HasSoundVolume}
+use Rattle.f11_volume.specs.Volume.{Volume, volume_of}
 use Rattle.f11_writes.specs.OtherSlots.{KeepsOtherSlots}
 use Rattle.f11_files.specs.Allocation.{FreesBlocks, Kills, LosesHeaders}
 use Rattle.f11_files.specs.Answers.{Writes, refusal_for}

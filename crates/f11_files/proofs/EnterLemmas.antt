@@ -28,9 +28,9 @@ use Rattle.f11_store.specs.Store.{Store, free_slots, free_headers}
 use Rattle.f11_store.specs.declared.files.FileId.{FileId}
 use Rattle.f11_store.specs.declared.refusals.Refusal.TheVariants.{DeviceFault, Damaged}
 use Rattle.f11_store.proofs.Growth.{headers_taken, stays_unused}
-use Rattle.f11_vfy.specs.Sound.{HasSoundVolume}
-use Rattle.f11_vfy.specs.Volume.{Volume, volume_of, IsNamed}
-use Rattle.f11_vfy.proofs.FileLemmas.{index-apart}
+use Rattle.f11_volume.specs.Sound.{HasSoundVolume}
+use Rattle.f11_volume.specs.Volume.{Volume, volume_of, IsNamed}
+use Rattle.f11_volume.proofs.FileLemmas.{index-apart}
 use Rattle.f11_writes.specs.Kept.{WritesHeader}
 use Rattle.f11_writes.specs.NameLaws.{AreSpare}
 use Rattle.f11_writes.proofs.HeaderLemmas.{unused-keeps}

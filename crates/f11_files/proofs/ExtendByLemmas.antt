@@ -14,8 +14,8 @@ use Rattle.f11_store.specs.Store.{Store}
 use Rattle.f11_store.specs.declared.callers.Uic.{Uic}
 use Rattle.f11_store.specs.declared.files.FileId.{FileId}
 use Rattle.f11_store.specs.declared.refusals.Refusal.{Refusal}
-use Rattle.f11_vfy.specs.Sound.{HasSoundVolume}
-use Rattle.f11_vfy.specs.Volume.{volume_of}
+use Rattle.f11_volume.specs.Sound.{HasSoundVolume}
+use Rattle.f11_volume.specs.Volume.{volume_of}
 use Rattle.f11_files.specs.Allocation.{GainsBlocksAs}
 use Rattle.f11_files.specs.Answers.{Meanwhile, Writes, Breaks}
 use Rattle.f11_files.specs.Extend.{AddsRun, ExtendsBy}

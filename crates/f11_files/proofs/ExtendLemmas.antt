@@ -16,7 +16,7 @@ use Rattle.f11_store.specs.declared.files.FileId.{FileId}
 use Rattle.f11_store.specs.declared.refusals.Refusal.TheVariants.{NoSuchFile, DeviceFault}
 use Rattle.f11_store.specs.declared.refusals.Refusal.{Refusal}
 use Rattle.f11_store.proofs.LagLaws.{lags_itself}
-use Rattle.f11_vfy.specs.Volume.{volume_of}
+use Rattle.f11_volume.specs.Volume.{volume_of}
 use Rattle.f11_files.specs.Allocation.{GainsBlocks, ownership_in, GainsBlocksAs}
 use Rattle.f11_files.specs.Answers.{Breaks, Meanwhile, Writes}
 use Rattle.f11_files.specs.Clear.{Clearing, ClearsMark}

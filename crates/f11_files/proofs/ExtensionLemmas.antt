@@ -13,9 +13,9 @@ use Rattle.f11_index.specs.Table.{Table, table_in, table_of, IsNext, IsHeaderOf,
 use Rattle.f11_index.proofs.BitLemmas.{SetsBit-in_use}
 use Rattle.f11_index.proofs.ChainLemmas.{file_of-header, live_of-header}
 use Rattle.f11_store.specs.Store.{Store}
-use Rattle.f11_vfy.proofs.FileLemmas.{image-files}
-use Rattle.f11_vfy.specs.Sound.{HasSoundVolume}
-use Rattle.f11_vfy.specs.Volume.{Volume, volume_of}
+use Rattle.f11_volume.proofs.FileLemmas.{image-files}
+use Rattle.f11_volume.specs.Sound.{HasSoundVolume}
+use Rattle.f11_volume.specs.Volume.{Volume, volume_of}
 use Rattle.f11_writes.specs.Kept.{WritesHeader, WritesSlotBit}
 use Rattle.f11_writes.specs.NameLaws.{AreSpare}
 use Rattle.f11_writes.specs.Volumes.{MayName, MayBecome, links_to_none}

@@ -25,10 +25,10 @@ use Rattle.f11_store.specs.File.{File, with_mark, without_contiguous}
 use Rattle.f11_store.specs.Lags.{with_no_mark}
 use Rattle.f11_store.specs.declared.callers.Uic.{Uic}
 use Rattle.f11_store.specs.declared.files.Change.TheVariants as change
-use Rattle.f11_vfy.specs.Contents.{block_or_zeros, file_of, headers_reached, pointer_count, room_left}
-use Rattle.f11_vfy.specs.Sound.{HasSoundVolume}
-use Rattle.f11_vfy.specs.Volume.{Volume, volume_of}
-use Rattle.f11_vfy.proofs.FileLemmas.{image-files, reached-are, file-blocks-are}
+use Rattle.f11_volume.specs.Contents.{block_or_zeros, file_of, headers_reached, pointer_count, room_left}
+use Rattle.f11_volume.specs.Sound.{HasSoundVolume}
+use Rattle.f11_volume.specs.Volume.{Volume, volume_of}
+use Rattle.f11_volume.proofs.FileLemmas.{image-files, reached-are, file-blocks-are}
 use Rattle.f11_writes.specs.Kept.{file_in, said_of, WritesHeader}
 use Rattle.f11_writes.specs.Volumes.{MayName, MayBecome, links_as_before}
 use Rattle.f11_writes.proofs.HeaderLemmas.{rewrite-keeps, file-rewrite-keeps}

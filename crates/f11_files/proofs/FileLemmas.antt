@@ -25,9 +25,9 @@ use Rattle.f11_index.proofs.UpLemmas.{header-up}
 use Rattle.f11_chain.specs.FileHeaders.{file_blocks, blocks_before}
 use Rattle.f11_chain.specs.Laws.{HasMore, HasHeaderMore}
 use Rattle.f11_chain.proofs.ChangeLemmas.{has-more, has-header, ends-with, is-cut}
-use Rattle.f11_vfy.specs.Contents.{block_or_zeros, file_of, headers_reached, pointer_count, room_left}
-use Rattle.f11_vfy.proofs.FileLemmas.{image-files, reached-are, file-blocks-are}
-use Rattle.f11_vfy.specs.Sound.{HasSoundVolume}
+use Rattle.f11_volume.specs.Contents.{block_or_zeros, file_of, headers_reached, pointer_count, room_left}
+use Rattle.f11_volume.proofs.FileLemmas.{image-files, reached-are, file-blocks-are}
+use Rattle.f11_volume.specs.Sound.{HasSoundVolume}
 use Rattle.f11_writes.specs.Kept.{file_in, said_of, KeepsButSlot, WritesHeader, WritesGrowth}
 use Rattle.f11_writes.proofs.OtherSlotLemmas.{stay-before, stay-up-to}
 use Rattle.f11_files.specs.FileLaws.{SaysAlike, MayStand, NamesMoreOf, LinksOnTo, EndsThere, with_more_blocks, with_header_linked, with_header_more, with_first_headers, held_from, pointers_before, pointers_in, room_in}

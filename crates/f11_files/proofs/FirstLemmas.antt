@@ -15,7 +15,7 @@ use Rattle.f11_index.proofs.InUseLemmas.{header-within, in_use-some, in_use-slot
 use Rattle.f11_chain.specs.Calls.{table}
 use Rattle.f11_chain.proofs.StepLemmas.{table-in_use, table-header}
 use Rattle.f11_store.specs.declared.files.FileId.{FileId}
-use Rattle.f11_vfy.specs.Volume.{volume_of}
+use Rattle.f11_volume.specs.Volume.{volume_of}
 use Rattle.f11_files.specs.First.{IsFirstOf, IsFileOf, FindsFile}
 use Rattle.f11_files.specs.Structure.{index_in, home_of, IsFor}
 use Rattle.f11_files.specs.declared.structure.Structure.{Structure}

@@ -19,9 +19,9 @@ use Rattle.f11_store.specs.Refusal.{refusal_number}
 use Rattle.f11_store.specs.Store.{Store}
 use Rattle.f11_store.specs.declared.refusals.Refusal.TheVariants.{DeviceFault, Damaged}
 use Rattle.f11_store.specs.declared.refusals.Refusal.{Refusal}
-use Rattle.f11_vfy.specs.Sound.{HasSoundVolume}
-use Rattle.f11_vfy.specs.Space.{storage_bitmap}
-use Rattle.f11_vfy.specs.Volume.{volume_of}
+use Rattle.f11_volume.specs.Sound.{HasSoundVolume}
+use Rattle.f11_volume.specs.Space.{storage_bitmap}
+use Rattle.f11_volume.specs.Volume.{volume_of}
 use Rattle.f11_writes.specs.Kept.{KeepsButFree}
 use Rattle.f11_writes.specs.NameLaws.{AreSpare}
 use Rattle.f11_writes.proofs.BitmapLemmas.{free-keeps}

@@ -14,9 +14,9 @@ use Rattle.f11_map.specs.MapArea.{blocks_in}
 use Rattle.f11_map.proofs.MapLemmas.{slice_get-append_back, blocks_in-drop}
 use Rattle.f11_store.specs.Store.{Store}
 use Rattle.f11_store.specs.declared.refusals.Refusal.{Refusal}
-use Rattle.f11_vfy.specs.Sound.{HasSoundVolume}
-use Rattle.f11_vfy.specs.Space.{storage_bitmap}
-use Rattle.f11_vfy.specs.Volume.{Volume, volume_of}
+use Rattle.f11_volume.specs.Sound.{HasSoundVolume}
+use Rattle.f11_volume.specs.Space.{storage_bitmap}
+use Rattle.f11_volume.specs.Volume.{Volume, volume_of}
 use Rattle.f11_writes.specs.NameLaws.{AreSpare}
 use Rattle.f11_files.specs.Allocation.{FreesBlocks}
 use Rattle.f11_files.specs.Answers.{Writes}

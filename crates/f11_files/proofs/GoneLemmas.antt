@@ -27,9 +27,9 @@ use Rattle.f11_store.specs.declared.files.FileId.{FileId}
 use Rattle.f11_store.specs.declared.refusals.Refusal.{Refusal}
 use Rattle.f11_store.proofs.Growth.{alike}
 use Rattle.f11_store.proofs.LagLaws.{frees_lags}
-use Rattle.f11_vfy.specs.Contents.{pointer_count, file_of}
-use Rattle.f11_vfy.specs.Volume.{Volume, volume_of}
-use Rattle.f11_vfy.proofs.FileLemmas.{image-files, reached-are, file-blocks-are}
+use Rattle.f11_volume.specs.Contents.{pointer_count, file_of}
+use Rattle.f11_volume.specs.Volume.{Volume, volume_of}
+use Rattle.f11_volume.proofs.FileLemmas.{image-files, reached-are, file-blocks-are}
 use Rattle.f11_writes.specs.Kept.{file_in}
 use Rattle.f11_writes.specs.OtherSlots.{KeepsOtherSlots}
 use Rattle.f11_writes.proofs.OtherSlotLemmas.{turned, header-was}

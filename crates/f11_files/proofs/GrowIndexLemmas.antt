@@ -21,7 +21,7 @@ use Rattle.f11_store.specs.declared.refusals.Refusal.TheVariants.{NoSuchFile, In
 use Rattle.f11_store.specs.Refusal.{refusal_number}
 use Rattle.f11_store.specs.declared.refusals.Refusal.{Refusal}
 use Rattle.f11_store.proofs.LagLaws.{lags_itself}
-use Rattle.f11_vfy.specs.Volume.{volume_of}
+use Rattle.f11_volume.specs.Volume.{volume_of}
 use Rattle.f11_files.specs.Allocation.{GainsSlots, ownership_in, GainsSlotsAs}
 use Rattle.f11_files.specs.Answers.{Breaks, FailsToWrite, IsRight, Meanwhile, Reads, Writes, is_among}
 use Rattle.f11_files.specs.Clear.{Clearing, ClearsMark}

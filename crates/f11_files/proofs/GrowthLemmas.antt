@@ -11,7 +11,7 @@ use Rattle.f11_index.proofs.HeadersLemmas.{chained-apart}
 use Rattle.f11_store.specs.Changes.{with_change, with_file, with_more_slots}
 use Rattle.f11_store.specs.File.{File}
 use Rattle.f11_store.specs.Store.{Store}
-use Rattle.f11_vfy.proofs.FileLemmas.{image-files}
+use Rattle.f11_volume.proofs.FileLemmas.{image-files}
 use Rattle.f11_writes.specs.Kept.{file_in, said_of, WritesGrowth}
 use Rattle.f11_files.specs.StoreOf.{as_seen, file_at, last_given, store_of}
 use Rattle.f11_files.specs.SlotLaws.{GivesSlots}

@@ -8,7 +8,7 @@ use Rattle.f11_store.specs.Causes.{is_missing}
 use Rattle.f11_store.specs.File.{File, no_file}
 use Rattle.f11_store.specs.Store.{Store, file_named, index_file}
 use Rattle.f11_store.specs.declared.files.FileId.{FileId}
-use Rattle.f11_vfy.specs.Sound.{HasSoundVolume}
+use Rattle.f11_volume.specs.Sound.{HasSoundVolume}
 use Rattle.f11_writes.specs.Kept.{file_in}
 use Rattle.f11_files.specs.StoreOf.{as_seen, store_of}
 use Rattle.f11_files.specs.Structure.{home_of, store_on, IsFor}

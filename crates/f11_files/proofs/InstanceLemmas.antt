@@ -12,7 +12,7 @@ use Rattle.f11_index.proofs.HeadersLemmas.{chained-apart}
 use Rattle.f11_store.specs.Changes.{with_file, with_change}
 use Rattle.f11_store.specs.File.{File}
 use Rattle.f11_store.specs.Store.{Store}
-use Rattle.f11_vfy.proofs.FileLemmas.{image-files}
+use Rattle.f11_volume.proofs.FileLemmas.{image-files}
 use Rattle.f11_vfy.proofs.SlotLemmas.{dead-not-valid}
 use Rattle.f11_writes.specs.Kept.{file_in, WritesHeader, WritesSlotBit}
 use Rattle.f11_files.specs.StoreOf.{as_seen, file_at, last_given, store_of}

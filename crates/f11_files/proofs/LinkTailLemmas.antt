@@ -20,8 +20,8 @@ use Rattle.f11_index.specs.Table.{Table, table_of, IsLive, IsNext}
 use Rattle.f11_index.proofs.ChainLemmas.{live_of-header}
 use Rattle.f11_store.specs.Changes.{with_change}
 use Rattle.f11_store.specs.declared.files.FileId.{FileId}
-use Rattle.f11_vfy.specs.Sound.{HasSoundVolume}
-use Rattle.f11_vfy.specs.Volume.{Volume, volume_of}
+use Rattle.f11_volume.specs.Sound.{HasSoundVolume}
+use Rattle.f11_volume.specs.Volume.{Volume, volume_of}
 use Rattle.f11_writes.specs.Kept.{WritesHeader}
 use Rattle.f11_writes.specs.Volumes.{MayName, MayBecome, links_anew}
 use Rattle.f11_writes.proofs.HeaderLemmas.{file-rewrite-keeps}

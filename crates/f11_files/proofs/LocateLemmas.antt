@@ -22,8 +22,8 @@ use Rattle.f11_store.specs.Store.{file_named}
 use Rattle.f11_store.specs.declared.files.FileId.{FileId}
 use Rattle.f11_store.specs.declared.refusals.Refusal.{Refusal}
 use Rattle.f11_store.specs.declared.refusals.Refusal.TheVariants.{NoSuchFile, EndOfFile, DeviceFault, Damaged}
-use Rattle.f11_vfy.specs.Contents.{block_or_zeros}
-use Rattle.f11_vfy.proofs.FileLemmas.{image-files, file-headers-are, file-blocks-are}
+use Rattle.f11_volume.specs.Contents.{block_or_zeros}
+use Rattle.f11_volume.proofs.FileLemmas.{image-files, file-headers-are, file-blocks-are}
 use Rattle.f11_writes.specs.Kept.{file_in}
 use Rattle.f11_files.specs.Answers.{Reads, FailsToRead, refusal_for}
 use Rattle.f11_files.specs.Blocks.{FindsBlock}

@@ -25,10 +25,10 @@ use Rattle.f11_chain.specs.Laws.{EndsWith}
 use Rattle.f11_chain.proofs.ChangeLemmas.{ends-with, is-cut}
 use Rattle.f11_store.specs.Changes.{is_in}
 use Rattle.f11_store.specs.File.{File}
-use Rattle.f11_vfy.specs.Sound.{HasSoundVolume}
-use Rattle.f11_vfy.specs.Space.{storage_bitmap}
-use Rattle.f11_vfy.specs.Volume.{Volume, volume_of}
-use Rattle.f11_vfy.proofs.FileLemmas.{image-files, file-headers-are}
+use Rattle.f11_volume.specs.Sound.{HasSoundVolume}
+use Rattle.f11_volume.specs.Space.{storage_bitmap}
+use Rattle.f11_volume.specs.Volume.{Volume, volume_of}
+use Rattle.f11_volume.proofs.FileLemmas.{image-files, file-headers-are}
 use Rattle.f11_writes.specs.Kept.{file_in, KeepsButFree}
 use Rattle.f11_writes.specs.OtherSlots.{KeepsOtherSlots}
 use Rattle.f11_writes.proofs.OtherSlotLemmas.{live-was, stay-before, turned}

@@ -18,7 +18,7 @@ use Rattle.f11_index.specs.Table.{Table, table_of}
 use Rattle.f11_index.specs.declared.index_file.IndexFile.{IndexFile}
 use Rattle.f11_index.proofs.ChainLemmas.{live_of-header}
 use Rattle.f11_store.specs.Store.{Store}
-use Rattle.f11_vfy.specs.Volume.{Volume}
+use Rattle.f11_volume.specs.Volume.{Volume}
 use Rattle.f11_writes.specs.Kept.{WritesGrowth}
 use Rattle.f11_writes.proofs.GrowLemmas.{names-keep}
 use Rattle.f11_files.specs.Allocation.{AddsZeroSlots, NamesMore}

@@ -17,7 +17,7 @@ use Rattle.f11_store.specs.Causes.{first_of, is_missing}
 use Rattle.f11_store.specs.File.{File, no_file}
 use Rattle.f11_store.specs.Store.{Store, of_sequence, file_of, file_named}
 use Rattle.f11_store.specs.declared.files.FileId.{FileId}
-use Rattle.f11_vfy.specs.Contents.{file_of as said_file}
+use Rattle.f11_volume.specs.Contents.{file_of as said_file}
 use Rattle.f11_writes.specs.Kept.{file_in}
 use Rattle.f11_files.specs.First.{IsFileOf, IsOther, HoldsFile}
 use Rattle.f11_files.specs.StoreOf.{is_first, as_seen, file_at, store_of}

@@ -22,10 +22,10 @@ use Rattle.f11_store.specs.File.{File, no_file}
 use Rattle.f11_store.specs.Store.{Store, least_free, free_slots}
 use Rattle.f11_store.specs.declared.callers.Uic.{Uic}
 use Rattle.f11_store.specs.declared.files.FileId.{FileId}
-use Rattle.f11_vfy.specs.Contents.{file_of, headers_reached, pointer_count, room_left}
-use Rattle.f11_vfy.specs.Sound.{HasSoundVolume}
-use Rattle.f11_vfy.specs.Volume.{Volume, volume_of}
-use Rattle.f11_vfy.proofs.FileLemmas.{image-files, reached-are}
+use Rattle.f11_volume.specs.Contents.{file_of, headers_reached, pointer_count, room_left}
+use Rattle.f11_volume.specs.Sound.{HasSoundVolume}
+use Rattle.f11_volume.specs.Volume.{Volume, volume_of}
+use Rattle.f11_volume.proofs.FileLemmas.{image-files, reached-are}
 use Rattle.f11_writes.specs.Kept.{file_in}
 use Rattle.f11_writes.specs.Worked.{IsNewHeader, with_new_header}
 use Rattle.f11_writes.proofs.HeaderLemmas.{unused-keeps}

@@ -6,9 +6,9 @@ use Rattle.f11_dev.specs.Image.{Image, IsImage}
 use Rattle.f11_dev.specs.Looked.{Looked}
 use Rattle.f11_home.specs.Home.{HomeFields}
 use Rattle.f11_home.proofs.HomeLemmas.{home-unique}
-use Rattle.f11_vfy.specs.Sound.{HasSoundVolume}
-use Rattle.f11_vfy.specs.Verdict.{IsAccepted}
-use Rattle.f11_vfy.proofs.AcceptedLemmas.{accepted-sound, accepted-volume}
+use Rattle.f11_volume.specs.Sound.{HasSoundVolume}
+use Rattle.f11_volume.specs.Verdict.{IsAccepted}
+use Rattle.f11_volume.proofs.AcceptedLemmas.{accepted-sound, accepted-volume}
 use Rattle.f11_files.specs.Structure.{home_of, Lies, Keeps, HasNoOtherHome, IsFor, StaysFor}
 use Rattle.f11_files.specs.declared.structure.Structure.{Structure}
 

@@ -11,15 +11,15 @@ use Rattle.f11_home.specs.Home.{HomeFields, candidates, FindsHome, FindsNoHome}
 use Rattle.f11_home.proofs.HomeLemmas.{home-some, home-unique}
 use Rattle.f11_index.specs.IndexFile.{Index, index_of}
 use Rattle.f11_index.specs.Kept.{LiesWithin}
-use Rattle.f11_vfy.specs.Faults.{IsFrameFault}
+use Rattle.f11_volume.specs.Faults.{IsFrameFault}
 use Rattle.f11_vfy.specs.Framing.{AreOf, ReadsFrame, FindsFrameFault, FailsToReadFrame, LacksFrameMemory, frame_reads}
 use Rattle.f11_vfy.specs.declared.fault.ReadFault.{ReadFault}
 use Rattle.f11_vfy.specs.declared.fault.ReadFault.TheVariants as read
-use Rattle.f11_vfy.specs.Sound.{HasSoundVolume}
-use Rattle.f11_vfy.specs.Space.{storage_bitmap}
-use Rattle.f11_vfy.specs.Verdict.{IsAccepted, of_frame}
-use Rattle.f11_vfy.proofs.AcceptedLemmas.{accepted-sound}
-use Rattle.f11_vfy.proofs.FileLemmas.{bitmap-is}
+use Rattle.f11_volume.specs.Sound.{HasSoundVolume}
+use Rattle.f11_volume.specs.Space.{storage_bitmap}
+use Rattle.f11_volume.specs.Verdict.{IsAccepted, of_frame}
+use Rattle.f11_volume.proofs.AcceptedLemmas.{accepted-sound}
+use Rattle.f11_volume.proofs.FileLemmas.{bitmap-is}
 use Rattle.f11_files.specs.Opening.{AreApart, FindsDamage, HasNoStructure, OpensStructure, fault_of, opening_reads}
 use Rattle.f11_files.specs.Structure.{index_in, home_of}
 use Rattle.f11_files.specs.declared.structure.Structure.{Structure}

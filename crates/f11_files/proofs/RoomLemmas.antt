@@ -21,8 +21,8 @@ use Rattle.f11_store.specs.Store.{Store, file_named, free_headers}
 use Rattle.f11_store.specs.declared.files.FileId.{FileId}
 use Rattle.f11_store.specs.declared.refusals.Refusal.{Refusal}
 use Rattle.f11_store.specs.declared.refusals.Refusal.TheVariants.{NoSuchFile, TooManySegments, DeviceFull, NoHeader}
-use Rattle.f11_vfy.specs.Contents.{file_of, headers_reached, room_left, pointer_count}
-use Rattle.f11_vfy.proofs.FileLemmas.{reached-are}
+use Rattle.f11_volume.specs.Contents.{file_of, headers_reached, room_left, pointer_count}
+use Rattle.f11_volume.proofs.FileLemmas.{reached-are}
 use Rattle.f11_writes.specs.Kept.{file_in}
 use Rattle.f11_files.specs.Answers.{is_among, Reads, FailsToRead, faults_of}
 use Rattle.f11_files.specs.FileLaws.{room_in}

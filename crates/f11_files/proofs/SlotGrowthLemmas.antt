@@ -25,9 +25,9 @@ use Rattle.f11_index.proofs.InUseLemmas.{in_use-some, in_use-slot}
 use Rattle.f11_index.proofs.PlaceLemmas.{slice_get-append_front, range-slice_get}
 use Rattle.f11_index.proofs.WalkLemmas.{in_use-within}
 use Rattle.f11_map.proofs.MapLemmas.{slice_get-append_back}
-use Rattle.f11_vfy.specs.Sound.{HasSoundVolume}
-use Rattle.f11_vfy.specs.Space.{storage_bitmap}
-use Rattle.f11_vfy.proofs.FileLemmas.{index-apart}
+use Rattle.f11_volume.specs.Sound.{HasSoundVolume}
+use Rattle.f11_volume.specs.Space.{storage_bitmap}
+use Rattle.f11_volume.proofs.FileLemmas.{index-apart}
 use Rattle.f11_writes.specs.Kept.{WritesGrowth}
 use Rattle.f11_writes.proofs.SlotLemmas.{header-placed-at}
 use Rattle.f11_files.specs.FileLaws.{HasSlotsMore}

@@ -7,9 +7,9 @@ use Rattle.f11_header.specs.Fields.{file_sequence}
 use Rattle.f11_home.specs.Home.{HomeFields}
 use Rattle.f11_index.specs.Table.{Table, table_of, last_sequence, IsFile, IsHeaderOf}
 use Rattle.f11_store.specs.Changes.{with_file}
-use Rattle.f11_vfy.specs.Contents.{file_of}
-use Rattle.f11_vfy.specs.Space.{storage_bitmap}
-use Rattle.f11_vfy.specs.Volume.{Volume}
+use Rattle.f11_volume.specs.Contents.{file_of}
+use Rattle.f11_volume.specs.Space.{storage_bitmap}
+use Rattle.f11_volume.specs.Volume.{Volume}
 use Rattle.f11_writes.specs.Kept.{KeepsButSlot}
 use Rattle.f11_writes.proofs.OtherSlotLemmas.{turned, file-was}
 use Rattle.f11_files.specs.StoreOf.{as_seen, file_at, last_given, store_of}

@@ -7,7 +7,7 @@ use Rattle.f11_dev.specs.Image.{Image}
 use Rattle.f11_home.specs.Home.{HomeFields}
 use Rattle.f11_index.specs.IndexFile.{Index, index_of, slots, free_slots}
 use Rattle.f11_index.specs.Table.{table_in}
-use Rattle.f11_vfy.specs.Space.{storage_bitmap}
+use Rattle.f11_volume.specs.Space.{storage_bitmap}
 use Rattle.f11_files.specs.Operations.{IsSpaceOf}
 use Rattle.f11_files.specs.StoreOf.{store_of}
 use Rattle.f11_files.specs.Structure.{index_in, bitmap_in, home_of, store_on, IsFor}

@@ -10,11 +10,11 @@ use Rattle.f11_home.specs.Home.{HomeFields}
 use Rattle.f11_index.specs.IndexFile.{index_file, index_of, header_lbn}
 use Rattle.f11_index.specs.Table.{Table, table_of, IsFile}
 use Rattle.f11_index.proofs.PlaceLemmas.{slice_get-header}
-use Rattle.f11_vfy.specs.FileLaws.{AreSoundFiles}
-use Rattle.f11_vfy.specs.Sound.{HasSoundVolume}
-use Rattle.f11_vfy.specs.Space.{bitmap_file}
-use Rattle.f11_vfy.specs.Volume.{volume_of, IsNamed}
-use Rattle.f11_vfy.proofs.FileLemmas.{image-files, place-at}
+use Rattle.f11_volume.specs.FileLaws.{AreSoundFiles}
+use Rattle.f11_volume.specs.Sound.{HasSoundVolume}
+use Rattle.f11_volume.specs.Space.{bitmap_file}
+use Rattle.f11_volume.specs.Volume.{volume_of, IsNamed}
+use Rattle.f11_volume.proofs.FileLemmas.{image-files, place-at}
 use Rattle.f11_writes.proofs.OwnerLemmas.{in-index-file, in-bitmap-file, named-of}
 use Rattle.f11_files.specs.ConfinesLaws.{IsSpared}
 

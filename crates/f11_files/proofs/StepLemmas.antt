@@ -11,8 +11,8 @@ use Rattle.f11_index.proofs.ChainLemmas.{live_of-header}
 use Rattle.f11_chain.specs.FileHeaders.{blocks_before}
 use Rattle.f11_store.specs.Changes.{with_change}
 use Rattle.f11_store.specs.File.{File}
-use Rattle.f11_vfy.specs.Sound.{HasSoundVolume}
-use Rattle.f11_vfy.specs.Volume.{Volume, volume_of}
+use Rattle.f11_volume.specs.Sound.{HasSoundVolume}
+use Rattle.f11_volume.specs.Volume.{Volume, volume_of}
 use Rattle.f11_writes.specs.Kept.{file_in, WritesHeader}
 use Rattle.f11_writes.specs.NameLaws.{AreSpare}
 use Rattle.f11_writes.specs.Volumes.{MayName, MayLink, links_to_none, links_anew}

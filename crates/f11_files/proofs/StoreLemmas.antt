@@ -12,9 +12,9 @@ use Rattle.f11_index.proofs.NextLemmas.{live-tested}
 use Rattle.f11_store.specs.Changes.{with_block, with_change}
 use Rattle.f11_store.specs.File.{File}
 use Rattle.f11_store.specs.Store.{Store}
-use Rattle.f11_vfy.specs.Contents.{file_of}
-use Rattle.f11_vfy.specs.Space.{storage_bitmap}
-use Rattle.f11_vfy.specs.Volume.{Volume, volume_of}
+use Rattle.f11_volume.specs.Contents.{file_of}
+use Rattle.f11_volume.specs.Space.{storage_bitmap}
+use Rattle.f11_volume.specs.Volume.{Volume, volume_of}
 use Rattle.f11_writes.specs.Kept.{file_in, KeepsVolume, KeepsFiles, WritesBlock, KeepsButFree}
 use Rattle.f11_files.specs.StoreOf.{is_first, as_seen, file_at, last_given, store_of}
 use Rattle.f11_files.specs.StoreLaws.{FirstIsTested, UnusedIsEmpty}

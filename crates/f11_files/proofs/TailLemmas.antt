@@ -12,8 +12,8 @@ use Rattle.f11_index.specs.Headers.{headers_from, IsInFile, IsChained, HasByteSe
 use Rattle.f11_index.specs.Table.{Table, table_of, IsLive, IsNext, IsHeaderOf, first, next, IsWholeFile}
 use Rattle.f11_index.proofs.HeadersLemmas.{link_number, live-some, headers_from-some, headers_from-none}
 use Rattle.f11_chain.specs.FileHeaders.{blocks_by}
-use Rattle.f11_vfy.specs.Contents.{pointer_count}
-use Rattle.f11_vfy.specs.Sound.{HasSoundVolume}
+use Rattle.f11_volume.specs.Contents.{pointer_count}
+use Rattle.f11_volume.specs.Sound.{HasSoundVolume}
 use Rattle.f11_writes.specs.OtherSlots.{KeepsOtherSlots}
 use Rattle.f11_writes.proofs.OtherSlotLemmas.{next-was, header-was}
 use Rattle.f11_files.specs.Drops.{headers_behind, HangsBehind}

@@ -14,8 +14,8 @@ use Rattle.f11_store.specs.Lags.{Work, work_if}
 use Rattle.f11_store.specs.Refusal.{refusal_number}
 use Rattle.f11_store.specs.declared.refusals.Refusal.{Refusal}
 use Rattle.f11_store.specs.declared.refusals.Refusal.TheVariants.{VolumeFailed}
-use Rattle.f11_vfy.specs.Sound.{HasSoundVolume}
-use Rattle.f11_vfy.specs.Volume.{Volume}
+use Rattle.f11_volume.specs.Sound.{HasSoundVolume}
+use Rattle.f11_volume.specs.Volume.{Volume}
 use Rattle.f11_writes.specs.Kept.{KeepsVolume}
 use Rattle.f11_files.specs.Answers.{Reads, Writes, FailsToRead, FailsToWrite, IsRight, IsUnderWay, Meanwhile, is_grave, faults_of}
 use Rattle.f11_files.specs.Structure.{home_of, Lies, Keeps, IsFor, StaysFor}

@@ -9,9 +9,9 @@ use Rattle.f11_dev.specs.Image.{Image}
 use Rattle.f11_dev.proofs.LookedLemmas.{looked_none}
 use Rattle.f11_dev.proofs.WentLemmas.{went_looked, went_write, went_failed_write, went_more, went_within}
 use Rattle.f11_home.specs.Home.{HomeFields}
-use Rattle.f11_vfy.specs.Contents.{block_or_zeros}
-use Rattle.f11_vfy.specs.Sound.{HasSoundVolume}
-use Rattle.f11_vfy.specs.Volume.{Volume, volume_of, IsNamed}
+use Rattle.f11_volume.specs.Contents.{block_or_zeros}
+use Rattle.f11_volume.specs.Sound.{HasSoundVolume}
+use Rattle.f11_volume.specs.Volume.{Volume, volume_of, IsNamed}
 use Rattle.f11_writes.specs.Kept.{KeepsVolume, KeepsFiles}
 use Rattle.f11_writes.specs.NameLaws.{AreSpare}
 use Rattle.f11_writes.proofs.NameLemmas.{spare-stay}

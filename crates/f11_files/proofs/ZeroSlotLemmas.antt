@@ -6,7 +6,7 @@ use Rattle.f11_dev.specs.Image.{Image}
 use Rattle.f11_home.specs.Home.{HomeFields}
 use Rattle.f11_index.specs.IndexFile.{Index, slots}
 use Rattle.f11_index.specs.Table.{Table, table_in, table_of, IsFile}
-use Rattle.f11_vfy.specs.Volume.{Volume}
+use Rattle.f11_volume.specs.Volume.{Volume}
 use Rattle.f11_writes.specs.Kept.{WritesHeader, WritesGrowth}
 use Rattle.f11_files.specs.Allocation.{AddsZeroSlots, GainsSlotsAs}
 use Rattle.f11_files.specs.ExtensionLaws.{EntersExtension}

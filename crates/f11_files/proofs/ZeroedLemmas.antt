@@ -5,7 +5,7 @@ use Rattle.f11_dev.specs.Disk.{Disk}
 use Rattle.f11_home.specs.Home.{HomeFields}
 use Rattle.f11_index.specs.Headers.{IsLastOf}
 use Rattle.f11_index.specs.Table.{Table, table_of}
-use Rattle.f11_vfy.specs.Volume.{Volume, volume_of}
+use Rattle.f11_volume.specs.Volume.{Volume, volume_of}
 use Rattle.f11_writes.specs.NameLaws.{AreSpare}
 use Rattle.f11_writes.proofs.NameLemmas.{spare-stay}
 use Rattle.f11_files.specs.FileLaws.{room_in}

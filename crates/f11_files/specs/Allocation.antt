@@ -12,7 +12,7 @@ use Rattle.f11_chain.specs.FileHeaders.{blocks_by, file_blocks}
 use Rattle.f11_store.specs.Changes.{is_in}
 use Rattle.f11_store.specs.Store.{no_id}
 use Rattle.f11_store.specs.declared.callers.Uic.{Uic}
-use Rattle.f11_vfy.specs.Volume.{Volume}
+use Rattle.f11_volume.specs.Volume.{Volume}
 use Rattle.f11_files.specs.FileLaws.{SaysAlike}
 
 -- the blocks that header n names, in order: none where it isn't live

@@ -6,7 +6,7 @@ use Rattle.f11_home.specs.Home.{HomeFields}
 use Rattle.f11_index.specs.Headers.{headers_of}
 use Rattle.f11_index.specs.Table.{Table, IsWholeFile}
 use Rattle.f11_chain.specs.FileHeaders.{file_blocks}
-use Rattle.f11_vfy.specs.Volume.{Volume, volume_of, IsCell}
+use Rattle.f11_volume.specs.Volume.{Volume, volume_of, IsCell}
 use Rattle.f11_files.specs.Allocation.{named_by, free_list, GainsBlocks}
 use Rattle.f11_files.specs.StoreOf.{store_of}
 

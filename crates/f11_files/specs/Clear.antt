@@ -10,7 +10,7 @@ use Rattle.f11_store.specs.Changes.{with_change}
 use Rattle.f11_store.specs.Lags.{with_no_mark}
 use Rattle.f11_store.specs.declared.files.FileId.{FileId}
 use Rattle.f11_writes.specs.OtherSlots.{KeepsOtherSlots}
-use Rattle.f11_vfy.specs.Volume.{volume_of}
+use Rattle.f11_volume.specs.Volume.{volume_of}
 use Rattle.f11_files.specs.Allocation.{AddsZeroSlots, GainsBlocks}
 use Rattle.f11_files.specs.First.{HoldsFile}
 use Rattle.f11_files.specs.Structure.{index_in, home_of, store_on, IsFor}

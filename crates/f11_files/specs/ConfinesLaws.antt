@@ -7,9 +7,9 @@ use Rattle.f11_dev.specs.Image.{Image}
 use Rattle.f11_home.specs.Home.{HomeFields}
 use Rattle.f11_index.specs.IndexFile.{index_of}
 use Rattle.f11_index.specs.Table.{table_of, IsFile}
-use Rattle.f11_vfy.specs.Sound.{HasSoundVolume}
-use Rattle.f11_vfy.specs.Space.{bitmap_file, storage_bitmap}
-use Rattle.f11_vfy.specs.Volume.{volume_of, IsNamed}
+use Rattle.f11_volume.specs.Sound.{HasSoundVolume}
+use Rattle.f11_volume.specs.Space.{bitmap_file, storage_bitmap}
+use Rattle.f11_volume.specs.Volume.{volume_of, IsNamed}
 use Rattle.f11_files.specs.Confines.{IsNoPart}
 
 -- a block of a volume that is none of those, whichever headers a call may change

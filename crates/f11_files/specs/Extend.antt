@@ -13,7 +13,7 @@ use Rattle.f11_store.specs.Store.{file_named}
 use Rattle.f11_store.specs.declared.callers.Uic.{Uic}
 use Rattle.f11_store.specs.declared.files.FileId.{FileId}
 use Rattle.f11_store.specs.declared.refusals.Refusal.{Refusal}
-use Rattle.f11_vfy.specs.Volume.{volume_of}
+use Rattle.f11_volume.specs.Volume.{volume_of}
 use Rattle.f11_files.specs.Allocation.{GainsBlocks, GainsBlocksAs}
 use Rattle.f11_files.specs.Answers.{Meanwhile, Does, FailsToWrite}
 use Rattle.f11_files.specs.Growing.{Grew, GrowingBy}

@@ -14,8 +14,8 @@ use Rattle.f11_index.specs.IndexFile.{Index, index_of, slots, is_in_use}
 use Rattle.f11_index.specs.Table.{table_of, IsLive, IsNext, IsHeaderOf}
 use Rattle.f11_store.specs.Changes.{with_slots, next_sequence}
 use Rattle.f11_store.specs.Store.{Store}
-use Rattle.f11_vfy.specs.Sound.{HasSoundVolume}
-use Rattle.f11_vfy.specs.Volume.{volume_of}
+use Rattle.f11_volume.specs.Sound.{HasSoundVolume}
+use Rattle.f11_volume.specs.Volume.{volume_of}
 use Rattle.f11_writes.specs.Kept.{WritesHeader, WritesSlotBit}
 use Rattle.f11_writes.specs.NameLaws.{AreSpare}
 use Rattle.f11_writes.specs.Worked.{with_new_header}

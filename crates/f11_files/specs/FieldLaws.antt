@@ -12,7 +12,7 @@ use Rattle.f11_store.specs.Changes.{with_delete_mark, with_replacement}
 use Rattle.f11_store.specs.File.{File, with_mark, without_contiguous}
 use Rattle.f11_store.specs.Lags.{with_no_mark}
 use Rattle.f11_store.specs.declared.files.Change.TheVariants as change
-use Rattle.f11_vfy.specs.Sound.{HasSoundVolume}
+use Rattle.f11_volume.specs.Sound.{HasSoundVolume}
 use Rattle.f11_files.specs.FileLaws.{ChangesFileAt}
 
 -- a file of which its first header says this

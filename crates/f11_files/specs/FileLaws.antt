@@ -13,9 +13,9 @@ use Rattle.f11_index.specs.Table.{Table, table_of, last_sequence, IsLive, IsNext
 use Rattle.f11_chain.specs.FileHeaders.{blocks_before}
 use Rattle.f11_store.specs.Changes.{with_change, with_more_slots}
 use Rattle.f11_store.specs.File.{File}
-use Rattle.f11_vfy.specs.Contents.{block_or_zeros, pointer_count}
-use Rattle.f11_vfy.specs.Sound.{HasSoundVolume}
-use Rattle.f11_vfy.specs.Volume.{volume_of}
+use Rattle.f11_volume.specs.Contents.{block_or_zeros, pointer_count}
+use Rattle.f11_volume.specs.Sound.{HasSoundVolume}
+use Rattle.f11_volume.specs.Volume.{volume_of}
 use Rattle.f11_writes.specs.Kept.{file_in, WritesHeader, WritesGrowth}
 use Rattle.f11_writes.specs.NameLaws.{AreSpare}
 use Rattle.f11_files.specs.StoreOf.{store_of}

@@ -18,7 +18,7 @@ use Rattle.f11_store.specs.declared.callers.Uic.{Uic}
 use Rattle.f11_store.specs.declared.files.FileId.{FileId}
 use Rattle.f11_store.specs.declared.refusals.Refusal.{Refusal}
 use Rattle.f11_store.specs.declared.refusals.Refusal.TheVariants.{NoMemory}
-use Rattle.f11_vfy.specs.Volume.{volume_of}
+use Rattle.f11_volume.specs.Volume.{volume_of}
 use Rattle.f11_files.specs.Allocation.{AddsZeroSlots, GainsSlots, GainsSlotsAs, NamesMore}
 use Rattle.f11_files.specs.Answers.{is_grave, faults_of, Does, IsRight, Meanwhile, Reads, Writes}
 use Rattle.f11_files.specs.Drops.{with_more_free}

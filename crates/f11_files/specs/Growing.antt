@@ -9,8 +9,8 @@ use Rattle.f11_store.specs.Changes.{Extends}
 use Rattle.f11_store.specs.File.{need}
 use Rattle.f11_files.specs.Pieces.{TakesSome, ExtendsSome, file_numbered}
 use Rattle.f11_store.specs.Store.{Store}
-use Rattle.f11_vfy.specs.Sound.{HasSoundVolume}
-use Rattle.f11_vfy.specs.Volume.{volume_of}
+use Rattle.f11_volume.specs.Sound.{HasSoundVolume}
+use Rattle.f11_volume.specs.Volume.{volume_of}
 use Rattle.f11_files.specs.StoreOf.{store_of}
 
 -- An image that stands meanwhile: its volume is sound, and of this store so many blocks and headers at most were taken.

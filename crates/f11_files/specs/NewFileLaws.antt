@@ -15,7 +15,7 @@ use Rattle.f11_store.specs.Changes.{after_create, next_sequence}
 use Rattle.f11_store.specs.Store.{free_slots as free_in}
 use Rattle.f11_store.specs.declared.callers.Uic.{Uic}
 use Rattle.f11_store.specs.declared.files.FileId.{FileId}
-use Rattle.f11_vfy.specs.Sound.{HasSoundVolume}
+use Rattle.f11_volume.specs.Sound.{HasSoundVolume}
 use Rattle.f11_writes.specs.Kept.{WritesHeader, WritesSlotBit}
 use Rattle.f11_writes.specs.Worked.{with_new_header}
 use Rattle.f11_files.specs.SlotLaws.{with_last}

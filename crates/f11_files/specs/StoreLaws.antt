@@ -6,7 +6,7 @@ use Rattle.f11_home.specs.Home.{HomeFields}
 use Rattle.f11_index.specs.Table.{Table, IsFile}
 use Rattle.f11_store.specs.Accesses.{FreeIsEmpty}
 use Rattle.f11_store.specs.Changes.{with_block, with_change}
-use Rattle.f11_vfy.specs.Space.{storage_bitmap}
+use Rattle.f11_volume.specs.Space.{storage_bitmap}
 use Rattle.f11_writes.specs.Kept.{KeepsFiles, WritesBlock, KeepsButFree}
 use Rattle.f11_files.specs.StoreOf.{is_first, store_of}
 

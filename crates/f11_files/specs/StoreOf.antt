@@ -10,8 +10,8 @@ use Rattle.f11_index.specs.IndexFile.{most_slots}
 use Rattle.f11_index.specs.Table.{Table, table_of, last_sequence}
 use Rattle.f11_store.specs.File.{File}
 use Rattle.f11_store.specs.Store.{Store}
-use Rattle.f11_vfy.specs.Contents.{file_of}
-use Rattle.f11_vfy.specs.Space.{storage_bitmap}
+use Rattle.f11_volume.specs.Contents.{file_of}
+use Rattle.f11_volume.specs.Space.{storage_bitmap}
 
 -- header n is a file's first
 unfoldable pub is_first : Table → ℕ → Bool

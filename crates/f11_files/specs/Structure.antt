@@ -9,8 +9,8 @@ use Rattle.f11_index.specs.IndexFile.{Index, index_of, free_slots, slots}
 use Rattle.f11_index.specs.Kept.{index_kept, LiesWithin}
 use Rattle.f11_store.specs.Changes.{is_in}
 use Rattle.f11_store.specs.Store.{Store}
-use Rattle.f11_vfy.specs.Sound.{HasSoundVolume}
-use Rattle.f11_vfy.specs.Space.{storage_bitmap}
+use Rattle.f11_volume.specs.Sound.{HasSoundVolume}
+use Rattle.f11_volume.specs.Space.{storage_bitmap}
 use Rattle.f11_files.specs.Confines.{Confines, IsNoPart, AreAlike}
 use Rattle.f11_files.specs.StoreOf.{store_of}
 use Rattle.f11_files.specs.declared.structure.Structure.{Structure}

@@ -17,8 +17,8 @@ use Rattle.f11_store.specs.File.{zero_blocks}
 use Rattle.f11_store.specs.Store.{Store}
 use Rattle.f11_store.specs.declared.callers.Uic.{Uic}
 use Rattle.f11_store.specs.declared.files.FileId.{FileId}
-use Rattle.f11_vfy.specs.Sound.{HasSoundVolume}
-use Rattle.f11_vfy.specs.Volume.{volume_of}
+use Rattle.f11_volume.specs.Sound.{HasSoundVolume}
+use Rattle.f11_volume.specs.Volume.{volume_of}
 use Rattle.f11_writes.specs.NameLaws.{AreSpare}
 use Rattle.f11_files.specs.Allocation.{NamesMore}
 use Rattle.f11_files.specs.FileLaws.{HasPointersMore, room_in, with_more_blocks}

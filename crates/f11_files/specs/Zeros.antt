@@ -5,7 +5,7 @@ use Rattle.f11_dev.specs.Disk.{Disk}
 use Rattle.f11_dev.specs.Image.{Image}
 use Rattle.f11_dev.specs.Went.{Went}
 use Rattle.f11_home.specs.Home.{HomeFields}
-use Rattle.f11_vfy.specs.Contents.{block_or_zeros}
+use Rattle.f11_volume.specs.Contents.{block_or_zeros}
 use Rattle.f11_writes.specs.Kept.{KeepsVolume}
 use Rattle.f11_files.specs.StoreOf.{store_of}
 

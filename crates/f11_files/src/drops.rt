@@ -10,7 +10,7 @@ ghost use Rattle.f11_header.specs.Header.{holds_header};
 ghost use Rattle.f11_index.specs.HeaderBlock.{blocks_named};
 ghost use Rattle.f11_index.specs.Table.{table_of};
 ghost use Rattle.f11_store.specs.Changes.{is_in, with_file};
-ghost use Rattle.f11_vfy.specs.Volume.{volume_of};
+ghost use Rattle.f11_volume.specs.Volume.{volume_of};
 ghost use Rattle.f11_writes.specs.NameLaws.{AreSpare};
 
 use crate::answer::refusal_for;

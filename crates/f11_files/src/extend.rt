@@ -18,7 +18,7 @@ ghost use Rattle.f11_index.specs.Table.{table_of};
 ghost use Rattle.f11_store.specs.Changes.{is_in};
 ghost use Rattle.f11_store.specs.File.{need};
 ghost use Rattle.f11_files.specs.Pieces.{file_numbered, MayExtend};
-ghost use Rattle.f11_vfy.specs.Volume.{volume_of};
+ghost use Rattle.f11_volume.specs.Volume.{volume_of};
 ghost use Rattle.f11_writes.specs.NameLaws.{AreSpare};
 
 use crate::answer::is_grave;

@@ -1,7 +1,7 @@
 //! The files of a volume.
 ghost use Rattle.std.specs.Prelude.{◌≡◌, false, length, IsTrue};
 ghost use Rattle.f11_files.specs.Structure.{home_of, Lies, Keeps, HasNoOtherHome};
-ghost use Rattle.f11_vfy.specs.Verdict.{IsAccepted};
+ghost use Rattle.f11_volume.specs.Verdict.{IsAccepted};
 
 use crate::structure::Structure;
 use f11_dev::Device;

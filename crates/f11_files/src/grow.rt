@@ -14,7 +14,7 @@ ghost use Rattle.f11_files.specs.Take.{NoneBelow};
 ghost use Rattle.f11_index.specs.Kept.{room};
 ghost use Rattle.f11_store.specs.File.{need};
 ghost use Rattle.f11_store.specs.Store.{index_file};
-ghost use Rattle.f11_vfy.specs.Volume.{volume_of};
+ghost use Rattle.f11_volume.specs.Volume.{volume_of};
 ghost use Rattle.f11_writes.specs.NameLaws.{AreSpare};
 
 use crate::extension::LAST_SEGMENT;

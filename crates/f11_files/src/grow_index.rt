@@ -1,6 +1,6 @@
 //! More slots for the index file.
 ghost use Rattle.std.specs.Prelude.{◌≡◌, ◌≤◌, ◌<◌, false, IfErr, IfOk, true, IsTrue};
-ghost use Rattle.f11_vfy.specs.Volume.{volume_of};
+ghost use Rattle.f11_volume.specs.Volume.{volume_of};
 ghost use Rattle.f11_files.specs.Allocation.{free_list};
 ghost use Rattle.f11_files.specs.Answers.{is_grave, is_light, is_refused, FailsToRead, WritesMoreOf};
 ghost use Rattle.f11_files.specs.Confines.{either, new_header};

@@ -1,7 +1,7 @@
 //! Opening an accepted volume, and giving it up.
 ghost use Rattle.std.specs.Prelude.{◌≡◌, ◌↔◌, false, IsTrue, IfErr, IfOk};
 ghost use Rattle.f11_files.specs.Opening.{AreApart, OpensStructure, fault_of, HasNoStructure};
-ghost use Rattle.f11_vfy.specs.Verdict.{IsAccepted};
+ghost use Rattle.f11_volume.specs.Verdict.{IsAccepted};
 
 use crate::files::Files;
 use crate::structure::Structure;

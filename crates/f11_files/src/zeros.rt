@@ -4,7 +4,7 @@ ghost use Rattle.std.specs.List.{range_with_len};
 ghost use Rattle.f11_files.specs.Confines.{no_header};
 ghost use Rattle.f11_files.specs.Structure.{home_of, IsFor, ConfinesTo};
 ghost use Rattle.f11_files.specs.Zeros.{Zeroes, FailsToZero};
-ghost use Rattle.f11_vfy.specs.Volume.{volume_of};
+ghost use Rattle.f11_volume.specs.Volume.{volume_of};
 ghost use Rattle.f11_writes.specs.NameLaws.{AreSpare};
 
 use crate::structure::Structure;

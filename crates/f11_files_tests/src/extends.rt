@@ -2,7 +2,7 @@
 ghost use Rattle.std.specs.Prelude.{◌<◌, ◌+◌, OnOk};
 ghost use Rattle.f11_files.specs.Allocation.{GainsBlocks};
 ghost use Rattle.f11_files.specs.Open.{disk_in, home_in, is_honest, IsIdFrom};
-ghost use Rattle.f11_vfy.specs.Volume.{volume_of};
+ghost use Rattle.f11_volume.specs.Volume.{volume_of};
 
 use crate::calls::{Call, Given, Id, Row, go, is_accepted, opened, transfers};
 use f11_bytes::read_word;

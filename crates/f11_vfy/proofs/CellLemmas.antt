@@ -7,7 +7,7 @@ use Rattle.f11_index.specs.Table.{Table, IsLive}
 use Rattle.f11_vfy.specs.Chain.{IsFit}
 use Rattle.f11_index.specs.Headers.{is_live}
 use Rattle.f11_vfy.specs.Count.{times_among, times_by, times_named}
-use Rattle.f11_vfy.specs.Volume.{IsCell, IsNamed, IsNamedTwice}
+use Rattle.f11_volume.specs.Volume.{IsCell, IsNamed, IsNamedTwice}
 use Rattle.f11_index.proofs.NextLemmas.{live-tested}
 use Rattle.f11_vfy.proofs.SumLemmas.{term, two_terms, some_term, pair_of_terms, Pair}
 use Rattle.f11_vfy.proofs.SurveyLemmas.{times-live, times-other}

@@ -18,7 +18,7 @@ use Rattle.f11_store.specs.Directory.{entry_count}
 use Rattle.f11_store.specs.File.{stated_end}
 use Rattle.f11_vfy.specs.Bits.{limit_of}
 use Rattle.f11_vfy.specs.Chain.{KeepsTable}
-use Rattle.f11_vfy.specs.Contents.{following, headers_reached, block_or_zeros, file_of}
+use Rattle.f11_volume.specs.Contents.{following, headers_reached, block_or_zeros, file_of}
 use Rattle.f11_vfy.specs.Directories.{KnowsNexts, HasBlocks, HoldsBlocks, HoldsHeader, TakesBlocks, TakesHeader, TakesHeaders, TakesDirectory, LooksAtHeader, LooksAtHeaders, LooksFor, ComesTo, numbered, until, wanted}
 use Rattle.f11_vfy.specs.Later.{Begins, TakesRecords}
 use Rattle.f11_vfy.specs.Survey.{ReadsSlot, reads_of}
@@ -29,6 +29,7 @@ use Rattle.f11_vfy.specs.declared.slot.State.{State}
 use Rattle.f11_vfy.specs.declared.slot.State.TheVariants.{Live}
 use Rattle.f11_vfy.proofs.SlotLemmas.{live-to}
 use Rattle.f11_vfy.proofs.TakeLemmas.{takes-same, takes-begin}
+use Rattle.f11_volume.proofs.FileLemmas.{following-none}
 
 numbered-some : (n : ℕ) → 1 ≤ n → numbered n ≡ Some n
 numbered-some zero some = absurd (omega arith)
@@ -64,11 +65,6 @@ following-more : (t : Table) (most n : ℕ) → 1 ≤ n → following (suc most)
 unfolding following
 following-more t most zero some = absurd (omega arith)
 following-more t most (suc n) some = refl
-
-pub following-none : (t : Table) (most : ℕ) → following most t None ≡ []
-unfolding following
-following-none t zero = refl
-following-none t (suc most) = refl
 
 following-zero : (t : Table) (o : Option ℕ) → following 0 t o ≡ []
 unfolding following

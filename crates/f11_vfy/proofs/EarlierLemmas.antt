@@ -20,9 +20,10 @@ use Rattle.f11_index.proofs.HeadersLemmas.{live-some}
 use Rattle.f11_chain.specs.Calls.{table, FindsNoFile, FindsLast, FindsWrongLink, IsNextOf, next_reads}
 use Rattle.f11_chain.proofs.AlongLemmas.{Along, block-is, table-stays, honest-stays}
 use Rattle.f11_vfy.specs.Bits.{has, limit_of}
-use Rattle.f11_vfy.specs.Earlier.{IsNamedIn, AreNamedBefore, Puts, PutsNamed, JudgesEarlier}
+use Rattle.f11_vfy.specs.Earlier.{Puts, PutsNamed, JudgesEarlier}
+use Rattle.f11_volume.specs.Earlier.{IsNamedIn, AreNamedBefore}
 use Rattle.f11_vfy.specs.declared.bits.Bits.{Bits}
-use Rattle.f11_vfy.proofs.MemberLemmas.{in-front, in-back, in-either, in-range, range-has}
+use Rattle.f11_volume.proofs.MemberLemmas.{in-front, in-back, in-either, in-range, range-has}
 
 -- none, and some after others
 pub puts-none : (P : ℕ → Type 0) (b : Bits) → ((k : ℕ) → ¬ P k) → Puts P b b

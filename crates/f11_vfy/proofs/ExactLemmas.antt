@@ -13,16 +13,16 @@ use Rattle.f11_store.specs.File.{is_marked}
 use Rattle.f11_store.specs.declared.files.FileId.{FileId}
 use Rattle.f11_vfy.specs.Bits.{has, limit_of}
 use Rattle.f11_vfy.specs.Chain.{IsLinkedTwice}
-use Rattle.f11_vfy.specs.Contents.{file_of}
-use Rattle.f11_vfy.specs.Faults.{IsVolumeFault, header_bad, pointer_outside, named_twice, named_free, wrong_link, linked_twice, link_past_last, link_to_volume}
+use Rattle.f11_volume.specs.Contents.{file_of}
+use Rattle.f11_volume.specs.Faults.{IsVolumeFault, header_bad, pointer_outside, named_twice, named_free, wrong_link, linked_twice, link_past_last, link_to_volume}
 use Rattle.f11_vfy.specs.Found.{Finds, FoundAmong}
-use Rattle.f11_vfy.specs.Notes.{IsVolumeNote, blocks_lost, header_dead, orphan, marked, not_closed, in_no_directory, names_no_file, name_repeated, no_name}
+use Rattle.f11_volume.specs.Notes.{IsVolumeNote, blocks_lost, header_dead, orphan, marked, not_closed, in_no_directory, names_no_file, name_repeated, no_name}
 use Rattle.f11_vfy.specs.Parts.{IsReading}
 use Rattle.f11_vfy.specs.Reading.{ShowsVolume, IsFirstNote}
 use Rattle.f11_vfy.specs.Scans.{Holds, code_of, is_lost, ends_lost, start_of}
 use Rattle.f11_vfy.specs.Slot.{KeepsSlot, KeepsHeader, IsBadSlot, kept_slot, unused_slot}
 use Rattle.f11_vfy.specs.Survey.{OutsideUpTo}
-use Rattle.f11_vfy.specs.Volume.{Volume, IsLinked}
+use Rattle.f11_volume.specs.Volume.{Volume, IsLinked}
 use Rattle.f11_index.specs.Headers.{IsInFile}
 use Rattle.f11_vfy.specs.declared.reading.Reading.{Reading}
 use Rattle.f11_vfy.specs.declared.scans.Kind.{Kind}

@@ -22,9 +22,9 @@ use Rattle.f11_chain.specs.FileHeaders.{blocks_by, file_blocks}
 use Rattle.f11_chain.specs.Calls.{table, ReadsFirst, FindsNoFile, FindsLast, FindsWrongLink, next_reads}
 use Rattle.f11_chain.proofs.AlongLemmas.{Along, HoldsHeader-live, block-is, header-some, break-next, table-stays, honest-stays}
 use Rattle.f11_chain.proofs.ReachedLemmas.{blocks-split, blocks-last}
-use Rattle.f11_vfy.specs.Faults.{IsOwnFile}
+use Rattle.f11_volume.specs.Faults.{IsOwnFile}
 use Rattle.f11_vfy.specs.FrameParts.{JudgesOwnFile, FindsNoOwnFile, needed, KeepsIf, ReadsBitmapFile, FindsNoBitmapFile}
-use Rattle.f11_vfy.proofs.MemberLemmas.{all-append, all-front, all-back, all-take, run-below}
+use Rattle.f11_volume.proofs.MemberLemmas.{all-append, all-front, all-back, all-take, run-below}
 
 -- header n was read, as the first of a file
 pub judges-own : (index : Index) (n sequence : ℕ) (block : List ℕ) (old new : Disk) → sequence ≡ file_sequence block → ReadsFirst index n block old new

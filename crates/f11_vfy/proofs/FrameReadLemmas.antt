@@ -18,16 +18,17 @@ use Rattle.f11_index.specs.Kept.{LiesWithin}
 use Rattle.f11_index.specs.Sound.{IsIndexFile}
 use Rattle.f11_index.specs.Table.{Table, table_in, table_of}
 use Rattle.f11_chain.specs.FileHeaders.{IsSoundFile}
-use Rattle.f11_vfy.specs.Earlier.{AreNamedBefore, JudgesEarlier}
-use Rattle.f11_vfy.specs.Faults.{IsOwnFile, IsFirstNoFile, HasIndexFile, HasOwnFiles, HasBitmapFile, HasControlBlock, IsFaultBehindHome, index_misplaced, own_file_bad, bitmap_file_bad, control_block_wrong, bit_past_slots, no_home, behind_home}
+use Rattle.f11_vfy.specs.Earlier.{JudgesEarlier}
+use Rattle.f11_volume.specs.Earlier.{AreNamedBefore}
+use Rattle.f11_volume.specs.Faults.{IsOwnFile, IsFirstNoFile, HasIndexFile, HasOwnFiles, HasBitmapFile, HasControlBlock, IsFaultBehindHome, index_misplaced, own_file_bad, bitmap_file_bad, control_block_wrong, bit_past_slots, no_home, behind_home}
 use Rattle.f11_vfy.specs.Frame.{frame_index, frame_bitmap, IsIndexOf, IsBehindHome, ReadsBehind, FindsBehind, FramesBehind, Frames}
 use Rattle.f11_vfy.specs.declared.framing.Framing.{Framing}
 use Rattle.f11_vfy.specs.declared.framing.Framing.TheVariants.{Framed, Faulty}
 use Rattle.f11_vfy.specs.FrameParts.{needed, FindsOwnFiles, FindsNoOwnFile, ReadsBitmapFile, FindsNoBitmapFile}
 use Rattle.f11_vfy.specs.Framing.{LieOn, ReadsFrame, FindsFrameFault}
 use Rattle.f11_vfy.specs.Reading.{bitmap_at}
-use Rattle.f11_vfy.specs.Space.{bitmap_count, stated_size, bitmap_file, control_block, IsControlBlock, storage_bitmap}
-use Rattle.f11_vfy.proofs.MemberLemmas.{all-back, all-take}
+use Rattle.f11_volume.specs.Space.{bitmap_count, stated_size, bitmap_file, control_block, IsControlBlock, storage_bitmap}
+use Rattle.f11_volume.proofs.MemberLemmas.{all-back, all-take}
 
 -- the first blocks of a file
 first-block : (xs : List ℕ) → slice_index (needed xs) 0 ≡ slice_index xs 0

@@ -35,10 +35,10 @@ use Rattle.f11_layout.specs.declared.layout.Layout.{Layout}
 use Rattle.f11_layout.proofs.HomeLemmas.{fresh-home, fresh-index_blocks, fresh-index_lbn}
 use Rattle.f11_store.specs.declared.files.FileId.{FileId}
 use Rattle.f11_vfy.specs.Fresh.{used_by, IsFreshUpTo}
-use Rattle.f11_vfy.specs.Faults.{IsFramed}
-use Rattle.f11_vfy.specs.Sound.{IsSoundVolume, IsSoundImage}
-use Rattle.f11_vfy.specs.Space.{bitmap_count, stated_size, bitmap_file, control_block, storage_bitmap, IsControlBlock}
-use Rattle.f11_vfy.specs.Volume.{Volume, volume_of, IsCell}
+use Rattle.f11_volume.specs.Faults.{IsFramed}
+use Rattle.f11_volume.specs.Sound.{IsSoundVolume, IsSoundImage}
+use Rattle.f11_volume.specs.Space.{bitmap_count, stated_size, bitmap_file, control_block, storage_bitmap, IsControlBlock}
+use Rattle.f11_volume.specs.Volume.{Volume, volume_of, IsCell}
 use Rattle.f11_vfy.proofs.FreshBits.{own-bit, other-bit, past-bit}
 
 zero-size : length zero_block ≡ 512

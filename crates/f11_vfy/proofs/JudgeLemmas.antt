@@ -16,11 +16,11 @@ use Rattle.f11_vfy.specs.Directories.{KnowsNexts, LooksFor, TakesDirectory, most
 use Rattle.f11_vfy.specs.DirectoryNotes.{IsLaterNote, has_directory, reads_at, JudgesSlot, JudgesUpTo, LooksAt, LooksUpTo, LooksThrough}
 use Rattle.f11_vfy.specs.Found.{Finds, FoundAmong}
 use Rattle.f11_vfy.specs.Later.{FlawsUpTo, IsNewLater, ShowsLater}
-use Rattle.f11_vfy.specs.Notes.{IsDirectory, IsEntered, IsVolumeNote, blocks_lost, header_dead, orphan, marked, not_closed, in_no_directory, names_no_file, name_repeated, no_name}
+use Rattle.f11_volume.specs.Notes.{IsDirectory, IsEntered, IsVolumeNote, blocks_lost, header_dead, orphan, marked, not_closed, in_no_directory, names_no_file, name_repeated, no_name}
 use Rattle.f11_vfy.specs.Reading.{ShowsVolume, volume_in}
 use Rattle.f11_vfy.specs.Scans.{IsFileSlot}
 use Rattle.f11_vfy.specs.Slot.{KeepsSlot, kept_slot}
-use Rattle.f11_vfy.specs.Volume.{Volume}
+use Rattle.f11_volume.specs.Volume.{Volume}
 use Rattle.f11_vfy.specs.declared.later.Later.{Later}
 use Rattle.f11_vfy.specs.declared.reading.Reading.{Reading}
 use Rattle.f11_vfy.specs.declared.slot.Slot.{Slot}

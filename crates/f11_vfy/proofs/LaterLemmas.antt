@@ -5,12 +5,12 @@ use Rattle.f11_dev.specs.Image.{Image}
 use Rattle.f11_findings.specs.Finding.{finding}
 use Rattle.f11_findings.specs.declared.finding.Finding.{Finding}
 use Rattle.f11_store.specs.Directory.{entry_count}
-use Rattle.f11_vfy.specs.Contents.{file_of}
+use Rattle.f11_volume.specs.Contents.{file_of}
 use Rattle.f11_vfy.specs.Flaws.{EntersIn, HasFlaw, flaw_code}
 use Rattle.f11_vfy.specs.Found.{Finds, FoundAmong}
 use Rattle.f11_vfy.specs.Later.{FindsFlaws, FlawsUpTo, IsEnteredUpTo, IsNewLater, ShowsLater, TakesRecords}
-use Rattle.f11_vfy.specs.Notes.{IsDirectory, IsRecord}
-use Rattle.f11_vfy.specs.Volume.{Volume}
+use Rattle.f11_volume.specs.Notes.{IsDirectory, IsRecord}
+use Rattle.f11_volume.specs.Volume.{Volume}
 use Rattle.f11_vfy.specs.declared.flaws.Flaw.{Flaw}
 use Rattle.f11_vfy.specs.declared.flaws.Flaw.TheVariants.{NoFile, Repeated, NoName}
 use Rattle.f11_vfy.specs.declared.later.Later.{Later}

@@ -1,8 +1,3 @@
-pub mod FrameLemmas
-pub mod NamedLemmas
-pub mod SoundLemmas
-pub mod DecideLemmas
-pub mod AcceptedLemmas
 pub mod FreshBits
 pub mod FreshLemmas
 pub mod LayLemmas
@@ -32,10 +27,8 @@ pub mod RepeatLemmas
 pub mod RecordLemmas
 pub mod LaterLemmas
 pub mod JudgeLemmas
-pub mod MemberLemmas
 pub mod EarlierLemmas
 pub mod FramePartLemmas
 pub mod FrameReadLemmas
 pub mod VerifyLemmas
 pub mod OverLemmas
-pub mod FileLemmas

@@ -7,10 +7,10 @@ use Rattle.f11_vfy.specs.Bits.{has, limit_of}
 use Rattle.f11_vfy.specs.Found.{Finds, FoundAmong}
 use Rattle.f11_vfy.specs.Chain.{IsFit}
 use Rattle.f11_vfy.specs.Count.{Shows, times_named}
-use Rattle.f11_vfy.specs.Notes.{IsLost, IsLostRun}
+use Rattle.f11_volume.specs.Notes.{IsLost, IsLostRun}
 use Rattle.f11_vfy.specs.Reading.{ShowsFree}
 use Rattle.f11_vfy.specs.Scans.{is_lost, ends_lost, start_of}
-use Rattle.f11_vfy.specs.Volume.{Volume}
+use Rattle.f11_volume.specs.Volume.{Volume}
 use Rattle.f11_vfy.specs.declared.bits.Bits.{Bits}
 use Rattle.f11_vfy.specs.declared.tally.Tally.{Tally}
 use Rattle.f11_vfy.proofs.FoundLemmas.{finds-none, start-moves}

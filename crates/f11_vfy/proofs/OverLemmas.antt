@@ -13,16 +13,16 @@ use Rattle.f11_home.proofs.HomeLemmas.{home-unique}
 use Rattle.f11_index.specs.IndexFile.{Index, index_of}
 use Rattle.f11_index.specs.Table.{table_in}
 use Rattle.f11_vfy.specs.DirectoryNotes.{directory_reads, LooksThrough, AddsDirectoryNotes, IsLaterNote}
-use Rattle.f11_vfy.specs.Faults.{IsVolumeFault}
+use Rattle.f11_volume.specs.Faults.{IsVolumeFault}
 use Rattle.f11_vfy.specs.Found.{Finds}
 use Rattle.f11_vfy.specs.Framing.{AreOf, ReadsFrame, FindsFrameFault, frame_reads}
 use Rattle.f11_vfy.specs.Reading.{most_read, volume_in, ShowsVolume, ReadsVolume}
 use Rattle.f11_vfy.specs.Verify.{LooksOverVolume, LooksOver, ExaminesVolume, Examines}
-use Rattle.f11_vfy.specs.Volume.{Volume, volume_of}
-use Rattle.f11_vfy.specs.Notes.{IsVolumeNote}
+use Rattle.f11_volume.specs.Volume.{Volume, volume_of}
+use Rattle.f11_volume.specs.Notes.{IsVolumeNote}
 use Rattle.f11_vfy.proofs.VerifyLemmas.{one-fault, no-note, volume-faults, image-notes}
 use Rattle.f11_vfy.specs.declared.reading.Reading.{Reading}
-use Rattle.f11_vfy.proofs.FrameLemmas.{frame-none}
+use Rattle.f11_volume.proofs.FrameLemmas.{frame-none}
 use Rattle.f11_vfy.proofs.ReadingLemmas.{volume-read}
 
 -- the volume alone was read

@@ -13,13 +13,13 @@ use Rattle.f11_index.specs.Table.{Table, table_in}
 use Rattle.f11_index.proofs.InUseLemmas.{in_use-some, in_use-slot}
 use Rattle.f11_vfy.specs.Chain.{IsFit, KeepsTable, ShowsChains}
 use Rattle.f11_store.specs.Directory.{is_directory}
-use Rattle.f11_vfy.specs.Contents.{file_of}
+use Rattle.f11_volume.specs.Contents.{file_of}
 use Rattle.f11_vfy.specs.Free.{ReadsFree}
 use Rattle.f11_vfy.specs.Reading.{ReadsVolume, ShowsVolume, volume_in}
 use Rattle.f11_vfy.specs.Slot.{says_directory}
-use Rattle.f11_vfy.specs.Space.{storage_bitmap}
+use Rattle.f11_volume.specs.Space.{storage_bitmap}
 use Rattle.f11_vfy.specs.Survey.{SurveysDisk, Surveys}
-use Rattle.f11_vfy.specs.Volume.{volume_of}
+use Rattle.f11_volume.specs.Volume.{volume_of}
 use Rattle.f11_vfy.specs.declared.reading.Reading.{Reading}
 
 -- the headers of an image are as the format has them

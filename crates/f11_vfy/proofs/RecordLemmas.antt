@@ -7,10 +7,10 @@ use Rattle.f11_dev.specs.Image.{Image}
 use Rattle.f11_rad50.specs.Name.{IsName}
 use Rattle.f11_store.specs.Directory.{entries_of, entry_count, is_empty, record_at, record_id, record_name}
 use Rattle.f11_store.specs.File.{File}
-use Rattle.f11_vfy.specs.Contents.{file_of}
+use Rattle.f11_volume.specs.Contents.{file_of}
 use Rattle.f11_vfy.specs.Flaws.{EntersIn, HasFlaw, flaw_code}
-use Rattle.f11_vfy.specs.Notes.{IsVolumeNote, IsDirectory, IsRecord, IsIdOf, IsEntered, IsRepeated, blocks_lost, header_dead, orphan, marked, not_closed, in_no_directory, names_no_file, name_repeated, no_name}
-use Rattle.f11_vfy.specs.Volume.{Volume}
+use Rattle.f11_volume.specs.Notes.{IsVolumeNote, IsDirectory, IsRecord, IsIdOf, IsEntered, IsRepeated, blocks_lost, header_dead, orphan, marked, not_closed, in_no_directory, names_no_file, name_repeated, no_name}
+use Rattle.f11_volume.specs.Volume.{Volume}
 use Rattle.f11_vfy.specs.declared.flaws.Flaw.{Flaw}
 use Rattle.f11_vfy.specs.declared.flaws.Flaw.TheVariants.{NoFile, Repeated, NoName}
 

@@ -10,7 +10,7 @@ use Rattle.f11_vfy.specs.Count.{Shows, times_among, times_by, times_named}
 use Rattle.f11_vfy.specs.Found.{Finds}
 use Rattle.f11_vfy.specs.Slot.{HasState, KeepsHeader, KeepsSlot, KeepsSlots}
 use Rattle.f11_vfy.specs.Survey.{IsOutside, OutsideOf, OutsideUpTo, TakesSlot, IsSurvey, Surveys, IsNewSurvey}
-use Rattle.f11_vfy.specs.Volume.{HasPointer}
+use Rattle.f11_volume.specs.Volume.{HasPointer}
 use Rattle.f11_vfy.specs.declared.slot.Slot.{Slot}
 use Rattle.f11_vfy.specs.declared.slot.State.{State}
 use Rattle.f11_vfy.specs.declared.slot.State.TheVariants.{Unused, Dead, Bad, Live}

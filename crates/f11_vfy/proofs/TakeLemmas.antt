@@ -17,7 +17,7 @@ use Rattle.f11_vfy.specs.Chain.{KeepsTable}
 use Rattle.f11_vfy.specs.Directories.{until}
 use Rattle.f11_vfy.specs.Flaws.{EntersAt, HasFlaw, has_name}
 use Rattle.f11_vfy.specs.Later.{Begins, FindsFlaws, TakesOn, TakesRecords}
-use Rattle.f11_vfy.specs.Notes.{IsIdOf}
+use Rattle.f11_volume.specs.Notes.{IsIdOf}
 use Rattle.f11_vfy.specs.declared.contents.Directory.{Directory}
 use Rattle.f11_vfy.specs.declared.flaws.Flaw.{Flaw}
 use Rattle.f11_vfy.specs.declared.flaws.Flaw.TheVariants.{NoFile, Repeated, NoName}

@@ -10,13 +10,13 @@ use Rattle.f11_findings.proofs.FindingLemmas.{IsExactly-added}
 use Rattle.f11_home.specs.Home.{HomeFields}
 use Rattle.f11_home.proofs.HomeLemmas.{home-unique}
 use Rattle.f11_vfy.specs.DirectoryNotes.{IsLaterNote}
-use Rattle.f11_vfy.specs.Faults.{IsFramed, IsFrameFault, IsVolumeFault}
+use Rattle.f11_volume.specs.Faults.{IsFramed, IsFrameFault, IsVolumeFault}
 use Rattle.f11_vfy.specs.Found.{Finds}
-use Rattle.f11_vfy.specs.Notes.{IsVolumeNote}
+use Rattle.f11_volume.specs.Notes.{IsVolumeNote}
 use Rattle.f11_vfy.specs.Reading.{IsFirstNote}
-use Rattle.f11_vfy.specs.Verdict.{IsFault, IsNote, of_frame, of_volume}
-use Rattle.f11_vfy.specs.Volume.{Volume, volume_of}
-use Rattle.f11_vfy.proofs.FrameLemmas.{frame-none, frame-only}
+use Rattle.f11_volume.specs.Verdict.{IsFault, IsNote, of_frame, of_volume}
+use Rattle.f11_volume.specs.Volume.{Volume, volume_of}
+use Rattle.f11_volume.proofs.FrameLemmas.{frame-none, frame-only}
 
 -- a list is exactly a relation where it is another that holds of the same
 pub exactly-same : (R S : ℕ → ℕ → ℕ → Type 0) (found : List Finding) → ((code a b : ℕ) → R code a b → S code a b) → ((code a b : ℕ) → S code a b → R code a b)

@@ -17,7 +17,7 @@ use Rattle.f11_index.specs.HeaderBlock.{blocks_named}
 use Rattle.f11_map.specs.MapArea.{runs_of, blocks_in}
 use Rattle.f11_map.proofs.MapLemmas.{blocks_in-append, blocks_in-drop, length-blocks_in-more}
 use Rattle.f11_store.specs.Directory.{is_empty, record_in, record_at}
-use Rattle.f11_vfy.specs.Contents.{block_or_zeros}
+use Rattle.f11_volume.specs.Contents.{block_or_zeros}
 use Rattle.f11_vfy.specs.Directories.{HasBlocks, HoldsBlocks, TakesBlocks, until, wanted}
 use Rattle.f11_vfy.specs.Later.{TakesOn}
 use Rattle.f11_vfy.specs.declared.contents.Directory.{Directory}

@@ -11,7 +11,7 @@ use Rattle.f11_store.specs.Directory.{entry_count}
 use Rattle.f11_store.specs.File.{File}
 use Rattle.f11_vfy.specs.Bits.{limit_of}
 use Rattle.f11_vfy.specs.Chain.{IsFit, KeepsTable, NextsTo}
-use Rattle.f11_vfy.specs.Contents.{following, headers_reached, block_or_zeros, file_of}
+use Rattle.f11_volume.specs.Contents.{following, headers_reached, block_or_zeros, file_of}
 use Rattle.f11_vfy.specs.Later.{TakesOn, TakesRecords}
 use Rattle.f11_vfy.specs.declared.contents.Directory.{Directory}
 use Rattle.f11_vfy.specs.declared.later.Later.{Later}

@@ -11,14 +11,14 @@ use Rattle.f11_index.specs.IndexFile.{Index}
 use Rattle.f11_index.specs.Table.{Table, table_in}
 use Rattle.f11_store.specs.Directory.{is_directory}
 use Rattle.f11_vfy.specs.Bits.{limit_of}
-use Rattle.f11_vfy.specs.Contents.{file_of}
+use Rattle.f11_volume.specs.Contents.{file_of}
 use Rattle.f11_vfy.specs.Count.{sum_to}
 use Rattle.f11_vfy.specs.Directories.{most_reads}
 use Rattle.f11_vfy.specs.Found.{Finds}
 use Rattle.f11_vfy.specs.Later.{ShowsLater}
-use Rattle.f11_vfy.specs.Notes.{IsVolumeNote}
+use Rattle.f11_volume.specs.Notes.{IsVolumeNote}
 use Rattle.f11_vfy.specs.Reading.{ShowsVolume, volume_in}
-use Rattle.f11_vfy.specs.Volume.{Volume}
+use Rattle.f11_volume.specs.Volume.{Volume}
 use Rattle.f11_vfy.specs.declared.later.Later.{Later}
 use Rattle.f11_vfy.specs.declared.reading.Reading.{Reading}
 

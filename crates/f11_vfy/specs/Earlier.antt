@@ -1,21 +1,13 @@
 -- Which candidates for the home block are blocks of file 3 (profile).
-use Rattle.std.specs.Prelude.{◌≡◌, ◌⊎◌, ◌↔◌, ℕ, ◌<◌, Bool, true, IsTrue, Contains}
+use Rattle.std.specs.Prelude.{◌≡◌, ◌⊎◌, ◌↔◌, ℕ, ◌<◌, Bool, true, IsTrue}
 use Rattle.f11_dev.specs.Disk.{Disk}
 use Rattle.f11_dev.specs.Looked.{Looked}
 use Rattle.f11_home.specs.Home.{candidate}
-use Rattle.f11_index.specs.HeaderBlock.{blocks_named}
 use Rattle.f11_index.specs.IndexFile.{Index}
-use Rattle.f11_index.specs.Table.{Table, table_in, IsHeaderOf}
+use Rattle.f11_index.specs.Table.{table_in}
 use Rattle.f11_vfy.specs.Bits.{has, limit_of}
 use Rattle.f11_vfy.specs.declared.bits.Bits.{Bits}
-
--- a header of file f names this block
-abbrev pub IsNamedIn : Table → ℕ → ℕ → Type 0
-IsNamedIn t f lbn = (n : ℕ) × IsHeaderOf t f n × Contains (blocks_named (t.header n)) lbn
-
--- each candidate for the home block before this LBN is a block of file 3
-abbrev pub AreNamedBefore : Table → ℕ → Type 0
-AreNamedBefore t lbn = (k : ℕ) → candidate k < lbn → IsNamedIn t 3 (candidate k)
+use Rattle.f11_volume.specs.Earlier.{IsNamedIn, AreNamedBefore}
 
 -- The numbers of which this holds were put into a set, those of them that are below its limit.
 pub record Puts (P : ℕ → Type 0) (old new : Bits) : Type 0 where

@@ -6,7 +6,7 @@ use Rattle.std.specs.Ordering.{nat_cmp}
 use Rattle.f11_index.specs.Table.{Table}
 use Rattle.f11_rad50.specs.Name.{IsName}
 use Rattle.f11_store.specs.Directory.{is_empty, record_at, record_id, record_name}
-use Rattle.f11_vfy.specs.Notes.{IsIdOf}
+use Rattle.f11_volume.specs.Notes.{IsIdOf}
 use Rattle.f11_vfy.specs.declared.flaws.Flaw.{Flaw}
 use Rattle.f11_vfy.specs.declared.flaws.Flaw.TheVariants.{NoFile, Repeated, NoName}
 

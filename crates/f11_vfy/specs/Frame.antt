@@ -8,10 +8,10 @@ use Rattle.f11_home.specs.Home.{HomeFields}
 use Rattle.f11_index.specs.IndexFile.{Index, index_of, HasNonePast}
 use Rattle.f11_index.specs.Kept.{index_kept}
 use Rattle.f11_index.specs.Sound.{IsIndexFile}
-use Rattle.f11_vfy.specs.Faults.{HasIndexFile, HasOwnFiles, HasBitmapFile, HasControlBlock, IsFaultBehindHome}
+use Rattle.f11_volume.specs.Faults.{HasIndexFile, HasOwnFiles, HasBitmapFile, HasControlBlock, IsFaultBehindHome}
 use Rattle.f11_vfy.specs.Framing.{LieOn, ReadsFrame, FindsFrameFault}
 use Rattle.f11_vfy.specs.Reading.{bitmap_at}
-use Rattle.f11_vfy.specs.Space.{storage_bitmap}
+use Rattle.f11_volume.specs.Space.{storage_bitmap}
 use Rattle.f11_vfy.specs.declared.framing.Frame.{Frame}
 use Rattle.f11_vfy.specs.declared.framing.Framing.{Framing}
 use Rattle.f11_vfy.specs.declared.framing.Framing.TheVariants.{Framed, Faulty}

@@ -5,8 +5,8 @@ use Rattle.f11_dev.specs.Looked.{Looked}
 use Rattle.f11_index.specs.IndexFile.{Index}
 use Rattle.f11_index.specs.Table.{table_in}
 use Rattle.f11_chain.specs.FileHeaders.{IsSoundFile}
-use Rattle.f11_vfy.specs.Faults.{IsOwnFile, IsFirstNoFile}
-use Rattle.f11_vfy.specs.Space.{bitmap_file}
+use Rattle.f11_volume.specs.Faults.{IsOwnFile, IsFirstNoFile}
+use Rattle.f11_volume.specs.Space.{bitmap_file}
 
 -- It was judged whether header n is the first of the file n,n.
 pub record JudgesOwnFile (index : Index) (n : ℕ) (own : Bool) (old new : Disk) : Type 0 where

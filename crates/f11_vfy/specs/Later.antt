@@ -8,8 +8,8 @@ use Rattle.f11_vfy.specs.Bits.{has, limit_of}
 use Rattle.f11_vfy.specs.Chain.{KeepsTable}
 use Rattle.f11_vfy.specs.Flaws.{EntersIn, HasFlaw, KeepsNames, flaw_code}
 use Rattle.f11_vfy.specs.Found.{Finds, FoundAmong}
-use Rattle.f11_vfy.specs.Notes.{IsEntered, IsVolumeNote}
-use Rattle.f11_vfy.specs.Volume.{Volume}
+use Rattle.f11_volume.specs.Notes.{IsEntered, IsVolumeNote}
+use Rattle.f11_volume.specs.Volume.{Volume}
 use Rattle.f11_vfy.specs.declared.flaws.Flaw.{Flaw}
 use Rattle.f11_vfy.specs.declared.flaws.Flaw.TheVariants.{NoFile, Repeated, NoName}
 use Rattle.f11_vfy.specs.declared.later.Later.{Later}

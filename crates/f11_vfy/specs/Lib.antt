@@ -1,11 +1,4 @@
-pub mod Space
-pub mod Volume
-pub mod Contents
-pub mod Faults
-pub mod Notes
-pub mod Verdict
 pub mod Accepted
-pub mod Sound
 pub mod Fresh
 pub mod Init
 pub mod Framing
@@ -15,7 +8,6 @@ pub mod Later
 pub mod DirectoryNotes
 pub mod Verify
 pub mod Laws
-pub mod FileLaws
 pub mod Bits
 pub mod Count
 pub mod Slot

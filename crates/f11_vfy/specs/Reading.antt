@@ -8,9 +8,9 @@ use Rattle.f11_index.specs.IndexFile.{Index}
 use Rattle.f11_index.specs.Table.{table_in}
 use Rattle.f11_vfy.specs.Bits.{has, limit_of}
 use Rattle.f11_vfy.specs.Chain.{IsFit, ShowsChains}
-use Rattle.f11_vfy.specs.Notes.{IsVolumeNote}
+use Rattle.f11_volume.specs.Notes.{IsVolumeNote}
 use Rattle.f11_vfy.specs.Survey.{used_slots, Surveys}
-use Rattle.f11_vfy.specs.Volume.{Volume}
+use Rattle.f11_volume.specs.Volume.{Volume}
 use Rattle.f11_vfy.specs.declared.bits.Bits.{Bits}
 use Rattle.f11_vfy.specs.declared.reading.Reading.{Reading}
 

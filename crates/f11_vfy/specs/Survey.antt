@@ -14,7 +14,7 @@ use Rattle.f11_vfy.specs.Bits.{limit_of}
 use Rattle.f11_vfy.specs.Count.{Shows, times_among, times_named, sum_to}
 use Rattle.f11_vfy.specs.Found.{Finds}
 use Rattle.f11_vfy.specs.Slot.{HasState, KeepsHeader, KeepsSlots}
-use Rattle.f11_vfy.specs.Volume.{HasPointer}
+use Rattle.f11_volume.specs.Volume.{HasPointer}
 use Rattle.f11_vfy.specs.declared.slot.Slot.{Slot}
 use Rattle.f11_vfy.specs.declared.slot.State.{State}
 use Rattle.f11_vfy.specs.declared.slot.State.TheVariants.{Live}

@@ -12,12 +12,12 @@ use Rattle.f11_index.specs.IndexFile.{Index, index_of}
 use Rattle.f11_index.specs.Table.{table_in, table_of}
 use Rattle.f11_vfy.specs.Accepted.{device_of}
 use Rattle.f11_vfy.specs.DirectoryNotes.{directory_reads}
-use Rattle.f11_vfy.specs.Faults.{IsFramed, IsFrameFault, IsVolumeFault}
+use Rattle.f11_volume.specs.Faults.{IsFramed, IsFrameFault, IsVolumeFault}
 use Rattle.f11_vfy.specs.Framing.{frame_reads}
 use Rattle.f11_vfy.specs.Reading.{most_read, volume_in}
-use Rattle.f11_vfy.specs.Notes.{IsVolumeNote}
-use Rattle.f11_vfy.specs.Space.{storage_bitmap}
-use Rattle.f11_vfy.specs.Verdict.{IsFault, IsNote}
+use Rattle.f11_volume.specs.Notes.{IsVolumeNote}
+use Rattle.f11_volume.specs.Space.{storage_bitmap}
+use Rattle.f11_volume.specs.Verdict.{IsFault, IsNote}
 use Rattle.f11_vfy.specs.declared.verifier.Report.{Report}
 use Rattle.f11_vfy.specs.declared.verifier.Report.TheVariants.{Accepted, Faulty}
 use Rattle.f11_vfy.specs.declared.verifier.VfyError.{VfyError}

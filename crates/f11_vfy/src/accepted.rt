@@ -1,6 +1,6 @@
 //! A device with an accepted volume on it.
 ghost use Rattle.std.specs.Prelude.{◌≡◌, IsTrue};
-ghost use Rattle.f11_vfy.specs.Verdict.{IsAccepted};
+ghost use Rattle.f11_volume.specs.Verdict.{IsAccepted};
 
 use f11_dev::Device;
 

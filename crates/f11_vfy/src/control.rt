@@ -1,6 +1,6 @@
 //! The control block of a storage bitmap file.
 ghost use Rattle.std.specs.Prelude.{◌≡◌, MatchOption};
-ghost use Rattle.f11_vfy.specs.Space.{bitmap_count, stated_size, IsControlBlock};
+ghost use Rattle.f11_volume.specs.Space.{bitmap_count, stated_size, IsControlBlock};
 
 use f11_bytes::{Block, read_long};
 

@@ -6,7 +6,7 @@ ghost use Rattle.f11_rad50.specs.Name.{IsName};
 ghost use Rattle.f11_vfy.specs.Bits.{has, limit_of};
 ghost use Rattle.f11_vfy.specs.Chain.{KeepsTable};
 ghost use Rattle.f11_vfy.specs.Flaws.{flaw_code};
-ghost use Rattle.f11_vfy.specs.Notes.{IsIdOf};
+ghost use Rattle.f11_volume.specs.Notes.{IsIdOf};
 
 use crate::bits::Bits;
 use crate::slot::{Slot, State};

@@ -1,5 +1,5 @@
-//! What is wrong with a Files-11 volume, and what is worth a note: the definitions by which a volume is accepted, and how faults and
-//! notes are found.
+//! How what is wrong with a Files-11 volume is found, and what is worth a note: the verifier, and `init`. The definitions by which a
+//! volume is accepted stand in `f11_volume`.
 //!
 //! The frame of a volume is read first ([`frame`]): its home block, its index file, its own files and its storage bitmap's control
 //! block, each judged before the next, so that the first fault is the one found.
@@ -9,8 +9,8 @@
 //! and one for each that is free. From that alone come which headers are those of files, all faults of the volume, and the notes of
 //! its blocks and headers: exactly those of the definitions, on any image whatever.
 //!
-//! The crate stands on [`f11_index`] and [`f11_chain`], for headers and files, on [`f11_bits`], for the storage bitmap, and on
-//! [`f11_findings`], for lists of what is found.
+//! The crate stands on `f11_volume`, for the definitions, on [`f11_index`] and [`f11_chain`], for headers and files, on
+//! [`f11_bits`], for the storage bitmap, and on [`f11_findings`], for lists of what is found.
 #![tactic(auto)]
 
 mod accepted;

@@ -39,9 +39,9 @@ pub struct Reading {
 impl Reading {
     ghost use Rattle.f11_dev.specs.Image.{Image};
     ghost use Rattle.f11_findings.specs.Finding.{IsExactly};
-    ghost use Rattle.f11_vfy.specs.Faults.{IsVolumeFault};
+    ghost use Rattle.f11_volume.specs.Faults.{IsVolumeFault};
     ghost use Rattle.f11_vfy.specs.Reading.{bitmap_at, ReadsVolume, FailsToRead, LacksMemory, ShowsVolume, IsFirstNote};
-    ghost use Rattle.f11_vfy.specs.Volume.{Volume};
+    ghost use Rattle.f11_volume.specs.Volume.{Volume};
 
     /// Reads a volume of `size` blocks whose bitmap blocks are at these places: at most 126 places, with a bit for each block; one
     /// may be there more than once. It reads each of them once at most, and then each header whose slot is in use, once.

@@ -20,11 +20,11 @@ use Rattle.f11_chain.specs.FileHeaders.{file_blocks}
 use Rattle.f11_chain.specs.Laws.{HasMore}
 use Rattle.f11_chain.proofs.ChangeLemmas.{has-more}
 use Rattle.f11_store.specs.File.{File}
-use Rattle.f11_vfy.specs.Contents.{block_or_zeros}
-use Rattle.f11_vfy.specs.Sound.{HasSoundVolume}
-use Rattle.f11_vfy.specs.Space.{storage_bitmap}
-use Rattle.f11_vfy.specs.Volume.{Volume, volume_of, IsNamed}
-use Rattle.f11_vfy.proofs.FileLemmas.{image-files, volume-within, file-blocks-are}
+use Rattle.f11_volume.specs.Contents.{block_or_zeros}
+use Rattle.f11_volume.specs.Sound.{HasSoundVolume}
+use Rattle.f11_volume.specs.Space.{storage_bitmap}
+use Rattle.f11_volume.specs.Volume.{Volume, volume_of, IsNamed}
+use Rattle.f11_volume.proofs.FileLemmas.{image-files, volume-within, file-blocks-are}
 use Rattle.f11_writes.specs.Kept.{file_in, KeepsFiles, KeepsButFree, WritesHeader}
 use Rattle.f11_writes.specs.NameLaws.{AreSpare}
 use Rattle.f11_writes.specs.Volumes.{MayName, MayBecome, links_to_none}

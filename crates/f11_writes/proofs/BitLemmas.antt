@@ -19,10 +19,10 @@ use Rattle.f11_index.proofs.HeadersLemmas.{live-some}
 use Rattle.f11_index.proofs.LawLemmas.{bit_write, at as block-at}
 use Rattle.f11_index.proofs.StayLemmas.{stays}
 use Rattle.f11_index.proofs.WalkLemmas.{in_use-within}
-use Rattle.f11_vfy.specs.Faults.{IsOwnFile}
-use Rattle.f11_vfy.specs.Sound.{IsSoundVolume, HasSoundVolume}
-use Rattle.f11_vfy.specs.Volume.{Volume, volume_of}
-use Rattle.f11_vfy.proofs.FileLemmas.{index-apart}
+use Rattle.f11_volume.specs.Faults.{IsOwnFile}
+use Rattle.f11_volume.specs.Sound.{IsSoundVolume, HasSoundVolume}
+use Rattle.f11_volume.specs.Volume.{Volume, volume_of}
+use Rattle.f11_volume.proofs.FileLemmas.{index-apart}
 use Rattle.f11_writes.specs.Kept.{WritesSlotBit}
 use Rattle.f11_writes.specs.OtherSlots.{KeepsOtherSlots}
 use Rattle.f11_writes.specs.Volumes.{Shrinks, MayBecome}

@@ -7,12 +7,12 @@ use Rattle.f11_home.specs.Home.{HomeFields, candidate}
 use Rattle.f11_index.specs.Laws.{KeepsIndexFile}
 use Rattle.f11_index.specs.Table.{Table, table_of}
 use Rattle.f11_index.proofs.LawLemmas.{other_images}
-use Rattle.f11_vfy.specs.Contents.{file_of}
-use Rattle.f11_vfy.specs.Earlier.{IsNamedIn}
-use Rattle.f11_vfy.specs.Sound.{IsSoundVolume, HasSoundVolume}
-use Rattle.f11_vfy.specs.Space.{storage_bitmap}
-use Rattle.f11_vfy.specs.Volume.{Volume, volume_of, IsNamed}
-use Rattle.f11_vfy.proofs.FileLemmas.{image-files, place-at}
+use Rattle.f11_volume.specs.Contents.{file_of}
+use Rattle.f11_volume.specs.Earlier.{IsNamedIn}
+use Rattle.f11_volume.specs.Sound.{IsSoundVolume, HasSoundVolume}
+use Rattle.f11_volume.specs.Space.{storage_bitmap}
+use Rattle.f11_volume.specs.Volume.{Volume, volume_of, IsNamed}
+use Rattle.f11_volume.proofs.FileLemmas.{image-files, place-at}
 use Rattle.f11_writes.specs.Kept.{said_of, KeepsButFree}
 use Rattle.f11_writes.specs.Volumes.{Shrinks}
 use Rattle.f11_writes.proofs.ContentLemmas.{file-stays-in}

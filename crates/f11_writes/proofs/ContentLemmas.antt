@@ -15,9 +15,9 @@ use Rattle.f11_index.proofs.HeadersLemmas.{header-placed}
 use Rattle.f11_index.specs.Laws.{BlocksStay}
 use Rattle.f11_index.specs.Table.{Table, IsWholeFile, first}
 use Rattle.f11_chain.specs.FileHeaders.{file_blocks, IsSoundFile}
-use Rattle.f11_vfy.specs.Contents.{headers_reached, block_or_zeros, pointer_count, room_left, file_of}
-use Rattle.f11_vfy.proofs.FileLemmas.{reached-are, file-blocks-are}
-use Rattle.f11_vfy.proofs.MemberLemmas.{all-each, contained}
+use Rattle.f11_volume.specs.Contents.{headers_reached, block_or_zeros, pointer_count, room_left, file_of}
+use Rattle.f11_volume.proofs.FileLemmas.{reached-are, file-blocks-are}
+use Rattle.f11_volume.proofs.MemberLemmas.{all-each, contained}
 use Rattle.f11_writes.proofs.ImageLemmas.{same-read, same-or}
 
 -- blocks that are alike

@@ -13,10 +13,10 @@ use Rattle.f11_index.proofs.BitLemmas.{SetsBit-in_use}
 use Rattle.f11_index.proofs.HeadersLemmas.{chained-apart}
 use Rattle.f11_index.proofs.PlaceLemmas.{range-slice_get}
 use Rattle.f11_index.proofs.WalkLemmas.{in_use-within}
-use Rattle.f11_vfy.specs.Sound.{HasSoundVolume}
-use Rattle.f11_vfy.specs.Space.{storage_bitmap}
-use Rattle.f11_vfy.specs.Volume.{volume_of, IsNamed}
-use Rattle.f11_vfy.proofs.FileLemmas.{image-files}
+use Rattle.f11_volume.specs.Sound.{HasSoundVolume}
+use Rattle.f11_volume.specs.Space.{storage_bitmap}
+use Rattle.f11_volume.specs.Volume.{volume_of, IsNamed}
+use Rattle.f11_volume.proofs.FileLemmas.{image-files}
 use Rattle.f11_writes.specs.Kept.{file_in, KeepsButFree, WritesHeader, WritesSlotBit}
 use Rattle.f11_writes.specs.Worked.{MayDelete, DeletesFile}
 use Rattle.f11_writes.proofs.BitLemmas.{clear-keeps}

@@ -10,12 +10,12 @@ use Rattle.f11_index.specs.IndexFile.{index_of, HasNonePast}
 use Rattle.f11_index.specs.Laws.{KeepsIndexFile}
 use Rattle.f11_index.specs.Sound.{IsIndexFile}
 use Rattle.f11_index.specs.Table.{Table, table_of, IsWholeFile}
-use Rattle.f11_vfy.specs.Earlier.{AreNamedBefore}
-use Rattle.f11_vfy.specs.Faults.{IsOwnFile, IsFramed}
-use Rattle.f11_vfy.specs.Sound.{HasSoundVolume}
-use Rattle.f11_vfy.specs.Space.{bitmap_count, stated_size, bitmap_file, control_block, IsControlBlock, storage_bitmap}
-use Rattle.f11_vfy.specs.Volume.{volume_of}
-use Rattle.f11_vfy.proofs.FileLemmas.{bitmap-is}
+use Rattle.f11_volume.specs.Earlier.{AreNamedBefore}
+use Rattle.f11_volume.specs.Faults.{IsOwnFile, IsFramed}
+use Rattle.f11_volume.specs.Sound.{HasSoundVolume}
+use Rattle.f11_volume.specs.Space.{bitmap_count, stated_size, bitmap_file, control_block, IsControlBlock, storage_bitmap}
+use Rattle.f11_volume.specs.Volume.{volume_of}
+use Rattle.f11_volume.proofs.FileLemmas.{bitmap-is}
 
 -- the candidates up to the home block are as they were
 abbrev pub CandidatesStay : HomeFields → Image → Image → Type 0

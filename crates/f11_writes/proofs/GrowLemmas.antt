@@ -13,10 +13,10 @@ use Rattle.f11_index.proofs.GrowLemmas.{grows-at, grows-by}
 use Rattle.f11_index.proofs.HeadersLemmas.{chained-apart}
 use Rattle.f11_index.proofs.PlaceLemmas.{slice_get-append_front}
 use Rattle.f11_index.proofs.WalkLemmas.{in_use-within}
-use Rattle.f11_vfy.specs.Faults.{IsOwnFile}
-use Rattle.f11_vfy.specs.Sound.{HasSoundVolume}
-use Rattle.f11_vfy.specs.Volume.{Volume, volume_of}
-use Rattle.f11_vfy.proofs.FileLemmas.{index-apart, image-files}
+use Rattle.f11_volume.specs.Faults.{IsOwnFile}
+use Rattle.f11_volume.specs.Sound.{HasSoundVolume}
+use Rattle.f11_volume.specs.Volume.{Volume, volume_of}
+use Rattle.f11_volume.proofs.FileLemmas.{index-apart, image-files}
 use Rattle.f11_writes.specs.Kept.{WritesGrowth}
 use Rattle.f11_writes.specs.OtherSlots.{KeepsOtherSlots}
 use Rattle.f11_writes.specs.Volumes.{MayBecome}

@@ -19,10 +19,10 @@ use Rattle.f11_index.proofs.UpLemmas.{header-up}
 use Rattle.f11_chain.specs.FileHeaders.{file_blocks}
 use Rattle.f11_chain.specs.Laws.{HasHeaderMore}
 use Rattle.f11_chain.proofs.ChangeLemmas.{has-header}
-use Rattle.f11_vfy.specs.Contents.{block_or_zeros}
-use Rattle.f11_vfy.specs.Sound.{HasSoundVolume}
-use Rattle.f11_vfy.specs.Volume.{volume_of}
-use Rattle.f11_vfy.proofs.FileLemmas.{image-files, file-headers-are, file-blocks-are}
+use Rattle.f11_volume.specs.Contents.{block_or_zeros}
+use Rattle.f11_volume.specs.Sound.{HasSoundVolume}
+use Rattle.f11_volume.specs.Volume.{volume_of}
+use Rattle.f11_volume.proofs.FileLemmas.{image-files, file-headers-are, file-blocks-are}
 use Rattle.f11_writes.specs.Kept.{file_in, WritesHeader}
 use Rattle.f11_writes.specs.Volumes.{MayName, MayBecome, links_anew}
 use Rattle.f11_writes.specs.Worked.{IsNewHeader, LinksToNew, with_new_header, LinksHeader}

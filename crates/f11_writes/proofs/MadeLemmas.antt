@@ -13,10 +13,10 @@ use Rattle.f11_index.proofs.BitLemmas.{SetsBit-in_use}
 use Rattle.f11_index.proofs.ChainLemmas.{live_of-header}
 use Rattle.f11_index.proofs.HeadersLemmas.{headers_from-some, headers_from-none}
 use Rattle.f11_chain.specs.FileHeaders.{blocks_by, file_blocks}
-use Rattle.f11_vfy.specs.Contents.{block_or_zeros}
-use Rattle.f11_vfy.specs.Sound.{HasSoundVolume}
-use Rattle.f11_vfy.specs.Volume.{volume_of}
-use Rattle.f11_vfy.proofs.FileLemmas.{image-files}
+use Rattle.f11_volume.specs.Contents.{block_or_zeros}
+use Rattle.f11_volume.specs.Sound.{HasSoundVolume}
+use Rattle.f11_volume.specs.Volume.{volume_of}
+use Rattle.f11_volume.proofs.FileLemmas.{image-files}
 use Rattle.f11_writes.specs.Kept.{file_in, WritesHeader, WritesSlotBit}
 use Rattle.f11_writes.specs.Volumes.{MayName, MayBecome, links_to_none}
 use Rattle.f11_writes.specs.Worked.{IsNewHeader, with_new_header, MakesFile}

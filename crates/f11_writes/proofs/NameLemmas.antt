@@ -12,9 +12,9 @@ use Rattle.f11_index.specs.HeaderBlock.{blocks_named}
 use Rattle.f11_index.specs.Table.{Table, table_of, IsLive}
 use Rattle.f11_index.proofs.PlaceLemmas.{slice_get-append_front, slice_get-range}
 use Rattle.f11_map.proofs.MapLemmas.{slice_get-append_back}
-use Rattle.f11_vfy.specs.Sound.{IsSoundVolume, HasSoundVolume}
-use Rattle.f11_vfy.specs.Space.{storage_bitmap}
-use Rattle.f11_vfy.specs.Volume.{Volume, volume_of, IsCell, IsNamed}
+use Rattle.f11_volume.specs.Sound.{IsSoundVolume, HasSoundVolume}
+use Rattle.f11_volume.specs.Space.{storage_bitmap}
+use Rattle.f11_volume.specs.Volume.{Volume, volume_of, IsCell, IsNamed}
 use Rattle.f11_writes.specs.Kept.{KeepsVolume, KeepsButFree, KeepsButSlot}
 use Rattle.f11_writes.specs.NameLaws.{AreSpare}
 use Rattle.f11_writes.specs.OtherSlots.{KeepsOtherSlots}

@@ -14,13 +14,13 @@ use Rattle.f11_index.specs.Laws.{BlocksStay, KeepsIndexFile}
 use Rattle.f11_index.specs.Table.{Table, table_of, IsFile}
 use Rattle.f11_index.proofs.LawLemmas.{other_write}
 use Rattle.f11_chain.specs.FileHeaders.{file_blocks}
-use Rattle.f11_vfy.specs.Earlier.{IsNamedIn}
-use Rattle.f11_vfy.specs.Contents.{file_of}
-use Rattle.f11_vfy.specs.Sound.{IsSoundVolume, HasSoundVolume}
-use Rattle.f11_vfy.specs.Space.{bitmap_file, storage_bitmap}
-use Rattle.f11_vfy.specs.Volume.{IsNamed}
-use Rattle.f11_vfy.proofs.FileLemmas.{image-files, place-at}
-use Rattle.f11_vfy.proofs.MemberLemmas.{all-each, contained}
+use Rattle.f11_volume.specs.Earlier.{IsNamedIn}
+use Rattle.f11_volume.specs.Contents.{file_of}
+use Rattle.f11_volume.specs.Sound.{IsSoundVolume, HasSoundVolume}
+use Rattle.f11_volume.specs.Space.{bitmap_file, storage_bitmap}
+use Rattle.f11_volume.specs.Volume.{IsNamed}
+use Rattle.f11_volume.proofs.FileLemmas.{image-files, place-at}
+use Rattle.f11_volume.proofs.MemberLemmas.{all-each, contained}
 use Rattle.f11_writes.specs.Kept.{file_in, KeepsVolume, KeepsFiles, WritesBlock}
 use Rattle.f11_writes.specs.Laws.{IsUnread}
 use Rattle.f11_writes.proofs.OwnerLemmas.{in-file, owned-once, named-of, unread}

@@ -13,10 +13,10 @@ use Rattle.f11_index.proofs.StayLemmas.{whole-stays}
 use Rattle.f11_chain.specs.FileHeaders.{file_blocks}
 use Rattle.f11_chain.specs.Laws.{StayBefore}
 use Rattle.f11_chain.proofs.ChangeLemmas.{file-stays}
-use Rattle.f11_vfy.specs.Earlier.{IsNamedIn}
-use Rattle.f11_vfy.specs.Faults.{IsOwnFile}
-use Rattle.f11_vfy.specs.Sound.{IsSoundVolume}
-use Rattle.f11_vfy.specs.Volume.{Volume}
+use Rattle.f11_volume.specs.Earlier.{IsNamedIn}
+use Rattle.f11_volume.specs.Faults.{IsOwnFile}
+use Rattle.f11_volume.specs.Sound.{IsSoundVolume}
+use Rattle.f11_volume.specs.Volume.{Volume}
 use Rattle.f11_writes.specs.OtherSlots.{KeepsOtherSlots}
 
 -- the headers of a file before one, where all other slots are as they were

@@ -10,12 +10,12 @@ use Rattle.f11_index.proofs.ChainLemmas.{live_of-header}
 use Rattle.f11_index.proofs.HeadersLemmas.{chained-apart}
 use Rattle.f11_chain.specs.FileHeaders.{file_blocks}
 use Rattle.f11_chain.proofs.FileOneLemmas.{file-one}
-use Rattle.f11_vfy.specs.Earlier.{IsNamedIn}
-use Rattle.f11_vfy.specs.Sound.{IsSoundVolume, HasSoundVolume}
-use Rattle.f11_vfy.specs.Space.{bitmap_file}
-use Rattle.f11_vfy.specs.Volume.{Volume, volume_of, IsNamed}
-use Rattle.f11_vfy.proofs.FileLemmas.{sound-chained, cell-of}
-use Rattle.f11_vfy.proofs.MemberLemmas.{at-place, contained}
+use Rattle.f11_volume.specs.Earlier.{IsNamedIn}
+use Rattle.f11_volume.specs.Sound.{IsSoundVolume, HasSoundVolume}
+use Rattle.f11_volume.specs.Space.{bitmap_file}
+use Rattle.f11_volume.specs.Volume.{Volume, volume_of, IsNamed}
+use Rattle.f11_volume.proofs.FileLemmas.{sound-chained, cell-of}
+use Rattle.f11_volume.proofs.MemberLemmas.{at-place, contained}
 use Rattle.f11_writes.specs.Laws.{IsUnread}
 
 module _ (v : Volume) (sound : IsSoundVolume v) where

@@ -10,8 +10,8 @@ use Rattle.f11_index.specs.Headers.{IsInFile}
 use Rattle.f11_index.specs.Table.{Table, IsLive, IsNext, IsHeaderOf, first, next}
 use Rattle.f11_index.proofs.ChainLemmas.{live_of-header}
 use Rattle.f11_index.proofs.HeadersLemmas.{link_number}
-use Rattle.f11_vfy.specs.Sound.{LinksOn, IsSoundVolume}
-use Rattle.f11_vfy.specs.Volume.{Volume, IsCell, IsLinked}
+use Rattle.f11_volume.specs.Sound.{LinksOn, IsSoundVolume}
+use Rattle.f11_volume.specs.Volume.{Volume, IsCell, IsLinked}
 use Rattle.f11_writes.proofs.OtherSlotLemmas.{nowhere, same-now, live-was}
 use Rattle.f11_writes.specs.Volumes.{LinksAnew, MayLink, links_to_none, links_as_before, links_anew, MayBecome, HasHeader}
 

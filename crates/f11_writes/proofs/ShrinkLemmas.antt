@@ -10,9 +10,9 @@ use Rattle.f11_index.proofs.ChainLemmas.{live_of-header}
 use Rattle.f11_index.proofs.HeadersLemmas.{listed-are, chained-whole}
 use Rattle.f11_chain.specs.FileHeaders.{file_blocks}
 use Rattle.f11_chain.proofs.ChangeLemmas.{file-stays}
-use Rattle.f11_vfy.specs.Sound.{LinksOn, IsSoundVolume}
-use Rattle.f11_vfy.specs.Volume.{Volume, IsCell, IsLinked}
-use Rattle.f11_vfy.proofs.FileLemmas.{sound-chained}
+use Rattle.f11_volume.specs.Sound.{LinksOn, IsSoundVolume}
+use Rattle.f11_volume.specs.Volume.{Volume, IsCell, IsLinked}
+use Rattle.f11_volume.proofs.FileLemmas.{sound-chained}
 use Rattle.f11_writes.specs.Volumes.{Shrinks}
 
 module _ (old new : Volume) (s : Shrinks old new) where

@@ -14,13 +14,13 @@ use Rattle.f11_index.proofs.LawLemmas.{header_at}
 use Rattle.f11_index.specs.Sound.{IsIndexFile}
 use Rattle.f11_index.specs.Table.{Table, table_of, IsFile, IsHeaderOf, IsWholeFile}
 use Rattle.f11_chain.specs.FileHeaders.{file_blocks}
-use Rattle.f11_vfy.specs.Contents.{block_or_zeros}
-use Rattle.f11_vfy.specs.Earlier.{IsNamedIn}
-use Rattle.f11_vfy.specs.Faults.{IsOwnFile, IsFramed}
-use Rattle.f11_vfy.specs.Sound.{IsSoundVolume, HasSoundVolume}
-use Rattle.f11_vfy.specs.Space.{bitmap_file, storage_bitmap}
-use Rattle.f11_vfy.specs.Volume.{Volume, volume_of}
-use Rattle.f11_vfy.proofs.FileLemmas.{image-files, index-apart, place-at, file-blocks-are}
+use Rattle.f11_volume.specs.Contents.{block_or_zeros}
+use Rattle.f11_volume.specs.Earlier.{IsNamedIn}
+use Rattle.f11_volume.specs.Faults.{IsOwnFile, IsFramed}
+use Rattle.f11_volume.specs.Sound.{IsSoundVolume, HasSoundVolume}
+use Rattle.f11_volume.specs.Space.{bitmap_file, storage_bitmap}
+use Rattle.f11_volume.specs.Volume.{Volume, volume_of}
+use Rattle.f11_volume.proofs.FileLemmas.{image-files, index-apart, place-at, file-blocks-are}
 use Rattle.f11_writes.specs.Kept.{file_in, said_of, KeepsButSlot}
 use Rattle.f11_writes.specs.OtherSlots.{KeepsOtherSlots}
 use Rattle.f11_writes.proofs.ContentLemmas.{said-alike, file-alike, blocks-alike}

@@ -9,8 +9,8 @@ use Rattle.f11_index.specs.Headers.{IsInFile}
 use Rattle.f11_index.specs.IndexFile.{Index, index_of, slots, is_in_use}
 use Rattle.f11_index.specs.Laws.{LeadsAlike}
 use Rattle.f11_index.specs.Table.{Table, table_of, IsLive, IsDeadSlot, IsNext, IsHeaderOf}
-use Rattle.f11_vfy.specs.Sound.{HasSoundVolume}
-use Rattle.f11_vfy.specs.Volume.{volume_of}
+use Rattle.f11_volume.specs.Sound.{HasSoundVolume}
+use Rattle.f11_volume.specs.Volume.{volume_of}
 use Rattle.f11_writes.specs.Kept.{WritesHeader, WritesSlotBit, WritesGrowth}
 use Rattle.f11_writes.specs.Volumes.{MayBecome}
 

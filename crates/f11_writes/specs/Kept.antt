@@ -11,10 +11,10 @@ use Rattle.f11_index.specs.Table.{table_of, IsFile, IsHeaderOf}
 use Rattle.f11_chain.specs.FileHeaders.{file_blocks}
 use Rattle.f11_store.specs.Changes.{with_block}
 use Rattle.f11_store.specs.File.{File}
-use Rattle.f11_vfy.specs.Contents.{block_or_zeros, file_of}
-use Rattle.f11_vfy.specs.Sound.{HasSoundVolume}
-use Rattle.f11_vfy.specs.Space.{storage_bitmap}
-use Rattle.f11_vfy.specs.Volume.{volume_of}
+use Rattle.f11_volume.specs.Contents.{block_or_zeros, file_of}
+use Rattle.f11_volume.specs.Sound.{HasSoundVolume}
+use Rattle.f11_volume.specs.Space.{storage_bitmap}
+use Rattle.f11_volume.specs.Volume.{volume_of}
 use Rattle.f11_writes.specs.OtherSlots.{KeepsOtherSlots}
 
 -- file f of an image whose home block this is

@@ -7,9 +7,9 @@ use Rattle.f11_index.specs.IndexFile.{index_file}
 use Rattle.f11_index.specs.Sound.{IsNoneOf}
 use Rattle.f11_index.specs.Table.{table_of, IsFile}
 use Rattle.f11_chain.specs.FileHeaders.{block_by_vbn}
-use Rattle.f11_vfy.specs.Sound.{HasSoundVolume}
-use Rattle.f11_vfy.specs.Space.{bitmap_file, storage_bitmap}
-use Rattle.f11_vfy.specs.Volume.{IsNamed}
+use Rattle.f11_volume.specs.Sound.{HasSoundVolume}
+use Rattle.f11_volume.specs.Space.{bitmap_file, storage_bitmap}
+use Rattle.f11_volume.specs.Volume.{IsNamed}
 use Rattle.f11_writes.specs.Kept.{KeepsVolume, KeepsFiles, WritesBlock, KeepsButFree}
 
 -- A volume isn't read from block lbn: it is no candidate for the home block before that, and in neither the index file, which has the home

@@ -7,9 +7,9 @@ use Rattle.f11_dev.specs.Image.{Image}
 use Rattle.f11_home.specs.Home.{HomeFields}
 use Rattle.f11_index.specs.HeaderBlock.{blocks_named}
 use Rattle.f11_index.specs.Table.{table_of, IsLive}
-use Rattle.f11_vfy.specs.Sound.{IsSoundVolume, HasSoundVolume}
-use Rattle.f11_vfy.specs.Space.{storage_bitmap}
-use Rattle.f11_vfy.specs.Volume.{Volume, volume_of, IsCell, IsNamed}
+use Rattle.f11_volume.specs.Sound.{IsSoundVolume, HasSoundVolume}
+use Rattle.f11_volume.specs.Space.{storage_bitmap}
+use Rattle.f11_volume.specs.Volume.{Volume, volume_of, IsCell, IsNamed}
 use Rattle.f11_writes.specs.Kept.{KeepsVolume, KeepsButSlot}
 use Rattle.f11_writes.specs.OtherSlots.{KeepsOtherSlots}
 use Rattle.f11_writes.specs.Volumes.{MayName}

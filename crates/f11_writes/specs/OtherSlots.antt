@@ -5,8 +5,8 @@ use Rattle.f11_index.specs.HeaderBlock.{link_of}
 use Rattle.f11_index.specs.Headers.{IsInFile}
 use Rattle.f11_index.specs.Table.{Table, IsLive, IsNext, IsHeaderOf, IsWholeFile}
 use Rattle.f11_chain.specs.Laws.{StayBefore}
-use Rattle.f11_vfy.specs.Sound.{IsSoundVolume}
-use Rattle.f11_vfy.specs.Volume.{Volume}
+use Rattle.f11_volume.specs.Sound.{IsSoundVolume}
+use Rattle.f11_volume.specs.Volume.{Volume}
 
 -- The slots but n are as they were: in use or not, and the headers of those that are.
 pub record KeepsOtherSlots (n : ℕ) (old new : Table) : Type 0 where

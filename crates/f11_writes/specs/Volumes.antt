@@ -9,8 +9,8 @@ use Rattle.f11_index.specs.Headers.{headers_of, IsInFile}
 use Rattle.f11_index.specs.Sound.{AreApart}
 use Rattle.f11_index.specs.Table.{IsLive, IsFile, IsNext}
 use Rattle.f11_chain.specs.FileHeaders.{file_blocks}
-use Rattle.f11_vfy.specs.Sound.{IsSoundVolume}
-use Rattle.f11_vfy.specs.Volume.{Volume, IsCell}
+use Rattle.f11_volume.specs.Sound.{IsSoundVolume}
+use Rattle.f11_volume.specs.Volume.{Volume, IsCell}
 use Rattle.f11_writes.specs.OtherSlots.{KeepsOtherSlots}
 
 -- A volume has lost headers, or has other blocks free: each header that is live was so before, and is as it was; where a header of a file

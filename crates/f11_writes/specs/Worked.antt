@@ -14,8 +14,8 @@ use Rattle.f11_index.specs.HeaderBlock.{segment_number, link_of, blocks_named}
 use Rattle.f11_index.specs.Headers.{headers_of, IsLastOf}
 use Rattle.f11_index.specs.IndexFile.{Index, index_of, slots, is_in_use}
 use Rattle.f11_index.specs.Table.{Table, table_of, IsFile}
-use Rattle.f11_vfy.specs.Sound.{HasSoundVolume}
-use Rattle.f11_vfy.specs.Space.{storage_bitmap}
+use Rattle.f11_volume.specs.Sound.{HasSoundVolume}
+use Rattle.f11_volume.specs.Space.{storage_bitmap}
 use Rattle.f11_writes.specs.Kept.{file_in}
 
 -- Header n, the last of a file from 4 on, may become this block, which names block lbn more.

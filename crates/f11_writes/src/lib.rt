@@ -7,7 +7,7 @@
 //! law says what the next write's law asks: that the volume is sound still, where its index file and its storage bitmap are,
 //! its headers, its free blocks, and which files are as they were.
 //!
-//! The crate stands on [`f11_vfy`], which says what a sound volume is.
+//! The crate stands on `f11_volume`, which says what a sound volume is.
 #![tactic(auto)]
 
 pub mod laws;

@@ -2,11 +2,11 @@ use Rattle.std.proofs.Common.{subst}
 use Rattle.f11_dev.specs.Image.{Image}
 use Rattle.f11_home.specs.Home.{HomeFields}
 use Rattle.f11_home.proofs.HomeLemmas.{home-unique}
-use Rattle.f11_vfy.proofs.FrameLemmas.{frame-none}
-use Rattle.f11_vfy.proofs.SoundLemmas.{no-fault-sound}
-use Rattle.f11_vfy.specs.Sound.{IsSoundVolume, HasSoundVolume}
-use Rattle.f11_vfy.specs.Verdict.{IsAccepted, of_frame, of_volume}
-use Rattle.f11_vfy.specs.Volume.{volume_of}
+use Rattle.f11_volume.proofs.FrameLemmas.{frame-none}
+use Rattle.f11_volume.proofs.SoundLemmas.{no-fault-sound}
+use Rattle.f11_volume.specs.Sound.{IsSoundVolume, HasSoundVolume}
+use Rattle.f11_volume.specs.Verdict.{IsAccepted, of_frame, of_volume}
+use Rattle.f11_volume.specs.Volume.{volume_of}
 use Rattle.f11_fcp.proofs.laws.stops.Goals as goal
 
 accepted-from : (image : Image) (home : HomeFields) → HasSoundVolume image home → IsAccepted image

@@ -2,7 +2,7 @@ use Rattle.std.proofs.Common.{◌≡◌, ◌+◌, ℕ, Result, Ok, Err, sym, sub
 use Rattle.std.specs.Prelude.{IfOk, OnOk}
 use Rattle.f11_dev.specs.Image.{Image}
 use Rattle.f11_home.specs.Home.{HomeFields}
-use Rattle.f11_vfy.specs.Volume.{volume_of}
+use Rattle.f11_volume.specs.Volume.{volume_of}
 use Rattle.f11_files.specs.Allocation.{GainsBlocks}
 use Rattle.f11_files.proofs.AllocationLawLemmas.{gains-both}
 use Rattle.f11_files_tests.proofs.extends.extended_twice.Goals as goal

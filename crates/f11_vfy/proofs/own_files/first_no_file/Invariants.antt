@@ -2,7 +2,7 @@ use Rattle.std.proofs.Common.{◌-◌, ◌<◌, ◌≤◌, ℕ, IsTrue}
 use Rattle.f11_dev.specs.Looked.{Looked}
 use Rattle.f11_index.specs.Kept.{index_kept}
 use Rattle.f11_index.specs.Table.{table_in}
-use Rattle.f11_vfy.specs.Faults.{IsOwnFile}
+use Rattle.f11_volume.specs.Faults.{IsOwnFile}
 use Rattle.f11_vfy.proofs.own_files.first_no_file.Given as goal
 
 -- each file so far is its own

@@ -5,7 +5,7 @@ use Rattle.f11_files.proofs.FreeingLemmas.{handed-stays, stays-for}
 use Rattle.f11_files.proofs.GrowingLemmas.{breaks-stays}
 use Rattle.f11_home.specs.Home.{HomeFields}
 use Rattle.f11_store.specs.Changes.{is_in}
-use Rattle.f11_vfy.specs.Volume.{volume_of}
+use Rattle.f11_volume.specs.Volume.{volume_of}
 use Rattle.f11_files.specs.Allocation.{free_list}
 use Rattle.f11_files.specs.Structure.{home_of}
 use Rattle.f11_files.proofs.PartsLemmas.{fewer-free, parts-none, to-parts}

@@ -1,5 +1,5 @@
 use Rattle.std.proofs.Common.{IsTrue, []}
-use Rattle.f11_vfy.specs.Volume.{volume_of}
+use Rattle.f11_volume.specs.Volume.{volume_of}
 use Rattle.f11_files.specs.Allocation.{free_list}
 use Rattle.f11_files.specs.Structure.{home_of}
 use Rattle.f11_files.specs.Tail.{GrowsWithin, WritesGrowth}

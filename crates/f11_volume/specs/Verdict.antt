@@ -2,9 +2,9 @@
 use Rattle.std.specs.Prelude.{ℕ}
 use Rattle.f11_dev.specs.Image.{Image}
 use Rattle.f11_home.specs.Home.{HomeFields}
-use Rattle.f11_vfy.specs.Faults.{IsFramed, IsFrameFault, IsVolumeFault}
-use Rattle.f11_vfy.specs.Notes.{IsVolumeNote}
-use Rattle.f11_vfy.specs.Volume.{volume_of}
+use Rattle.f11_volume.specs.Faults.{IsFramed, IsFrameFault, IsVolumeFault}
+use Rattle.f11_volume.specs.Notes.{IsVolumeNote}
+use Rattle.f11_volume.specs.Volume.{volume_of}
 
 -- An image has this fault, by its code and two numbers: one of the frame, which is then the only one, or one of the volume.
 pub data IsFault (image : Image) : ℕ → ℕ → ℕ → Type 0 where

@@ -10,8 +10,8 @@ use Rattle.f11_index.specs.Table.{Table, IsLive, IsDeadSlot, IsFile, last_sequen
 use Rattle.f11_store.specs.Directory.{is_directory, entries_of, is_empty, record_id, record_name}
 use Rattle.f11_store.specs.File.{File, is_marked}
 use Rattle.f11_store.specs.declared.files.FileId.{FileId}
-use Rattle.f11_vfy.specs.Contents.{file_of}
-use Rattle.f11_vfy.specs.Volume.{Volume, IsNamed}
+use Rattle.f11_volume.specs.Contents.{file_of}
+use Rattle.f11_volume.specs.Volume.{Volume, IsNamed}
 
 -- block lbn of the volume is lost: it is neither free nor named
 pub record IsLost (v : Volume) (lbn : ℕ) : Type 0 where

@@ -1,5 +1,5 @@
-use Rattle.f11_vfy.proofs.FrameLemmas.{frame-none, frame-only}
-use Rattle.f11_vfy.proofs.laws.frames.Goals as goal
+use Rattle.f11_volume.proofs.FrameLemmas.{frame-none, frame-only}
+use Rattle.f11_volume.proofs.laws.frames.Goals as goal
 
 pub returns-clause-none : goal.returns-clause-none
 returns-clause-none c = frame-none

@@ -9,10 +9,10 @@ use Rattle.f11_index.specs.IndexFile.{index_file}
 use Rattle.f11_index.specs.Sound.{AreApart}
 use Rattle.f11_index.specs.Table.{Table, table_of, IsFile, IsWholeFile}
 use Rattle.f11_chain.specs.FileHeaders.{file_blocks, IsSoundFile}
-use Rattle.f11_vfy.specs.Contents.{headers_reached, block_or_zeros, file_of}
-use Rattle.f11_vfy.specs.Sound.{IsSoundVolume, HasSoundVolume}
-use Rattle.f11_vfy.specs.Space.{storage_bitmap}
-use Rattle.f11_vfy.specs.Volume.{Volume}
+use Rattle.f11_volume.specs.Contents.{headers_reached, block_or_zeros, file_of}
+use Rattle.f11_volume.specs.Sound.{IsSoundVolume, HasSoundVolume}
+use Rattle.f11_volume.specs.Space.{storage_bitmap}
+use Rattle.f11_volume.specs.Volume.{Volume}
 
 -- no block stands twice among a file's, nor among those of two files
 abbrev pub HasOneOwner : Table → Type 0

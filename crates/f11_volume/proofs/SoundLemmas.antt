@@ -9,10 +9,10 @@ use Rattle.f11_index.specs.HeaderBlock.{segment_number, blocks_named}
 use Rattle.f11_index.specs.Table.{Table, IsLive, IsNext}
 use Rattle.f11_map.specs.MapArea.{runs_of}
 use Rattle.f11_map.proofs.RunLemmas.{AreSome-runs_of}
-use Rattle.f11_vfy.specs.Faults.{IsVolumeFault, header_bad, pointer_outside, named_twice, named_free, wrong_link, linked_twice, link_past_last, link_to_volume}
-use Rattle.f11_vfy.specs.Sound.{LinksOn, IsSoundVolume}
-use Rattle.f11_vfy.specs.Volume.{Volume, IsCell, HasPointer, IsLinked}
-use Rattle.f11_vfy.proofs.NamedLemmas.{named-by, names}
+use Rattle.f11_volume.specs.Faults.{IsVolumeFault, header_bad, pointer_outside, named_twice, named_free, wrong_link, linked_twice, link_past_last, link_to_volume}
+use Rattle.f11_volume.specs.Sound.{LinksOn, IsSoundVolume}
+use Rattle.f11_volume.specs.Volume.{Volume, IsCell, HasPointer, IsLinked}
+use Rattle.f11_volume.proofs.NamedLemmas.{named-by, names}
 
 -- what can't fail holds, of numbers and tests
 by : {P : Type 0} → P ⊎ (P → ⊥) → ¬ (¬ P) → P

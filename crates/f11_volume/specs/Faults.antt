@@ -10,8 +10,8 @@ use Rattle.f11_index.specs.IndexFile.{index_of, IsFirstPast, HasNonePast}
 use Rattle.f11_index.specs.Sound.{IsIndexFile}
 use Rattle.f11_index.specs.Table.{Table, table_of, last_sequence, IsFile, IsNext, IsHeaderOf}
 use Rattle.f11_chain.specs.FileHeaders.{IsSoundFile}
-use Rattle.f11_vfy.specs.Space.{bitmap_file, control_block, IsControlBlock}
-use Rattle.f11_vfy.specs.Volume.{Volume, IsNamed, IsNamedTwice, HasPointer, IsLinked}
+use Rattle.f11_volume.specs.Space.{bitmap_file, control_block, IsControlBlock}
+use Rattle.f11_volume.specs.Volume.{Volume, IsNamed, IsNamedTwice, HasPointer, IsLinked}
 
 -- Each candidate for the home block before the one found is a block of file 3, which no request writes: so none of them becomes a home
 -- block (profile).

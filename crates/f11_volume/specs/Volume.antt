@@ -10,7 +10,7 @@ use Rattle.f11_map.specs.MapArea.{runs_of}
 use Rattle.f11_index.specs.HeaderBlock.{link_of, blocks_named}
 use Rattle.f11_index.specs.Headers.{IsInFile}
 use Rattle.f11_index.specs.Table.{Table, table_of, IsLive}
-use Rattle.f11_vfy.specs.Space.{storage_bitmap}
+use Rattle.f11_volume.specs.Space.{storage_bitmap}
 
 pub record Volume : Type 0 where
   -- its headers

@@ -6,8 +6,8 @@ use Rattle.f11_home.specs.Home.{HomeFields}
 use Rattle.f11_home.proofs.HomeLemmas.{home-unique, home-some}
 use Rattle.f11_index.specs.IndexFile.{Index, IsFirstPast}
 use Rattle.f11_index.specs.Table.{Table}
-use Rattle.f11_vfy.specs.Faults.{IsFramed, IsFirstNoFile, IsFaultBehindHome, index_misplaced, own_file_bad, bitmap_file_bad, control_block_wrong, bit_past_slots, IsFrameFault, no_home, behind_home}
-use Rattle.f11_vfy.specs.Verdict.{IsFault, of_frame, of_volume}
+use Rattle.f11_volume.specs.Faults.{IsFramed, IsFirstNoFile, IsFaultBehindHome, index_misplaced, own_file_bad, bitmap_file_bad, control_block_wrong, bit_past_slots, IsFrameFault, no_home, behind_home}
+use Rattle.f11_volume.specs.Verdict.{IsFault, of_frame, of_volume}
 
 -- there is none where the frame is as it should be
 none-behind : {image : Image} {home : HomeFields} {code a : ℕ} → IsFramed image home → ¬ IsFaultBehindHome image home code a

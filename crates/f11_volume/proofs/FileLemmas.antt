@@ -16,13 +16,12 @@ use Rattle.f11_index.proofs.NextLemmas.{next-found}
 use Rattle.f11_index.proofs.HeadersLemmas.{live-some, headers_from-some, headers_from-none, place-has, chained-whole, chained-apart}
 use Rattle.f11_chain.specs.FileHeaders.{blocks_by, file_blocks, IsSoundFile}
 use Rattle.f11_chain.proofs.FileOneLemmas.{file-one}
-use Rattle.f11_vfy.specs.FileLaws.{HasOneOwner, AreSoundFiles}
-use Rattle.f11_vfy.specs.Sound.{IsSoundVolume, HasSoundVolume}
-use Rattle.f11_vfy.specs.Volume.{Volume, volume_of, IsCell}
-use Rattle.f11_vfy.specs.Contents.{following, block_or_zeros, file_of}
-use Rattle.f11_vfy.specs.Space.{bitmap_count, bitmap_file, control_block, storage_bitmap}
-use Rattle.f11_vfy.proofs.MemberLemmas.{contained, all-from, all-each, at-place}
-use Rattle.f11_vfy.proofs.CourseLemmas.{following-none}
+use Rattle.f11_volume.specs.FileLaws.{HasOneOwner, AreSoundFiles}
+use Rattle.f11_volume.specs.Sound.{IsSoundVolume, HasSoundVolume}
+use Rattle.f11_volume.specs.Volume.{Volume, volume_of, IsCell}
+use Rattle.f11_volume.specs.Contents.{following, block_or_zeros, file_of}
+use Rattle.f11_volume.specs.Space.{bitmap_count, bitmap_file, control_block, storage_bitmap}
+use Rattle.f11_volume.proofs.MemberLemmas.{contained, all-from, all-each, at-place}
 use Rattle.f11_index.proofs.PlaceLemmas.{slice_get-append_front, slice_get-header}
 use Rattle.f11_bits.specs.Bitmap.{IsBitmap, LiesWithin}
 use Rattle.f11_map.proofs.MapLemmas.{slice_get-append_back}
@@ -177,6 +176,11 @@ next-none t n none = go (next_of t n) refl
     go : (o : Option ℕ) → next_of t n ≡ o → o ≡ None
     go None is = refl
     go (Some m) is = let goes = (next-found t n m).0 is in absurd (omega (arith, none, goes.number, live-some goes.to))
+
+pub following-none : (t : Table) (most : ℕ) → following most t None ≡ []
+unfolding following
+following-none t zero = refl
+following-none t (suc most) = refl
 
 following-some : (most : ℕ) (t : Table) (n : ℕ) → following (suc most) t (Some n) ≡ n ∷ following most t (next_of t n)
 unfolding following

@@ -18,16 +18,16 @@ use Rattle.f11_index.proofs.ChainLemmas.{file_of-header, Links, same-segment, li
 use Rattle.f11_chain.specs.FileHeaders.{file_blocks}
 use Rattle.f11_index.proofs.SegmentLemmas.{segment_number-byte}
 use Rattle.f11_index.specs.Headers.{next_of}
-use Rattle.f11_vfy.specs.Earlier.{IsNamedIn}
-use Rattle.f11_vfy.specs.Faults.{EarlierAreNamed, IsOwnFile, IsBitmapFile, HasIndexFile, HasOwnFiles, HasBitmapFile, HasControlBlock, IsFramed, IsFaultBehindHome, index_misplaced, own_file_bad, bitmap_file_bad, control_block_wrong, bit_past_slots, no_home, behind_home}
-use Rattle.f11_vfy.specs.Sound.{IsSoundVolume, HasSoundVolume, IsSoundImage}
-use Rattle.f11_vfy.specs.Space.{IsControlBlock}
-use Rattle.f11_vfy.specs.Verdict.{of_frame, of_volume, IsAccepted}
-use Rattle.f11_vfy.specs.Volume.{volume_of}
-use Rattle.f11_vfy.proofs.DecideLemmas.{Decided, stable, like, both, either, less, at-most, truth, same-list, is-some, member, least}
-use Rattle.f11_vfy.proofs.FrameLemmas.{frame-none}
+use Rattle.f11_volume.specs.Earlier.{IsNamedIn}
+use Rattle.f11_volume.specs.Faults.{EarlierAreNamed, IsOwnFile, IsBitmapFile, HasIndexFile, HasOwnFiles, HasBitmapFile, HasControlBlock, IsFramed, IsFaultBehindHome, index_misplaced, own_file_bad, bitmap_file_bad, control_block_wrong, bit_past_slots, no_home, behind_home}
+use Rattle.f11_volume.specs.Sound.{IsSoundVolume, HasSoundVolume, IsSoundImage}
+use Rattle.f11_volume.specs.Space.{IsControlBlock}
+use Rattle.f11_volume.specs.Verdict.{of_frame, of_volume, IsAccepted}
+use Rattle.f11_volume.specs.Volume.{volume_of}
+use Rattle.f11_volume.proofs.DecideLemmas.{Decided, stable, like, both, either, less, at-most, truth, same-list, is-some, member, least}
+use Rattle.f11_volume.proofs.FrameLemmas.{frame-none}
 use Rattle.f11_index.proofs.NextLemmas.{next-found}
-use Rattle.f11_vfy.proofs.SoundLemmas.{same-stable, less-stable, live-stable, next-stable, no-fault-sound}
+use Rattle.f11_volume.proofs.SoundLemmas.{same-stable, less-stable, live-stable, next-stable, no-fault-sound}
 
 -- whether a block is a home block
 home-fields : (b : List ℕ) (blocks : ℕ) → Decided (HasHomeFields b blocks)

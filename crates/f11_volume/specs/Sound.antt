@@ -6,8 +6,8 @@ use Rattle.f11_header.specs.Header.{IsHeader, IsDead}
 use Rattle.f11_home.specs.Home.{HomeFields}
 use Rattle.f11_index.specs.HeaderBlock.{segment_number, link_of}
 use Rattle.f11_index.specs.Table.{Table, IsNext}
-use Rattle.f11_vfy.specs.Faults.{IsFramed}
-use Rattle.f11_vfy.specs.Volume.{Volume, volume_of, IsCell, IsLinked}
+use Rattle.f11_volume.specs.Faults.{IsFramed}
+use Rattle.f11_volume.specs.Volume.{Volume, volume_of, IsCell, IsLinked}
 use Rattle.f11_index.specs.Headers.{IsInFile}
 
 -- the link of header n is to its next one, on this volume, and another segment can follow (map area)

@@ -1,0 +1,29 @@
+-- Laws of what a volume is, which show that its definitions say what is meant (profile).
+use Rattle.std.specs.Prelude.{◌≡◌, ◌↔◌, ℕ}
+use Rattle.f11_dev.specs.Image.{Image, IsImage}
+use Rattle.f11_home.specs.Home.{HomeFields, IsHomeOf}
+use Rattle.f11_volume.specs.Faults.{IsFramed, IsFrameFault, IsVolumeFault}
+use Rattle.f11_volume.specs.Sound.{IsSoundVolume, HasSoundVolume, IsSoundImage}
+use Rattle.f11_volume.specs.Verdict.{IsFault, IsAccepted}
+use Rattle.f11_volume.specs.Volume.{Volume}
+
+-- an image whose frame is as it should be has no fault of the frame
+abbrev pub FrameHasNoFault : Type 0
+FrameHasNoFault = (image : Image) (home : HomeFields) (code a : ℕ) → IsFramed image home → ¬ IsFrameFault image code a
+
+-- a fault of the frame is the only fault
+abbrev pub FrameFaultIsOnly : Type 0
+FrameFaultIsOnly =
+    (image : Image) (code a other b c : ℕ) → IsFrameFault image code a → IsFault image other b c → (code ≡ other) × (a ≡ b) × (c ≡ 0)
+
+-- a volume has no fault exactly where it is sound
+abbrev pub FaultlessIsSound : Type 0
+FaultlessIsSound = (v : Volume) → ((code a b : ℕ) → ¬ IsVolumeFault v code a b) ↔ IsSoundVolume v
+
+-- an image is accepted exactly where it is sound
+abbrev pub AcceptedIsSound : Type 0
+AcceptedIsSound = (image : Image) → IsImage image → IsAccepted image ↔ IsSoundImage image
+
+-- so an image with this home block is accepted exactly where its volume is sound
+abbrev pub AcceptedHasSoundVolume : Type 0
+AcceptedHasSoundVolume = (image : Image) (home : HomeFields) → IsImage image → IsHomeOf image home → IsAccepted image ↔ HasSoundVolume image home

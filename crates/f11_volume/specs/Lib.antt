@@ -1,0 +1,10 @@
+pub mod Space
+pub mod Volume
+pub mod Contents
+pub mod Faults
+pub mod Notes
+pub mod Verdict
+pub mod Sound
+pub mod FileLaws
+pub mod Earlier
+pub mod Laws

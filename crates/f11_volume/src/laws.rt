@@ -1,0 +1,32 @@
+//! Laws of what a volume is, each the contract of a function that does nothing.
+ghost use Rattle.f11_volume.specs.FileLaws as files;
+ghost use Rattle.f11_volume.specs.Laws as laws;
+
+/// A fault of the frame is a fault, and the only one.
+pub fn frames()
+    ensures none { laws.FrameHasNoFault }
+    ensures only { laws.FrameFaultIsOnly }
+{}
+
+/// A volume has no fault exactly where it is sound, and an image is accepted exactly where its frame is as it should be and its
+/// volume is sound.
+pub fn sound()
+    ensures volume { laws.FaultlessIsSound }
+    ensures image { laws.AcceptedIsSound }
+    ensures home { laws.AcceptedHasSoundVolume }
+{}
+
+/// The files of a sound volume: they are chained, each is sound, and no block stands twice among those of all.
+pub fn files()
+    ensures volume { files.VolumeHasSoundFiles }
+    ensures image { files.ImageHasSoundFiles }
+    ensures index { files.IndexFileIsApart }
+    ensures bitmap { files.StorageBitmapIsOne }
+{}
+
+/// What a whole file has, as its headers and blocks say.
+pub fn whole_files()
+    ensures reached { files.ReachedAreTheFiles }
+    ensures headers { files.FileHasItsHeaders }
+    ensures blocks { files.FileHasItsBlocks }
+{}
