@@ -10,7 +10,7 @@ use Rattle.f11_fcp.specs.Lists.{ServesCall, failures_of, is_sound, store_of_volu
 use Rattle.f11_fcp.specs.Mounting.{Mounts}
 use Rattle.f11_fcp.specs.Serving.{StaysAccepted, is_spent, state_in}
 use Rattle.f11_fcp.specs.declared.volume.Volume.{Volume}
-use Rattle.f11_files.specs.StoreOf.{store_of}
+use Rattle.f11_image_store.specs.StoreOf.{store_of}
 use Rattle.f11_runs.specs.Each.{Steps}
 use Rattle.f11_script.specs.declared.errors.ScriptError.{ScriptError}
 use Rattle.f11_serving.specs.Scripts.{ServesScriptRun}

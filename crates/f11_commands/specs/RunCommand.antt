@@ -5,7 +5,7 @@ use Rattle.f11_dev.specs.Disk.{Disk}
 use Rattle.f11_findings.specs.declared.finding.Finding.{Finding}
 use Rattle.f11_home.specs.Home.{HomeFields, IsHomeOf}
 use Rattle.f11_fcp.specs.Accesses.{Table, held_in, no_entries}
-use Rattle.f11_files.specs.StoreOf.{store_of}
+use Rattle.f11_image_store.specs.StoreOf.{store_of}
 use Rattle.f11_runs.specs.Each.{Steps}
 use Rattle.f11_script.specs.declared.errors.ScriptError.{ScriptError}
 use Rattle.f11_serving.specs.Serving.{RunsScript}

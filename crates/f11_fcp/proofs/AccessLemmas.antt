@@ -20,7 +20,7 @@ use Rattle.f11_store.specs.declared.requests.Request.{Request}
 use Rattle.f11_store.specs.declared.requests.Request.TheVariants as request
 use Rattle.f11_files.specs.Answers.{Reads, FailsToRead}
 use Rattle.f11_files.specs.Operations.{attr_of, file_causes}
-use Rattle.f11_files.specs.StoreOf.{store_of}
+use Rattle.f11_image_store.specs.StoreOf.{store_of}
 use Rattle.f11_fcp.specs.Accesses.{Table, Entry, access_of, with_entry, held_in, is_held_in, mark_there, mark_kept, HasAccessed}
 use Rattle.f11_fcp.specs.Handles.{State, store_at, Handles}
 use Rattle.f11_fcp.specs.Rights.{lacks_by}

@@ -29,7 +29,7 @@ use Rattle.f11_files.specs.Answers.{Breaks, FailsToRead, IsRight, IsUnderWay, Me
 use Rattle.f11_files.specs.Blocks.{ReadsBlock}
 use Rattle.f11_files.specs.Extend.{ExtendsFile, FailsToExtend}
 use Rattle.f11_files.specs.Operations.{extend_causes}
-use Rattle.f11_files.specs.StoreOf.{store_of}
+use Rattle.f11_image_store.specs.StoreOf.{store_of}
 use Rattle.f11_files.proofs.AnswerLemmas.{reads-within}
 use Rattle.f11_dev.proofs.WentLemmas.{went_looked, went_weaker}
 use Rattle.f11_fcp.specs.Entries.{HasBlocks, put_work, ReplacesEntry, BreaksReplacing, IsTailOf, IsAppending, putting, moving, Appending, Appends, cause_if, entry_causes, entry_work, IsEndOf, IsFull, HasEmpty, PutsEntry, FailsToPut}

@@ -23,7 +23,7 @@ use Rattle.f11_files.specs.Answers.{Reads, FailsToRead, is_among, is_light}
 use Rattle.f11_files.specs.Deletes.{Deletes, FailsToDelete}
 use Rattle.f11_files.specs.Fields.{Alters, FailsToAlter}
 use Rattle.f11_files.specs.Operations.{attr_of, file_causes}
-use Rattle.f11_files.specs.StoreOf.{store_of}
+use Rattle.f11_image_store.specs.StoreOf.{store_of}
 use Rattle.f11_files.proofs.AnswerLemmas.{reads-within}
 use Rattle.f11_fcp.specs.Accesses.{Table, held_in, is_held_in, any_mode, with_marks}
 use Rattle.f11_fcp.specs.Handles.{State, store_at, own_causes, Handles}

@@ -23,7 +23,7 @@ use Rattle.f11_files.specs.Answers.{FailsToRead, Reads, faults_of, is_among}
 use Rattle.f11_files.specs.Calls.{ReadsAttr}
 use Rattle.f11_files.specs.Length.{CountsBlocks}
 use Rattle.f11_files.specs.Operations.{attr_of, file_causes}
-use Rattle.f11_files.specs.StoreOf.{store_of}
+use Rattle.f11_image_store.specs.StoreOf.{store_of}
 use Rattle.f11_files.proofs.AnswerLemmas.{fails-more, reads-more, reads-within, right-cause}
 use Rattle.f11_fcp.specs.Accesses.{Table, is_held_in}
 use Rattle.f11_fcp.specs.Directories.{right_for, lacks_for_purpose, is_barred_to, conflict_causes, opening_causes, Opens, LooksThrough, Searches, IsDirectoryOf}

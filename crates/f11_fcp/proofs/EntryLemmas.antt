@@ -25,7 +25,7 @@ use Rattle.f11_files.specs.Answers.{Breaks, Meanwhile, Writes}
 use Rattle.f11_files.specs.Blocks.{StoresBlock, block_work}
 use Rattle.f11_files.specs.Fields.{Alters}
 use Rattle.f11_files.specs.Operations.{file_causes, length_causes}
-use Rattle.f11_files.specs.StoreOf.{store_of}
+use Rattle.f11_image_store.specs.StoreOf.{store_of}
 use Rattle.f11_fcp.specs.Entries.{HoldsSpot, HasBlocks, put_at, put_work, ReplacesEntry, BreaksReplacing, IsTailOf, move_at, putting, moving, Appending, Appends}
 use Rattle.f11_fcp.specs.declared.tail.Tail.{Tail}
 use Rattle.f11_fcp.proofs.AccessedLemmas.{drop-false}

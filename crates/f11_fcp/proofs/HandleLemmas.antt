@@ -17,7 +17,7 @@ use Rattle.f11_store.specs.declared.refusals.Refusal.TheVariants.{VolumeFailed, 
 use Rattle.f11_store.specs.declared.requests.Reply.{Reply}
 use Rattle.f11_store.specs.declared.requests.Request.{Request}
 use Rattle.f11_files.specs.Answers.{Reads, Writes, FailsToWrite, Does, is_among, is_grave, is_light, is_cause, faults_of, Meanwhile as FilesMeanwhile}
-use Rattle.f11_files.specs.StoreOf.{store_of}
+use Rattle.f11_image_store.specs.StoreOf.{store_of}
 use Rattle.f11_files.proofs.AnswerLemmas.{reads-more, reads-looked}
 use Rattle.f11_dev.proofs.LookedLemmas.{looked_none}
 use Rattle.f11_volume.specs.Volume.{Volume}

@@ -14,7 +14,7 @@ use Rattle.f11_store.specs.declared.refusals.Refusal.TheVariants.{DeviceFault, D
 use Rattle.f11_store.specs.declared.requests.Reply.{Reply}
 use Rattle.f11_files.specs.Answers.{is_grave, is_refused}
 use Rattle.f11_files.specs.Open.{store_in}
-use Rattle.f11_files.proofs.StoreLemmas.{unused-is-empty}
+use Rattle.f11_image_store.proofs.StoreLemmas.{unused-is-empty}
 use Rattle.f11_fcp.specs.Accesses.{Entry, HasAccessed, Table, access_of, held_in, mark_kept, mark_there}
 use Rattle.f11_fcp.specs.Handles.{State, faults_in, is_damage}
 use Rattle.f11_fcp.specs.Lists.{AreAnswered, IsServed, KeepsCosts, KeepsLocks, ServesCall, ServesRun, answer_and, answers_in, asked_in, asked_of, cost_of, failures_of, is_sound, store_of_volume, transfers_of}

@@ -16,7 +16,7 @@ use Rattle.f11_dir.specs.Records.{records_in, place_of_name}
 use Rattle.f11_files.specs.Answers.{FailsToRead, Reads}
 use Rattle.f11_files.specs.Blocks.{ReadsBlock}
 use Rattle.f11_files.specs.Operations.{length_causes}
-use Rattle.f11_files.specs.StoreOf.{store_of}
+use Rattle.f11_image_store.specs.StoreOf.{store_of}
 use Rattle.f11_files.proofs.AnswerLemmas.{reads-looked, reads-more, reads-within}
 use Rattle.f11_entries.specs.Costs.{reading_cost}
 use Rattle.f11_entries.specs.Seen.{here, first_place, LookedAt}

@@ -15,7 +15,7 @@ use Rattle.f11_store.specs.declared.refusals.Refusal.TheVariants.{NoSuchFile, Vo
 use Rattle.f11_store.specs.declared.requests.Request.{Request}
 use Rattle.f11_files.specs.Answers.{Reads, FailsToRead, is_among, is_grave, faults_of}
 use Rattle.f11_files.specs.Operations.{attr_of, file_causes}
-use Rattle.f11_files.specs.StoreOf.{store_of}
+use Rattle.f11_image_store.specs.StoreOf.{store_of}
 use Rattle.f11_files.proofs.AnswerLemmas.{reads-within}
 use Rattle.f11_fcp.specs.Handles.{State, store_at, own_causes, Handles}
 use Rattle.f11_fcp.proofs.HandleLemmas.{light-cause, handled-light, handled-grave}

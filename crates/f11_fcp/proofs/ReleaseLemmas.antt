@@ -18,7 +18,7 @@ use Rattle.f11_store.specs.declared.requests.Reply.TheVariants as reply
 use Rattle.f11_store.specs.declared.requests.Request.TheVariants as request
 use Rattle.f11_store.proofs.ReleaseLaws.{release_lags, release_goes_on, release_cost_goes_on, release_fits}
 use Rattle.f11_files.specs.Answers.{Writes, is_grave}
-use Rattle.f11_files.specs.StoreOf.{store_of}
+use Rattle.f11_image_store.specs.StoreOf.{store_of}
 use Rattle.f11_files.proofs.WriteLemmas.{writes-within}
 use Rattle.f11_fcp.specs.Accesses.{Entry, access_of}
 use Rattle.f11_fcp.specs.Handles.{State, store_at, Meanwhile, faults_in, Handles}

@@ -14,7 +14,7 @@ use Rattle.f11_store.specs.declared.requests.Request.TheVariants as request
 use Rattle.f11_files.specs.Answers.{is_light, FailsToWrite}
 use Rattle.f11_files.specs.Create.{Creates, FailsToCreate, new_work}
 use Rattle.f11_files.specs.Operations.{create_causes, IsSpaceOf}
-use Rattle.f11_files.specs.StoreOf.{store_of}
+use Rattle.f11_image_store.specs.StoreOf.{store_of}
 use Rattle.f11_fcp.specs.Accesses.{Table, held_in, accesses}
 use Rattle.f11_fcp.specs.Handles.{State, store_at, Meanwhile, Handles}
 use Rattle.f11_store.proofs.HeldLaws.{created-held, free-held}

@@ -20,7 +20,7 @@ use Rattle.f11_store.specs.declared.requests.Request.TheVariants as request
 use Rattle.f11_volume.specs.Sound.{HasSoundVolume}
 use Rattle.f11_files.specs.Answers.{Writes, is_among, is_cause, is_grave, is_light, is_refused, faults_of}
 use Rattle.f11_files.specs.Open.{disk_in, home_in, counts_in, has_failed, is_honest, store_in}
-use Rattle.f11_files.specs.StoreOf.{store_of}
+use Rattle.f11_image_store.specs.StoreOf.{store_of}
 use Rattle.f11_files.specs.declared.files.Files.{Files}
 use Rattle.f11_fcp.specs.Accesses.{Table, held_in, HasAccessed}
 

@@ -16,26 +16,25 @@ use Rattle.f11_store.specs.declared.callers.Uic.{Uic}
 use Rattle.f11_store.specs.declared.files.FileId.{FileId}
 use Rattle.f11_store.specs.declared.refusals.Refusal.TheVariants.{DeviceFault}
 use Rattle.f11_volume.specs.Contents.{block_or_zeros}
-use Rattle.f11_files.specs.Allocation.{LinksLoose, NamesMore}
+use Rattle.f11_image_store.specs.Allocation.{LinksLoose, NamesMore}
 use Rattle.f11_files.specs.Answers.{Breaks}
-use Rattle.f11_files.specs.Drops.{with_more_free}
+use Rattle.f11_store.specs.Pieces.{with_more_free, MayExtend}
 use Rattle.f11_files.specs.Extension.{AppendingRun, AppendsRun, EntersHeader}
-use Rattle.f11_files.specs.FileLaws.{pointers_in, room_in, with_header_more}
+use Rattle.f11_image_store.specs.FileLaws.{pointers_in, room_in, with_header_more}
 use Rattle.f11_files.specs.Growing.{Taking, Grew, SameFree}
 use Rattle.f11_files.specs.Link.{Linking, LinksTail}
-use Rattle.f11_files.specs.Pieces.{MayExtend}
-use Rattle.f11_files.specs.StoreOf.{store_of}
+use Rattle.f11_image_store.specs.StoreOf.{store_of}
 use Rattle.f11_files.specs.Structure.{home_of, store_on, IsFor, StaysFor}
 use Rattle.f11_files.specs.Tail.{HasStore, HoldsLast, MayBeGiven, whose, ownership_of}
 use Rattle.f11_files.specs.declared.structure.Structure.{Structure}
 use Rattle.f11_files.specs.declared.tail.Tail.{Tail}
-use Rattle.f11_files.proofs.AllocationLemmas.{adds-linked}
+use Rattle.f11_image_store.proofs.AllocationLemmas.{adds-linked}
 use Rattle.f11_files.proofs.GrowingLemmas.{breaks-fault, breaks-stays}
 use Rattle.f11_files.proofs.FirstLemmas.{table-of}
 use Rattle.f11_files.proofs.FreeingLemmas.{stays-for}
 use Rattle.f11_files.proofs.NameRunLemmas.{held-zeros}
 use Rattle.f11_files.proofs.NewHeaderLemmas.{no-room, taken-moment}
-use Rattle.f11_files.proofs.PieceLemmas.{linked-extends}
+use Rattle.f11_store.proofs.PieceLemmas.{linked-extends}
 
 module _ (s : Structure) (tail : Tail) (lbn count : ℕ) (old : Disk) (for : IsFor s old) (last : HoldsLast s tail old) (own : 4 ≤ tail.file.number) (given : MayBeGiven (home_of s) lbn count old)
     (full : room_in tail.block ≡ 0) (may : IsTrue old.honest → MayExtend (with_more_free (store_on s old) count) tail.file.number count) where

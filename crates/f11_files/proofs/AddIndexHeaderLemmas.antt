@@ -18,29 +18,28 @@ use Rattle.f11_store.specs.Store.{Store}
 use Rattle.f11_store.specs.declared.callers.Uic.{Uic}
 use Rattle.f11_store.specs.declared.files.FileId.{FileId}
 use Rattle.f11_store.specs.declared.refusals.Refusal.TheVariants.{DeviceFault}
-use Rattle.f11_files.specs.Allocation.{AddsLoose, AddsZeroSlots, LinksLoose, NamesMore}
+use Rattle.f11_image_store.specs.Allocation.{AddsLoose, AddsZeroSlots, LinksLoose, NamesMore}
 use Rattle.f11_files.specs.Answers.{Breaks}
-use Rattle.f11_files.specs.Drops.{with_more_free}
+use Rattle.f11_store.specs.Pieces.{with_more_free, MayExtend}
 use Rattle.f11_files.specs.Extension.{EntersHeader}
-use Rattle.f11_files.specs.FileLaws.{pointers_in, room_in, with_header_linked}
+use Rattle.f11_image_store.specs.FileLaws.{pointers_in, room_in, with_header_linked}
 use Rattle.f11_files.specs.GrowIndex.{AppendingSlots, AppendsSlots, GrewIndex}
 use Rattle.f11_files.specs.Growing.{Taking, SameFree}
 use Rattle.f11_files.specs.IndexGrowth.{LinkingSlots, LinksSlots, MayBecomeSlots, NamesThese}
-use Rattle.f11_files.specs.IndexPieces.{MayGrowIndex}
-use Rattle.f11_files.specs.Pieces.{MayExtend}
-use Rattle.f11_files.specs.StoreOf.{store_of}
+use Rattle.f11_store.specs.IndexPieces.{MayGrowIndex}
+use Rattle.f11_image_store.specs.StoreOf.{store_of}
 use Rattle.f11_files.specs.Structure.{bitmap_in, home_of, store_on, IsFor, StaysFor}
 use Rattle.f11_files.specs.Tail.{HasStore, HoldsLast, MayBeGiven, whose, ownership_of}
 use Rattle.f11_files.specs.declared.structure.Structure.{Structure}
 use Rattle.f11_files.specs.declared.tail.Tail.{Tail}
-use Rattle.f11_files.proofs.AllocationLemmas.{adds-linked}
+use Rattle.f11_image_store.proofs.AllocationLemmas.{adds-linked}
 use Rattle.f11_files.proofs.ZeroSlotLemmas.{zero-then}
 use Rattle.f11_files.proofs.FirstLemmas.{table-of}
 use Rattle.f11_files.proofs.FreeingLemmas.{stays-for}
 use Rattle.f11_files.proofs.GrowingLemmas.{breaks-fault, breaks-stays}
-use Rattle.f11_files.proofs.IndexPieceLemmas.{as-file, slots-linked}
+use Rattle.f11_store.proofs.IndexPieceLemmas.{as-file, slots-linked}
 use Rattle.f11_files.proofs.NewHeaderLemmas.{no-room, taken-moment}
-use Rattle.f11_files.proofs.PieceLemmas.{with_linked}
+use Rattle.f11_store.proofs.PieceLemmas.{with_linked}
 
 module _ (s : Structure) (tail : Tail) (lbn count : ℕ) (old : Disk) (for : IsFor s old) (last : HoldsLast s tail old) (index : tail.file.number ≡ 1) (given : MayBeGiven (home_of s) lbn count old)
     (full : room_in tail.block ≡ 0) (reserved : count ≤ room s.index) (may : IsTrue old.honest → MayGrowIndex (with_more_free (store_on s old) count) count) where

@@ -11,12 +11,11 @@ use Rattle.f11_store.specs.Store.{Store}
 use Rattle.f11_store.specs.declared.refusals.Refusal.{Refusal}
 use Rattle.f11_volume.specs.Sound.{HasSoundVolume}
 use Rattle.f11_files.specs.Answers.{Writes, Breaks}
-use Rattle.f11_files.specs.Drops.{with_more_free}
+use Rattle.f11_store.specs.Pieces.{with_more_free, file_numbered, MayExtend, TakesSome, ExtendsSome}
 use Rattle.f11_files.specs.Extend.{AddsRun}
 use Rattle.f11_files.specs.Extension.{AppendingRun, AppendsRun}
 use Rattle.f11_files.specs.Growing.{Taking, IsGrowing, GrowingBy, Grew}
-use Rattle.f11_files.specs.Pieces.{file_numbered, MayExtend, TakesSome, ExtendsSome}
-use Rattle.f11_files.specs.StoreOf.{store_of}
+use Rattle.f11_image_store.specs.StoreOf.{store_of}
 use Rattle.f11_files.specs.Structure.{bitmap_in, home_of, store_on, IsFor, StaysFor}
 use Rattle.f11_files.specs.Tail.{HoldsLast, ownership_of}
 use Rattle.f11_files.specs.Take.{TakesRun}
@@ -24,7 +23,7 @@ use Rattle.f11_files.specs.declared.structure.Structure.{Structure}
 use Rattle.f11_files.specs.declared.tail.Tail.{Tail}
 use Rattle.f11_files.proofs.FreeingLemmas.{breaks-behind, breaks-within, writes-none, writes-then, writes-within}
 use Rattle.f11_files.proofs.GrowingLemmas.{takes-within, grew-behind, grew-within}
-use Rattle.f11_files.proofs.PieceLemmas.{may-free, fewer-may, taking-adds}
+use Rattle.f11_store.proofs.PieceLemmas.{may-free, fewer-may, taking-adds}
 use Rattle.f11_files.proofs.TakeLemmas.{takes-blocks}
 use Rattle.f11_files.proofs.TakenRunLemmas.{run-cost, break-cost, store-mid, store-free, none-left, run-gained}
 

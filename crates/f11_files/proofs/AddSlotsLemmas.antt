@@ -11,12 +11,11 @@ use Rattle.f11_store.specs.Store.{Store, index_file}
 use Rattle.f11_store.specs.declared.refusals.Refusal.{Refusal}
 use Rattle.f11_volume.specs.Sound.{HasSoundVolume}
 use Rattle.f11_files.specs.Answers.{Writes, Breaks}
-use Rattle.f11_files.specs.Drops.{with_more_free}
+use Rattle.f11_store.specs.Pieces.{with_more_free, TakesSome}
 use Rattle.f11_files.specs.GrowIndex.{AddsSlots, AppendingSlots, AppendsSlots, GrewIndex, GrowingIndexBy, GrowsSome}
 use Rattle.f11_files.specs.Growing.{Taking, IsGrowing}
-use Rattle.f11_files.specs.IndexPieces.{MayGrowIndex}
-use Rattle.f11_files.specs.Pieces.{TakesSome}
-use Rattle.f11_files.specs.StoreOf.{store_of}
+use Rattle.f11_store.specs.IndexPieces.{MayGrowIndex}
+use Rattle.f11_image_store.specs.StoreOf.{store_of}
 use Rattle.f11_files.specs.Structure.{bitmap_in, home_of, store_on, IsFor, StaysFor}
 use Rattle.f11_files.specs.Tail.{HoldsLast, ownership_of}
 use Rattle.f11_files.specs.Take.{TakesRun}
@@ -25,8 +24,8 @@ use Rattle.f11_files.specs.declared.tail.Tail.{Tail}
 use Rattle.f11_files.proofs.FreeingLemmas.{breaks-behind, breaks-within, writes-none, writes-then, writes-within}
 use Rattle.f11_files.proofs.GrowingLemmas.{takes-within}
 use Rattle.f11_files.proofs.GrowingIndexLemmas.{index-behind, index-within}
-use Rattle.f11_files.proofs.IndexPieceLemmas.{as-file, fewer-grow}
-use Rattle.f11_files.proofs.PieceLemmas.{may-free, taking-adds}
+use Rattle.f11_store.proofs.IndexPieceLemmas.{as-file, fewer-grow}
+use Rattle.f11_store.proofs.PieceLemmas.{may-free, taking-adds}
 use Rattle.f11_files.proofs.TakeLemmas.{takes-blocks}
 use Rattle.f11_files.proofs.TakenRunLemmas.{run-cost, break-cost, store-mid, store-free, none-left, run-gained, slots-gained}
 

@@ -16,19 +16,19 @@ use Rattle.f11_store.specs.declared.refusals.Refusal.TheVariants.{DeviceFault}
 use Rattle.f11_store.proofs.LagLaws.{change_lags}
 use Rattle.f11_volume.specs.Volume.{Volume, volume_of}
 use Rattle.f11_writes.specs.Kept.{KeepsButSlot, WritesHeader}
-use Rattle.f11_files.specs.Allocation.{KeepsBlocks}
+use Rattle.f11_image_store.specs.Allocation.{KeepsBlocks}
 use Rattle.f11_files.specs.Answers.{Meanwhile}
-use Rattle.f11_files.specs.FieldLaws.{SaysBut, ChangesFile}
+use Rattle.f11_image_store.specs.FieldLaws.{SaysBut, ChangesFile}
 use Rattle.f11_files.specs.Fields.{Alters, FailsToAlter}
 use Rattle.f11_files.specs.First.{FindsFile}
-use Rattle.f11_files.specs.StoreOf.{store_of}
+use Rattle.f11_image_store.specs.StoreOf.{store_of}
 use Rattle.f11_files.specs.Structure.{index_in, bitmap_in, home_of, store_on, Keeps, IsFor, StaysFor}
 use Rattle.f11_files.specs.declared.structure.Structure.{Structure}
 use Rattle.f11_files.proofs.AnswerLemmas.{right-fault, reads-looked}
-use Rattle.f11_files.proofs.FieldLemmas.{changes-file, field-keeps}
+use Rattle.f11_image_store.proofs.FieldLemmas.{changes-file, field-keeps}
 use Rattle.f11_files.proofs.FirstLemmas.{table-of}
 use Rattle.f11_files.proofs.NamedLemmas.{is-file, block-is, no-file-cause}
-use Rattle.f11_files.proofs.StoreLemmas.{free-count}
+use Rattle.f11_image_store.proofs.StoreLemmas.{free-count}
 use Rattle.f11_files.proofs.WriteLemmas.{breaks-off, failed-stays, served-stays, writes-behind}
 
 -- where a slot was written, the blocks that were free are free still

@@ -17,22 +17,21 @@ use Rattle.f11_store.specs.declared.refusals.Refusal.TheVariants.{DeviceFault}
 use Rattle.f11_volume.specs.Sound.{HasSoundVolume}
 use Rattle.f11_volume.specs.Volume.{volume_of}
 use Rattle.f11_writes.specs.NameLaws.{AreSpare}
-use Rattle.f11_files.specs.Allocation.{NamesMore}
+use Rattle.f11_image_store.specs.Allocation.{NamesMore}
 use Rattle.f11_files.specs.Answers.{Writes, Breaks}
-use Rattle.f11_files.specs.Drops.{with_more_free}
+use Rattle.f11_store.specs.Pieces.{with_more_free, file_numbered, MayExtend, TakesSome, with_zeros_more}
 use Rattle.f11_files.specs.Extension.{AppendingRun, AppendsRun}
-use Rattle.f11_files.specs.FileLaws.{room_in}
+use Rattle.f11_image_store.specs.FileLaws.{room_in}
 use Rattle.f11_files.specs.Growing.{Grew, GrowingInto, SameFree}
-use Rattle.f11_files.specs.Pieces.{file_numbered, MayExtend, TakesSome}
-use Rattle.f11_files.specs.StoreOf.{store_of}
+use Rattle.f11_image_store.specs.StoreOf.{store_of}
 use Rattle.f11_files.specs.Structure.{bitmap_in, home_of, store_on, IsFor, StaysFor}
-use Rattle.f11_files.specs.Tail.{HoldsLast, Naming, NamesRun, FailsToName, HasNoPlace, pointers_more, with_zeros_more, whose, ownership_of}
+use Rattle.f11_files.specs.Tail.{HoldsLast, Naming, NamesRun, FailsToName, HasNoPlace, pointers_more, whose, ownership_of}
 use Rattle.f11_files.specs.Zeros.{Keeping, Zeroes, FailsToZero}
 use Rattle.f11_files.specs.declared.structure.Structure.{Structure}
 use Rattle.f11_files.specs.declared.tail.Tail.{Tail}
 use Rattle.f11_files.proofs.FreeingLemmas.{breaks-behind, breaks-within}
 use Rattle.f11_files.proofs.GrowingLemmas.{breaks-fault, went-writes, takes-none, room-here, into-same, grew-behind}
-use Rattle.f11_files.proofs.PieceLemmas.{named-extends}
+use Rattle.f11_store.proofs.PieceLemmas.{named-extends}
 use Rattle.f11_files.proofs.ZeroedLemmas.{free-mid}
 
 -- what is kept of a volume where the last header names them

@@ -18,16 +18,15 @@ use Rattle.f11_store.specs.declared.refusals.Refusal.TheVariants.{DeviceFault}
 use Rattle.f11_volume.specs.Sound.{HasSoundVolume}
 use Rattle.f11_volume.specs.Volume.{volume_of}
 use Rattle.f11_writes.specs.NameLaws.{AreSpare}
-use Rattle.f11_files.specs.Allocation.{AddsZeroSlots, NamesMore}
+use Rattle.f11_image_store.specs.Allocation.{AddsZeroSlots, NamesMore}
 use Rattle.f11_files.specs.Answers.{Writes, Breaks}
-use Rattle.f11_files.specs.Drops.{with_more_free}
-use Rattle.f11_files.specs.FileLaws.{room_in}
+use Rattle.f11_store.specs.Pieces.{with_more_free, file_numbered, TakesSome, with_slots_named}
+use Rattle.f11_image_store.specs.FileLaws.{room_in}
 use Rattle.f11_files.specs.GrowIndex.{AppendingSlots, AppendsSlots, GrewIndex}
 use Rattle.f11_files.specs.Growing.{SameFree}
-use Rattle.f11_files.specs.IndexGrowth.{MayBecomeSlots, NamesSlots, NamingSlots, FailsToNameSlots, with_slots_named}
-use Rattle.f11_files.specs.IndexPieces.{MayGrowIndex}
-use Rattle.f11_files.specs.Pieces.{file_numbered, TakesSome}
-use Rattle.f11_files.specs.StoreOf.{store_of}
+use Rattle.f11_files.specs.IndexGrowth.{MayBecomeSlots, NamesSlots, NamingSlots, FailsToNameSlots}
+use Rattle.f11_store.specs.IndexPieces.{MayGrowIndex}
+use Rattle.f11_image_store.specs.StoreOf.{store_of}
 use Rattle.f11_files.specs.Structure.{bitmap_in, home_of, store_on, IsFor, StaysFor}
 use Rattle.f11_files.specs.Tail.{HoldsLast, HasNoPlace, MayBeGiven, pointers_more, whose, ownership_of}
 use Rattle.f11_files.specs.Zeros.{Keeping, Zeroes, FailsToZero}
@@ -37,7 +36,7 @@ use Rattle.f11_files.proofs.AppendRunLemmas.{at-most-one}
 use Rattle.f11_files.proofs.FreeingLemmas.{breaks-behind, breaks-within}
 use Rattle.f11_files.proofs.GrowingLemmas.{breaks-fault, went-writes, takes-none, room-here}
 use Rattle.f11_files.proofs.GrowingIndexLemmas.{slots-same, index-behind}
-use Rattle.f11_files.proofs.IndexPieceLemmas.{slots-named}
+use Rattle.f11_store.proofs.IndexPieceLemmas.{slots-named}
 use Rattle.f11_files.proofs.ZeroedLemmas.{free-mid, now-for, now-last, now-given}
 
 module _ (s : Structure) (tail : Tail) (lbn count : ℕ) (old : Disk) (for : IsFor s old) (last : HoldsLast s tail old) (index : tail.file.number ≡ 1) (within : lbn + count ≤ (bitmap_in s).size) (some : 0 < count)

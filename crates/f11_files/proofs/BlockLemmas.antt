@@ -12,15 +12,15 @@ use Rattle.f11_store.proofs.LagLaws.{change_lags}
 use Rattle.f11_volume.specs.Volume.{volume_of}
 use Rattle.f11_writes.specs.Kept.{WritesBlock}
 use Rattle.f11_writes.proofs.OtherLemmas.{file-keeps}
-use Rattle.f11_files.specs.Allocation.{KeepsBlocks}
+use Rattle.f11_image_store.specs.Allocation.{KeepsBlocks}
 use Rattle.f11_files.specs.Answers.{Meanwhile}
 use Rattle.f11_files.specs.Blocks.{FindsBlock, StoresBlock, FailsToStore, block_work}
-use Rattle.f11_files.specs.StoreOf.{store_of}
+use Rattle.f11_image_store.specs.StoreOf.{store_of}
 use Rattle.f11_files.specs.Structure.{home_of, store_on, Keeps, IsFor, StaysFor}
 use Rattle.f11_files.specs.declared.structure.Structure.{Structure}
-use Rattle.f11_files.proofs.AllocationLemmas.{keeps-same}
+use Rattle.f11_image_store.proofs.AllocationLemmas.{keeps-same}
 use Rattle.f11_files.proofs.AnswerLemmas.{right-fault}
-use Rattle.f11_files.proofs.StoreLemmas.{block-stored}
+use Rattle.f11_image_store.proofs.StoreLemmas.{block-stored}
 use Rattle.f11_files.proofs.WriteLemmas.{breaks-off, keeps-volume, failed-stays, served-stays, writes-behind}
 
 -- the block was found, and is written there

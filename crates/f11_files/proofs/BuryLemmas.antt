@@ -34,17 +34,17 @@ use Rattle.f11_writes.proofs.HeaderLemmas.{kill-keeps}
 use Rattle.f11_writes.proofs.NameLemmas.{own-names, lost-unnamed}
 use Rattle.f11_files.specs.Drops.{FreesMore, IsFreeing, Freeing, BreaksOff, AreAllSpare, MayDrop, Buries}
 use Rattle.f11_files.specs.Growing.{SameFree}
-use Rattle.f11_files.specs.SlotLaws.{with_use, IsLoose, KeepsOtherBlocks}
-use Rattle.f11_files.specs.StoreOf.{is_first, store_of}
+use Rattle.f11_image_store.specs.SlotLaws.{with_use, IsLoose, KeepsOtherBlocks}
+use Rattle.f11_image_store.specs.StoreOf.{is_first, store_of}
 use Rattle.f11_files.specs.Structure.{index_in, home_of, store_on, Lies, Keeps, IsFor, StaysFor}
 use Rattle.f11_files.specs.declared.structure.Structure.{Structure}
 use Rattle.f11_files.proofs.CreateLemmas.{lies-bit}
 use Rattle.f11_files.proofs.AlterLemmas.{free-slot, keeps-header}
 use Rattle.f11_files.proofs.FirstLemmas.{table-of}
 use Rattle.f11_files.proofs.FreeingLemmas.{frees-none, sound-freed}
-use Rattle.f11_files.proofs.InstanceLemmas.{with_file-same, unlive-loose, blocks-but, headers-stay, loose-written, loose-set, file-killed}
+use Rattle.f11_image_store.proofs.InstanceLemmas.{with_file-same, unlive-loose, blocks-but, headers-stay, loose-written, loose-set, file-killed}
 use Rattle.f11_files.proofs.NamedLemmas.{file-stored}
-use Rattle.f11_files.proofs.StoreLemmas.{first-is-tested, file-at}
+use Rattle.f11_image_store.proofs.StoreLemmas.{first-is-tested, file-at}
 
 -- a header that is killed keeps its sequence number
 dead-sequence : (b : List ℕ) → file_sequence (dead_header b) ≡ file_sequence b

@@ -30,22 +30,22 @@ use Rattle.f11_writes.specs.Kept.{file_in}
 use Rattle.f11_writes.specs.OtherSlots.{KeepsOtherSlots}
 use Rattle.f11_volume.specs.Volume.{volume_of}
 use Rattle.f11_volume.proofs.FileLemmas.{image-files}
-use Rattle.f11_files.specs.Allocation.{ownership_in, AddsZeroSlots, GainsBlocks}
+use Rattle.f11_image_store.specs.Allocation.{ownership_in, AddsZeroSlots, GainsBlocks}
 use Rattle.f11_files.specs.Clear.{Clearing, ClearsMark}
-use Rattle.f11_files.specs.FieldLaws.{SaysBut, ChangesFile}
+use Rattle.f11_image_store.specs.FieldLaws.{SaysBut, ChangesFile}
 use Rattle.f11_files.specs.First.{HoldsFile, IsFirstOf}
-use Rattle.f11_files.specs.StoreOf.{as_seen}
+use Rattle.f11_image_store.specs.StoreOf.{as_seen}
 use Rattle.f11_files.specs.Structure.{index_in, home_of, store_on, Lies, Keeps, IsFor}
 use Rattle.f11_files.specs.Tail.{HasStore}
 use Rattle.f11_files.specs.declared.structure.Structure.{Structure}
-use Rattle.f11_files.proofs.AllocationLemmas.{gains-nothing}
+use Rattle.f11_image_store.proofs.AllocationLemmas.{gains-nothing}
 use Rattle.f11_files.proofs.ZeroSlotLemmas.{zero-same, zero-header}
 use Rattle.f11_files.proofs.AlterLemmas.{keeps-header}
-use Rattle.f11_files.proofs.FieldLemmas.{changes-file, changes-index, field-gains, segment-same, link-same}
+use Rattle.f11_image_store.proofs.FieldLemmas.{changes-file, changes-index, field-gains, segment-same, link-same}
 use Rattle.f11_files.proofs.FirstLemmas.{table-of}
-use Rattle.f11_files.proofs.InstanceLemmas.{with_file-same}
+use Rattle.f11_image_store.proofs.InstanceLemmas.{with_file-same}
 use Rattle.f11_files.proofs.NamedLemmas.{file-stored, is-file, held-named, attr-is, block-is}
-use Rattle.f11_files.proofs.StoreLemmas.{file-at}
+use Rattle.f11_image_store.proofs.StoreLemmas.{file-at}
 
 -- a change that leaves the file leaves the store
 unchanged : (st : Store) (k : ℕ) (g : File) (change : File → File) → st.file k ≡ Some g → change g ≡ g → with_change st k change ≡ st

@@ -25,7 +25,7 @@ use Rattle.f11_files.specs.Clear.{ClearsMark}
 use Rattle.f11_files.specs.Extend.{IsTailOf}
 use Rattle.f11_files.specs.First.{HoldsFile}
 use Rattle.f11_files.specs.Room.{FindsRoom}
-use Rattle.f11_files.specs.StoreOf.{store_of}
+use Rattle.f11_image_store.specs.StoreOf.{store_of}
 use Rattle.f11_files.specs.Structure.{index_in, bitmap_in, home_of, store_on, IsFor}
 use Rattle.f11_files.specs.Tail.{HoldsLast, ownership_of}
 use Rattle.f11_files.specs.declared.structure.Structure.{Structure}
@@ -35,7 +35,7 @@ use Rattle.f11_files.proofs.LocateLemmas.{reads-along}
 use Rattle.f11_files.proofs.NamedLemmas.{block-is, is-file}
 use Rattle.f11_files.proofs.OpenLemmas.{looked-for}
 use Rattle.f11_files.proofs.RoomLemmas.{last-is, last-of}
-use Rattle.f11_files.specs.Allocation.{ownership_in}
+use Rattle.f11_image_store.specs.Allocation.{ownership_in}
 use Rattle.f11_volume.specs.Volume.{volume_of}
 
 -- the storage bitmap of a store has a block for each 4096 blocks

@@ -10,7 +10,7 @@ use Rattle.f11_dev.specs.Went.{Went, newest}
 use Rattle.f11_dev.proofs.WentLemmas.{went_looked, went_write, went_failed_write}
 use Rattle.f11_index.specs.IndexFile.{Index, slots, header_lbn}
 use Rattle.f11_store.specs.Changes.{is_in}
-use Rattle.f11_files.specs.Confines.{IsNoPart, Spares, Confines, AreAlike}
+use Rattle.f11_image_store.specs.Confines.{IsNoPart, Spares, Confines, AreAlike}
 
 -- what is known of each image that stood meanwhile
 pub confines-went : (headers : ℕ → Bool) (index : Index) (bitmap : Bitmap) (others : List ℕ) {P : Image → Type 0} {old new : Disk} {most faults : ℕ} → ((image : Image) → P image → Spares headers index bitmap others old.image image)

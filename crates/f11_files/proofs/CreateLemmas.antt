@@ -28,19 +28,19 @@ use Rattle.f11_store.proofs.LagLaws.{taken_lags, created_lags}
 use Rattle.f11_volume.specs.Sound.{HasSoundVolume}
 use Rattle.f11_volume.specs.Space.{storage_bitmap}
 use Rattle.f11_volume.specs.Volume.{volume_of}
-use Rattle.f11_files.specs.Allocation.{KeepsBlocks}
+use Rattle.f11_image_store.specs.Allocation.{KeepsBlocks}
 use Rattle.f11_files.specs.Answers.{Meanwhile, IsUnderWay}
 use Rattle.f11_files.specs.Create.{Creates, FailsToCreate, new_work}
-use Rattle.f11_files.specs.NewFileLaws.{IsNewFirst, WritesNewFirst, EntersNewFile}
+use Rattle.f11_image_store.specs.NewFileLaws.{IsNewFirst, WritesNewFirst, EntersNewFile}
 use Rattle.f11_files.specs.Operations.{create_causes}
-use Rattle.f11_files.specs.SlotLaws.{with_last}
-use Rattle.f11_files.specs.StoreOf.{store_of}
+use Rattle.f11_image_store.specs.SlotLaws.{with_last}
+use Rattle.f11_image_store.specs.StoreOf.{store_of}
 use Rattle.f11_files.specs.Structure.{index_in, bitmap_in, home_of, store_on, Lies, Keeps, IsFor, StaysFor}
 use Rattle.f11_files.specs.declared.structure.Structure.{Structure}
 use Rattle.f11_files.proofs.AlterLemmas.{free-slot, keeps-header}
 use Rattle.f11_files.proofs.AnswerLemmas.{right-fault, reads-looked}
 use Rattle.f11_files.proofs.FreeSlotLemmas.{IsReadAt, read-at}
-use Rattle.f11_files.proofs.NewFileLemmas.{free-stored, least-stored, writes-first, enters-file, entered-keeps}
+use Rattle.f11_image_store.proofs.NewFileLemmas.{free-stored, least-stored, writes-first, enters-file, entered-keeps}
 use Rattle.f11_files.proofs.WriteLemmas.{breaks-off, failed-stays, sound-went, writes-behind, writes-within}
 
 -- a slot that was given its next sequence number

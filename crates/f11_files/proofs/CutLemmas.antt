@@ -43,26 +43,27 @@ use Rattle.f11_writes.specs.Volumes.{MayName, MayBecome, links_to_none}
 use Rattle.f11_writes.proofs.HeaderLemmas.{file-rewrite-keeps}
 use Rattle.f11_writes.proofs.NameLemmas.{own-names, fewer-names, lost-unnamed}
 use Rattle.f11_writes.proofs.OtherSlotLemmas.{turned, in-file-was, nowhere}
-use Rattle.f11_files.specs.Allocation.{FreesBlocks, IsEnd, LosesBlocks, LosesHeaders}
+use Rattle.f11_image_store.specs.Allocation.{FreesBlocks, IsEnd, LosesBlocks, LosesHeaders}
 use Rattle.f11_files.specs.Answers.{Writes, Meanwhile}
 use Rattle.f11_files.specs.Cuts.{FindsLastKept, CutsOff, Cuts, FailsToCut, cut_work}
-use Rattle.f11_files.specs.Drops.{FreesMore, Freeing, BreaksOff, AreAllSpare, GivesBlocks, DropsBehind, HangsBehind, headers_behind, tail_cost, with_more_free, without_headers, KeepsBlocksBut}
-use Rattle.f11_files.specs.FileLaws.{SaysAlike, MayStand, EndsThere, with_first_headers, pointers_before, pointers_in, room_in}
+use Rattle.f11_files.specs.Drops.{FreesMore, Freeing, BreaksOff, AreAllSpare, GivesBlocks, DropsBehind, HangsBehind, headers_behind, tail_cost, without_headers, KeepsBlocksBut}
+use Rattle.f11_store.specs.Pieces.{with_more_free}
+use Rattle.f11_image_store.specs.FileLaws.{SaysAlike, MayStand, EndsThere, with_first_headers, pointers_before, pointers_in, room_in}
 use Rattle.f11_files.specs.Growing.{SameFree}
 use Rattle.f11_files.specs.Operations.{length_causes}
-use Rattle.f11_files.specs.StoreOf.{store_of}
+use Rattle.f11_image_store.specs.StoreOf.{store_of}
 use Rattle.f11_files.specs.Structure.{index_in, home_of, store_on, Lies, Keeps, IsFor}
 use Rattle.f11_files.specs.declared.structure.Structure.{Structure}
 use Rattle.f11_files.proofs.AlterLemmas.{keeps-header}
-use Rattle.f11_files.proofs.FileLemmas.{as-header, file-ends, of-now}
+use Rattle.f11_image_store.proofs.FileLemmas.{as-header, file-ends, of-now}
 use Rattle.f11_files.proofs.FirstLemmas.{table-of}
 use Rattle.f11_files.proofs.FreeingLemmas.{frees-none, frees-blocks, freeing-more, writes-then, writes-within, breaks-then, breaks-within, sound-freed}
 use Rattle.f11_files.proofs.GoneLemmas.{breaks-fails}
-use Rattle.f11_files.proofs.InstanceLemmas.{file-stored}
+use Rattle.f11_image_store.proofs.InstanceLemmas.{file-stored}
 use Rattle.f11_files.proofs.KillLemmas.{in_use-place}
 use Rattle.f11_files.proofs.LossLemmas.{in-behind, in-first, in-front, CutsThere, held-same, loses-blocks}
 use Rattle.f11_files.proofs.NamedLemmas.{file-stored as stored-file}
-use Rattle.f11_files.proofs.StoreLemmas.{file-at, seen-own}
+use Rattle.f11_image_store.proofs.StoreLemmas.{file-at, seen-own}
 use Rattle.f11_files.proofs.TailLemmas.{hangs-from, hangs-are, hangs-blocks, hangs-pointers}
 
 -- what stands in the rest of a list, and in its front

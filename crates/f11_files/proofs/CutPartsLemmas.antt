@@ -8,10 +8,10 @@ use Rattle.f11_index.specs.IndexFile.{header_lbn}
 use Rattle.f11_index.specs.Table.{table_of}
 use Rattle.f11_store.specs.Changes.{is_in}
 use Rattle.f11_store.specs.declared.files.FileId.{FileId}
-use Rattle.f11_files.specs.Confines.{no_header, only_header}
+use Rattle.f11_image_store.specs.Confines.{no_header, only_header}
 use Rattle.f11_files.specs.Cuts.{FindsLastKept, CutsOff}
 use Rattle.f11_files.specs.Drops.{GivesBlocks, headers_behind}
-use Rattle.f11_files.specs.FileLaws.{pointers_in}
+use Rattle.f11_image_store.specs.FileLaws.{pointers_in}
 use Rattle.f11_files.specs.First.{FindsFile}
 use Rattle.f11_files.specs.Structure.{index_in, home_of, IsFor, StandsAlike, WritesParts}
 use Rattle.f11_files.specs.declared.structure.Structure.{Structure}

@@ -9,10 +9,11 @@ use Rattle.f11_store.specs.Changes.{is_in, with_file, without_slots}
 use Rattle.f11_store.specs.Store.{Store}
 use Rattle.f11_store.specs.declared.refusals.Refusal.{Refusal}
 use Rattle.f11_writes.specs.OtherSlots.{KeepsOtherSlots}
-use Rattle.f11_files.specs.Drops.{FreesMore, BreaksOff, Buries, GivesBlocks, DropsHeader, without_header, with_more_free, drop_cost}
-use Rattle.f11_files.specs.FileLaws.{pointers_in}
-use Rattle.f11_files.specs.SlotLaws.{KeepsOtherBlocks}
-use Rattle.f11_files.specs.StoreOf.{store_of}
+use Rattle.f11_files.specs.Drops.{FreesMore, BreaksOff, Buries, GivesBlocks, DropsHeader, without_header, drop_cost}
+use Rattle.f11_store.specs.Pieces.{with_more_free}
+use Rattle.f11_image_store.specs.FileLaws.{pointers_in}
+use Rattle.f11_image_store.specs.SlotLaws.{KeepsOtherBlocks}
+use Rattle.f11_image_store.specs.StoreOf.{store_of}
 use Rattle.f11_files.proofs.BuryLemmas.{frees-slot}
 use Rattle.f11_files.proofs.FreeingLemmas.{freeing-more, writes-then, breaks-then}
 

@@ -27,24 +27,25 @@ use Rattle.f11_volume.specs.Contents.{pointer_count}
 use Rattle.f11_volume.specs.Sound.{HasSoundVolume}
 use Rattle.f11_volume.specs.Volume.{Volume, volume_of}
 use Rattle.f11_writes.specs.OtherSlots.{KeepsOtherSlots}
-use Rattle.f11_files.specs.Allocation.{FreesBlocks, Kills, LosesHeaders}
+use Rattle.f11_image_store.specs.Allocation.{FreesBlocks, Kills, LosesHeaders}
 use Rattle.f11_files.specs.Answers.{Writes, refusal_for}
-use Rattle.f11_files.specs.Drops.{FreesMore, Freeing, BreaksOff, MayDrop, DropsHeader, DropsBehind, HangsBehind, headers_behind, without_header, without_headers, with_more_free, drop_cost, tail_cost}
-use Rattle.f11_files.specs.FileLaws.{pointers_in}
-use Rattle.f11_files.specs.SlotLaws.{with_use, KeepsOtherBlocks}
-use Rattle.f11_files.specs.StoreOf.{store_of}
+use Rattle.f11_files.specs.Drops.{FreesMore, Freeing, BreaksOff, MayDrop, DropsHeader, DropsBehind, HangsBehind, headers_behind, without_header, without_headers, drop_cost, tail_cost}
+use Rattle.f11_store.specs.Pieces.{with_more_free}
+use Rattle.f11_image_store.specs.FileLaws.{pointers_in}
+use Rattle.f11_image_store.specs.SlotLaws.{with_use, KeepsOtherBlocks}
+use Rattle.f11_image_store.specs.StoreOf.{store_of}
 use Rattle.f11_files.specs.Structure.{index_in, home_of, store_on, IsFor, StaysFor}
 use Rattle.f11_files.specs.declared.structure.Structure.{Structure}
 use Rattle.f11_files.proofs.BuryLemmas.{frees-slot}
 use Rattle.f11_files.proofs.DropLemmas.{drop-store}
 use Rattle.f11_files.proofs.FirstLemmas.{table-of}
 use Rattle.f11_files.proofs.FreeingLemmas.{frees-none, frees-then, frees-blocks, freeing-more, writes-then, writes-within, writes-none, breaks-then, breaks-within, stays-for}
-use Rattle.f11_files.proofs.InstanceLemmas.{with_file-same}
+use Rattle.f11_image_store.proofs.InstanceLemmas.{with_file-same}
 use Rattle.f11_files.proofs.KillLemmas.{KillsAlike, in_use-place, kills-same, kills-then, kills-first}
 use Rattle.f11_files.proofs.LossLemmas.{LosesAlike, in-behind, in-first, loses-same, loses-then, loses-all, loses-first}
 use Rattle.f11_files.proofs.NamedLemmas.{file-stored}
 use Rattle.f11_files.proofs.OpenLemmas.{looked-for}
-use Rattle.f11_files.proofs.StoreLemmas.{file-at}
+use Rattle.f11_image_store.proofs.StoreLemmas.{file-at}
 use Rattle.f11_files.proofs.TailLemmas.{behind-none, behind-some, hangs-are, hangs-kept, hangs-blocks, hangs-pointers, late-header}
 
 -- So far headers behind `from` went, up to the one in the block. The others hang behind that, and with them gone the store is that of the end.

@@ -38,31 +38,31 @@ use Rattle.f11_writes.proofs.NameLemmas.{unentered-spare}
 use Rattle.f11_writes.proofs.OwnerLemmas.{in-index-file, named-of}
 use Rattle.f11_files.specs.Answers.{Breaks, Writes}
 use Rattle.f11_files.specs.Extension.{IsExtension, EntersHeader}
-use Rattle.f11_files.specs.ExtensionLaws.{IsNewExtension, EntersExtension}
+use Rattle.f11_image_store.specs.ExtensionLaws.{IsNewExtension, EntersExtension}
 use Rattle.f11_files.specs.Growing.{IsTaking, Taking}
 use Rattle.f11_files.specs.Link.{MayFollow}
-use Rattle.f11_files.specs.Pieces.{TakesSome}
-use Rattle.f11_files.specs.SlotLaws.{with_last, with_use}
-use Rattle.f11_files.specs.StoreOf.{store_of}
+use Rattle.f11_store.specs.Pieces.{TakesSome}
+use Rattle.f11_image_store.specs.SlotLaws.{with_last, with_use}
+use Rattle.f11_image_store.specs.StoreOf.{store_of}
 use Rattle.f11_files.specs.Structure.{index_in, home_of, store_on, Lies, Keeps, IsFor, StaysFor}
 use Rattle.f11_files.specs.Tail.{HoldsLast, MayBeGiven, ownership_of}
 use Rattle.f11_files.specs.Zeros.{HoldsZeros}
 use Rattle.f11_files.specs.declared.structure.Structure.{Structure}
 use Rattle.f11_files.specs.declared.tail.Tail.{Tail}
-use Rattle.f11_files.proofs.AllocationLemmas.{adds-loose}
+use Rattle.f11_image_store.proofs.AllocationLemmas.{adds-loose}
 use Rattle.f11_files.proofs.ZeroSlotLemmas.{zero-entered}
 use Rattle.f11_files.proofs.AlterLemmas.{free-slot, keeps-header}
 use Rattle.f11_files.proofs.AnswerLemmas.{reads-looked}
 use Rattle.f11_files.proofs.CreateLemmas.{lies-bit}
-use Rattle.f11_files.proofs.ExtensionLemmas.{enters-extension}
+use Rattle.f11_image_store.proofs.ExtensionLemmas.{enters-extension}
 use Rattle.f11_files.proofs.FirstLemmas.{table-of}
 use Rattle.f11_files.proofs.FreeSlotLemmas.{IsReadAt, read-at}
 use Rattle.f11_files.proofs.FreeingLemmas.{writes-none, stays-for}
 use Rattle.f11_files.proofs.GrowingLemmas.{breaks-fault}
-use Rattle.f11_files.proofs.InstanceLemmas.{unused-given}
-use Rattle.f11_files.proofs.NewFileLemmas.{free-stored, least-stored, slot-taken}
+use Rattle.f11_image_store.proofs.InstanceLemmas.{unused-given}
+use Rattle.f11_image_store.proofs.NewFileLemmas.{free-stored, least-stored, slot-taken}
 use Rattle.f11_files.proofs.WriteLemmas.{writes-behind, writes-within}
-use Rattle.f11_files.specs.Allocation.{SaysOnly}
+use Rattle.f11_image_store.specs.Allocation.{SaysOnly}
 
 -- a slot that wasn't in use and was given its next sequence number
 given-last : (s : Store) (n sequence m : ℕ) → s.in_use n ≡ false → sequence ≡ next_sequence (s.last n) → (m ≡ n) ⊎ (m ≢ n)

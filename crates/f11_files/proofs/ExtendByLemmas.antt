@@ -16,22 +16,22 @@ use Rattle.f11_store.specs.declared.files.FileId.{FileId}
 use Rattle.f11_store.specs.declared.refusals.Refusal.{Refusal}
 use Rattle.f11_volume.specs.Sound.{HasSoundVolume}
 use Rattle.f11_volume.specs.Volume.{volume_of}
-use Rattle.f11_files.specs.Allocation.{GainsBlocksAs}
+use Rattle.f11_image_store.specs.Allocation.{GainsBlocksAs}
 use Rattle.f11_files.specs.Answers.{Meanwhile, Writes, Breaks}
 use Rattle.f11_files.specs.Extend.{AddsRun, ExtendsBy}
 use Rattle.f11_files.specs.Growing.{GrowingBy, Grew, IsGrowing}
-use Rattle.f11_files.specs.Pieces.{file_numbered, MayExtend, TakesSome, ExtendsSome}
-use Rattle.f11_files.specs.StoreOf.{store_of}
+use Rattle.f11_store.specs.Pieces.{file_numbered, MayExtend, TakesSome, ExtendsSome}
+use Rattle.f11_image_store.specs.StoreOf.{store_of}
 use Rattle.f11_files.specs.Structure.{bitmap_in, home_of, store_on, IsFor, StaysFor}
 use Rattle.f11_files.specs.Tail.{HoldsLast, whose, ownership_of}
 use Rattle.f11_files.specs.Take.{NoneBelow}
 use Rattle.f11_files.specs.declared.structure.Structure.{Structure}
 use Rattle.f11_files.specs.declared.tail.Tail.{Tail}
-use Rattle.f11_files.proofs.AllocationLemmas.{gains-nothing, gains-add}
+use Rattle.f11_image_store.proofs.AllocationLemmas.{gains-nothing, gains-add}
 use Rattle.f11_files.proofs.FreeingLemmas.{breaks-behind, breaks-within, stays-then}
 use Rattle.f11_files.proofs.GrowingLemmas.{grew-within}
-use Rattle.f11_files.proofs.PieceLemmas.{none-extended, extensions-add, others-may}
-use Rattle.f11_files.proofs.PieceLagLemmas.{extended-lags, taken-lags}
+use Rattle.f11_store.proofs.PieceLemmas.{none-extended, extensions-add, others-may}
+use Rattle.f11_store.proofs.PieceLagLemmas.{extended-lags, taken-lags}
 use Rattle.f11_index.proofs.ChainLemmas.{file_of-header}
 
 -- the work of extending a file, in hand

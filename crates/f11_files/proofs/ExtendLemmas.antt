@@ -17,24 +17,24 @@ use Rattle.f11_store.specs.declared.refusals.Refusal.TheVariants.{NoSuchFile, De
 use Rattle.f11_store.specs.declared.refusals.Refusal.{Refusal}
 use Rattle.f11_store.proofs.LagLaws.{lags_itself}
 use Rattle.f11_volume.specs.Volume.{volume_of}
-use Rattle.f11_files.specs.Allocation.{GainsBlocks, ownership_in, GainsBlocksAs}
+use Rattle.f11_image_store.specs.Allocation.{GainsBlocks, ownership_in, GainsBlocksAs}
 use Rattle.f11_files.specs.Answers.{Breaks, Meanwhile, Writes}
 use Rattle.f11_files.specs.Clear.{Clearing, ClearsMark}
 use Rattle.f11_files.specs.Extend.{ExtendsBy, ExtendsFile, FailsToExtend, IsLengthAfter, IsTailOf}
 use Rattle.f11_files.specs.Operations.{extend_causes}
-use Rattle.f11_files.specs.Pieces.{MayExtend, file_numbered}
+use Rattle.f11_store.specs.Pieces.{MayExtend, file_numbered}
 use Rattle.f11_files.specs.Room.{FindsRoom}
-use Rattle.f11_files.specs.StoreOf.{store_of}
+use Rattle.f11_image_store.specs.StoreOf.{store_of}
 use Rattle.f11_files.specs.Structure.{home_of, store_on, IsFor, StaysFor}
 use Rattle.f11_files.specs.declared.structure.Structure.{Structure}
-use Rattle.f11_files.proofs.AllocationLemmas.{gains-add}
+use Rattle.f11_image_store.proofs.AllocationLemmas.{gains-add}
 use Rattle.f11_files.proofs.AnswerLemmas.{right-fault}
 use Rattle.f11_files.proofs.ClearLemmas.{stored}
 use Rattle.f11_files.proofs.ClearedLemmas.{enough, fewer-needed, grave-right, covered, image-read, honest-read, reads-found, honest-cleared, tail-ownership}
 use Rattle.f11_files.proofs.LocateLemmas.{counts-last}
 use Rattle.f11_files.proofs.NamedLemmas.{found-named, held-named, is-file}
-use Rattle.f11_files.proofs.PieceLagLemmas.{cleared-lags}
-use Rattle.f11_files.proofs.PieceLemmas.{cleared-extends, cleared-may}
+use Rattle.f11_store.proofs.PieceLagLemmas.{cleared-lags}
+use Rattle.f11_store.proofs.PieceLemmas.{cleared-extends, cleared-may}
 use Rattle.f11_files.proofs.WriteLemmas.{breaks-off, failed-stays, writes-behind}
 use Rattle.f11_files.specs.Tail.{ownership_of}
 use Rattle.f11_files.specs.declared.tail.Tail.{Tail}

@@ -11,10 +11,10 @@ use Rattle.f11_map.specs.MapWriting.{with_blocks}
 use Rattle.f11_index.specs.HeaderBlock.{segment_number, link_of, blocks_named}
 use Rattle.f11_store.specs.declared.files.FileId.{FileId}
 use Rattle.f11_files.specs.Extension.{IsExtension}
-use Rattle.f11_files.specs.FileLaws.{pointers_in}
+use Rattle.f11_image_store.specs.FileLaws.{pointers_in}
 use Rattle.f11_files.specs.declared.tail.Tail.{Tail}
 use Rattle.f11_files.proofs.NameRunLemmas.{held-again, segment-more, link-more, blocks-more, pointers-more}
-use Rattle.f11_files.proofs.NewFileLemmas.{runs-none}
+use Rattle.f11_image_store.proofs.NewFileLemmas.{runs-none}
 
 -- what is so where no error is
 pub without-error : {T E P : Type 0} (result : Result T E) → OnOk result P → ¬ IsErr result → P

@@ -10,11 +10,11 @@ use Rattle.f11_index.specs.Slots.{IsLeastFree}
 use Rattle.f11_index.specs.Table.{Table, table_in, table_of, last_sequence}
 use Rattle.f11_chain.proofs.StepLemmas.{table-header}
 use Rattle.f11_store.specs.Changes.{next_sequence}
-use Rattle.f11_files.specs.StoreOf.{store_of}
+use Rattle.f11_image_store.specs.StoreOf.{store_of}
 use Rattle.f11_files.specs.Structure.{index_in, home_of, store_on, IsFor}
 use Rattle.f11_files.specs.declared.structure.Structure.{Structure}
 use Rattle.f11_files.proofs.FirstLemmas.{table-of}
-use Rattle.f11_files.proofs.InstanceLemmas.{last-at}
+use Rattle.f11_image_store.proofs.InstanceLemmas.{last-at}
 
 -- This is the slot's place and its next sequence number.
 pub record IsReadAt (s : Structure) (n place sequence : ℕ) (old mid : Disk) : Type 0 where

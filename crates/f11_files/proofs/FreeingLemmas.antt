@@ -27,11 +27,12 @@ use Rattle.f11_writes.specs.NameLaws.{AreSpare}
 use Rattle.f11_writes.proofs.BitmapLemmas.{free-keeps}
 use Rattle.f11_writes.proofs.NameLemmas.{part-spare}
 use Rattle.f11_files.specs.Answers.{Writes, Breaks, is_grave, is_refused}
-use Rattle.f11_files.specs.Drops.{FreesMore, Freeing, BreaksOff, GivesRun, with_more_free}
-use Rattle.f11_files.specs.StoreOf.{store_of}
+use Rattle.f11_files.specs.Drops.{FreesMore, Freeing, BreaksOff, GivesRun}
+use Rattle.f11_store.specs.Pieces.{with_more_free}
+use Rattle.f11_image_store.specs.StoreOf.{store_of}
 use Rattle.f11_files.specs.Structure.{index_in, bitmap_in, home_of, IsFor, StaysFor}
 use Rattle.f11_files.specs.declared.structure.Structure.{Structure}
-use Rattle.f11_files.proofs.StoreLemmas.{more-free}
+use Rattle.f11_image_store.proofs.StoreLemmas.{more-free}
 
 pub frees-none : (s : Store) → FreesMore s s
 frees-none s = record {

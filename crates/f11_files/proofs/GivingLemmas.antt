@@ -18,10 +18,11 @@ use Rattle.f11_volume.specs.Sound.{HasSoundVolume}
 use Rattle.f11_volume.specs.Space.{storage_bitmap}
 use Rattle.f11_volume.specs.Volume.{Volume, volume_of}
 use Rattle.f11_writes.specs.NameLaws.{AreSpare}
-use Rattle.f11_files.specs.Allocation.{FreesBlocks}
+use Rattle.f11_image_store.specs.Allocation.{FreesBlocks}
 use Rattle.f11_files.specs.Answers.{Writes}
-use Rattle.f11_files.specs.Drops.{FreesMore, Freeing, BreaksOff, GivesRun, GivesBlocks, AreAllSpare, with_more_free}
-use Rattle.f11_files.specs.StoreOf.{store_of}
+use Rattle.f11_files.specs.Drops.{FreesMore, Freeing, BreaksOff, GivesRun, GivesBlocks, AreAllSpare}
+use Rattle.f11_store.specs.Pieces.{with_more_free}
+use Rattle.f11_image_store.specs.StoreOf.{store_of}
 use Rattle.f11_files.specs.Structure.{home_of, store_on, IsFor, StaysFor}
 use Rattle.f11_files.specs.declared.structure.Structure.{Structure}
 use Rattle.f11_files.proofs.FreeingLemmas.{frees-none, frees-then, frees-blocks, freeing-more, writes-then, writes-within, writes-none, breaks-then, breaks-within, stays-for, run-keeps, run-store}

@@ -33,15 +33,16 @@ use Rattle.f11_volume.proofs.FileLemmas.{image-files, reached-are, file-blocks-a
 use Rattle.f11_writes.specs.Kept.{file_in}
 use Rattle.f11_writes.specs.OtherSlots.{KeepsOtherSlots}
 use Rattle.f11_writes.proofs.OtherSlotLemmas.{turned, header-was}
-use Rattle.f11_files.specs.Allocation.{FreesBlocks, Kills, LosesHeaders}
+use Rattle.f11_image_store.specs.Allocation.{FreesBlocks, Kills, LosesHeaders}
 use Rattle.f11_files.specs.Answers.{IsRight, Writes, FailsToWrite, Meanwhile, is_grave, is_cause}
 use Rattle.f11_files.specs.Deletes.{Deletes, FailsToDelete}
-use Rattle.f11_files.specs.Drops.{FreesMore, Freeing, BreaksOff, DropsHeader, DropsBehind, HangsBehind, KeepsBlocksBut, headers_behind, drop_cost, tail_cost, with_more_free, without_header, without_headers}
-use Rattle.f11_files.specs.FileLaws.{pointers_in}
+use Rattle.f11_files.specs.Drops.{FreesMore, Freeing, BreaksOff, DropsHeader, DropsBehind, HangsBehind, KeepsBlocksBut, headers_behind, drop_cost, tail_cost, without_header, without_headers}
+use Rattle.f11_store.specs.Pieces.{with_more_free}
+use Rattle.f11_image_store.specs.FileLaws.{pointers_in}
 use Rattle.f11_files.specs.First.{FindsFile, HoldsFile}
 use Rattle.f11_files.specs.Operations.{file_causes}
-use Rattle.f11_files.specs.SlotLaws.{with_use, KeepsOtherBlocks}
-use Rattle.f11_files.specs.StoreOf.{store_of}
+use Rattle.f11_image_store.specs.SlotLaws.{with_use, KeepsOtherBlocks}
+use Rattle.f11_image_store.specs.StoreOf.{store_of}
 use Rattle.f11_files.specs.Structure.{index_in, home_of, store_on, IsFor}
 use Rattle.f11_files.specs.declared.structure.Structure.{Structure}
 use Rattle.f11_files.proofs.WriteLemmas.{breaks-off}
@@ -52,7 +53,7 @@ use Rattle.f11_files.proofs.KillLemmas.{IsKilled, in_use-place, killed-both}
 use Rattle.f11_files.proofs.LocateLemmas.{whole, held-are}
 use Rattle.f11_files.proofs.LossLemmas.{in-behind, in-first, LosesAlike, loses-then, loses-all, lost-all, loses-first, in-at}
 use Rattle.f11_files.proofs.NamedLemmas.{block-is, no-file-cause, held-named, seen-same, file-stored}
-use Rattle.f11_files.proofs.StoreLemmas.{file-at, seen-own}
+use Rattle.f11_image_store.proofs.StoreLemmas.{file-at, seen-own}
 use Rattle.f11_files.proofs.TailLemmas.{hangs-from, hangs-are, hangs-blocks, hangs-pointers}
 
 -- a store with no less free than that without the file lags by its going

@@ -17,13 +17,13 @@ use Rattle.f11_store.specs.declared.files.FileId.{FileId}
 use Rattle.f11_store.specs.declared.refusals.Refusal.{Refusal}
 use Rattle.f11_volume.specs.Sound.{HasSoundVolume}
 use Rattle.f11_volume.specs.Volume.{volume_of}
-use Rattle.f11_files.specs.Allocation.{GainsSlotsAs}
+use Rattle.f11_image_store.specs.Allocation.{GainsSlotsAs}
 use Rattle.f11_files.specs.Answers.{Meanwhile, Writes, Breaks}
 use Rattle.f11_files.specs.GrowIndex.{AddsSlots, GrewIndex, GrowingIndexBy, GrowsIndexBy, GrowsSome}
 use Rattle.f11_files.specs.Growing.{IsGrowing}
-use Rattle.f11_files.specs.IndexPieces.{MayGrowIndex}
-use Rattle.f11_files.specs.Pieces.{TakesSome}
-use Rattle.f11_files.specs.StoreOf.{store_of}
+use Rattle.f11_store.specs.IndexPieces.{MayGrowIndex}
+use Rattle.f11_store.specs.Pieces.{TakesSome}
+use Rattle.f11_image_store.specs.StoreOf.{store_of}
 use Rattle.f11_files.specs.Structure.{bitmap_in, home_of, store_on, IsFor, StaysFor}
 use Rattle.f11_files.specs.Tail.{HoldsLast, whose, ownership_of}
 use Rattle.f11_files.specs.Take.{NoneBelow}
@@ -32,8 +32,8 @@ use Rattle.f11_files.specs.declared.tail.Tail.{Tail}
 use Rattle.f11_files.proofs.ZeroSlotLemmas.{slots-add, slots-nothing}
 use Rattle.f11_files.proofs.FreeingLemmas.{breaks-behind, breaks-within, stays-then}
 use Rattle.f11_files.proofs.GrowingIndexLemmas.{index-within}
-use Rattle.f11_files.proofs.IndexPieceLemmas.{none-grown, growths-add, others-grow}
-use Rattle.f11_files.proofs.IndexPieceLagLemmas.{grown-lags, taken-index-lags}
+use Rattle.f11_store.proofs.IndexPieceLemmas.{none-grown, growths-add, others-grow}
+use Rattle.f11_store.proofs.IndexPieceLagLemmas.{grown-lags, taken-index-lags}
 use Rattle.f11_index.proofs.ChainLemmas.{file_of-header}
 use Rattle.f11_index.specs.Table.{table_of, IsFile}
 

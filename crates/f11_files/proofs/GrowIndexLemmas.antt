@@ -22,22 +22,22 @@ use Rattle.f11_store.specs.Refusal.{refusal_number}
 use Rattle.f11_store.specs.declared.refusals.Refusal.{Refusal}
 use Rattle.f11_store.proofs.LagLaws.{lags_itself}
 use Rattle.f11_volume.specs.Volume.{volume_of}
-use Rattle.f11_files.specs.Allocation.{GainsSlots, ownership_in, GainsSlotsAs}
+use Rattle.f11_image_store.specs.Allocation.{GainsSlots, ownership_in, GainsSlotsAs}
 use Rattle.f11_files.specs.Answers.{Breaks, FailsToWrite, IsRight, Meanwhile, Reads, Writes, is_among}
 use Rattle.f11_files.specs.Clear.{Clearing, ClearsMark}
 use Rattle.f11_files.specs.GrowIndex.{FailsToGrow, FindsIndexRoom, GrowsIndexBy, GrowsIndexFile, IsSlotsAfter, index_id}
 use Rattle.f11_files.specs.First.{HoldsFile}
-use Rattle.f11_files.specs.IndexPieces.{MayGrowIndex}
+use Rattle.f11_store.specs.IndexPieces.{MayGrowIndex}
 use Rattle.f11_files.specs.Operations.{grow_causes}
-use Rattle.f11_files.specs.StoreOf.{store_of}
+use Rattle.f11_image_store.specs.StoreOf.{store_of}
 use Rattle.f11_files.specs.Structure.{index_in, home_of, store_on, IsFor, StaysFor}
 use Rattle.f11_files.specs.declared.structure.Structure.{Structure}
 use Rattle.f11_files.proofs.ZeroSlotLemmas.{slots-add}
 use Rattle.f11_files.proofs.AnswerLemmas.{right-fault, reads-within}
 use Rattle.f11_files.proofs.ClearedLemmas.{enough, fewer-needed, grave-right, covered, image-read, honest-read, reads-found, honest-cleared, tail-ownership}
 use Rattle.f11_files.proofs.IndexFileLemmas.{index-is}
-use Rattle.f11_files.proofs.IndexPieceLagLemmas.{cleared-grow-lags}
-use Rattle.f11_files.proofs.IndexPieceLemmas.{cleared-grow, cleared-grows}
+use Rattle.f11_store.proofs.IndexPieceLagLemmas.{cleared-grow-lags}
+use Rattle.f11_store.proofs.IndexPieceLemmas.{cleared-grow, cleared-grows}
 use Rattle.f11_files.proofs.ExtendLemmas.{cleared-room}
 use Rattle.f11_files.proofs.SpaceLemmas.{slots-of}
 use Rattle.f11_files.proofs.WriteLemmas.{breaks-off, failed-stays, looked-stays, writes-behind}

@@ -8,10 +8,10 @@ use Rattle.f11_store.specs.Changes.{GrowsIndex}
 use Rattle.f11_store.specs.File.{need}
 use Rattle.f11_store.specs.Store.{Store, index_file}
 use Rattle.f11_files.specs.Answers.{Writes}
-use Rattle.f11_files.specs.Drops.{with_more_free}
+use Rattle.f11_store.specs.Pieces.{with_more_free}
 use Rattle.f11_files.specs.GrowIndex.{GrewIndex}
 use Rattle.f11_files.specs.Growing.{Growing, IsGrowing}
-use Rattle.f11_files.specs.StoreOf.{store_of}
+use Rattle.f11_image_store.specs.StoreOf.{store_of}
 
 -- images that stand after the store was as it is
 pub slots-same : (home : HomeFields) (s t : Store) (n : ℕ) (a b : Disk) → b.honest ≡ a.honest → (IsTrue a.honest → t ≡ s) → (image : Image)

@@ -18,11 +18,10 @@ use Rattle.f11_store.proofs.Frees.{same_limits}
 use Rattle.f11_volume.specs.Sound.{HasSoundVolume}
 use Rattle.f11_writes.specs.Kept.{file_in}
 use Rattle.f11_files.specs.Answers.{Writes, Breaks}
-use Rattle.f11_files.specs.Drops.{with_more_free}
-use Rattle.f11_files.specs.FileLaws.{room_in}
+use Rattle.f11_store.specs.Pieces.{with_more_free, file_numbered, TakesSome}
+use Rattle.f11_image_store.specs.FileLaws.{room_in}
 use Rattle.f11_files.specs.Growing.{Taking, IsGrowing, Grew, GrowingInto}
-use Rattle.f11_files.specs.Pieces.{file_numbered, TakesSome}
-use Rattle.f11_files.specs.StoreOf.{as_seen, store_of}
+use Rattle.f11_image_store.specs.StoreOf.{as_seen, store_of}
 use Rattle.f11_files.specs.Structure.{home_of, store_on, IsFor, StaysFor}
 use Rattle.f11_files.specs.Tail.{HoldsLast}
 use Rattle.f11_files.specs.declared.structure.Structure.{Structure}
@@ -30,7 +29,7 @@ use Rattle.f11_files.specs.declared.tail.Tail.{Tail}
 use Rattle.f11_files.proofs.FirstLemmas.{table-of}
 use Rattle.f11_files.proofs.NamedLemmas.{file-stored, seen-same}
 use Rattle.f11_files.proofs.RoomLemmas.{room-is, count-is}
-use Rattle.f11_files.proofs.StoreLemmas.{file-at}
+use Rattle.f11_image_store.proofs.StoreLemmas.{file-at}
 
 -- nothing was taken
 pub takes-none : (blocks headers : ℕ) (s : Store) → TakesSome blocks headers s s

@@ -17,9 +17,9 @@ use Rattle.f11_index.specs.declared.index_file.IndexFile.{IndexFile}
 use Rattle.f11_store.specs.Changes.{is_in}
 use Rattle.f11_store.specs.declared.files.FileId.{FileId}
 use Rattle.f11_volume.specs.Volume.{volume_of}
-use Rattle.f11_files.specs.Allocation.{free_list}
+use Rattle.f11_image_store.specs.Allocation.{free_list}
 use Rattle.f11_files.specs.Clear.{ClearsMark}
-use Rattle.f11_files.specs.Confines.{no_header, only_header, new_header, either}
+use Rattle.f11_image_store.specs.Confines.{no_header, only_header, new_header, either}
 use Rattle.f11_files.specs.Extend.{IsTailOf}
 use Rattle.f11_files.specs.Extension.{TakesSlot}
 use Rattle.f11_files.specs.IndexGrowth.{HasSlotsBehind}

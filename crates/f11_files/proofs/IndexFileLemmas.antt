@@ -10,11 +10,11 @@ use Rattle.f11_store.specs.Store.{Store, file_named, index_file}
 use Rattle.f11_store.specs.declared.files.FileId.{FileId}
 use Rattle.f11_volume.specs.Sound.{HasSoundVolume}
 use Rattle.f11_writes.specs.Kept.{file_in}
-use Rattle.f11_files.specs.StoreOf.{as_seen, store_of}
+use Rattle.f11_image_store.specs.StoreOf.{as_seen, store_of}
 use Rattle.f11_files.specs.Structure.{home_of, store_on, IsFor}
 use Rattle.f11_files.specs.declared.structure.Structure.{Structure}
 use Rattle.f11_files.proofs.NamedLemmas.{file-stored, named-is}
-use Rattle.f11_files.proofs.StoreLemmas.{file-at}
+use Rattle.f11_image_store.proofs.StoreLemmas.{file-at}
 
 -- the index file is file 1,1
 pub index-named : (image : Image) (home : HomeFields) → HasSoundVolume image home → IsFile (table_of image home) 1 × (last_sequence (table_of image home) 1 ≡ 1)

@@ -18,7 +18,7 @@ use Rattle.f11_files.specs.Answers.{FailsToRead, Reads, is_among, faults_of}
 use Rattle.f11_files.specs.GrowIndex.{FindsIndexRoom, index_id}
 use Rattle.f11_files.specs.Operations.{extend_causes, grow_causes}
 use Rattle.f11_files.specs.Room.{FindsRoom}
-use Rattle.f11_files.specs.StoreOf.{store_of, slot_limit}
+use Rattle.f11_image_store.specs.StoreOf.{store_of, slot_limit}
 use Rattle.f11_files.specs.Structure.{index_in, home_of, store_on, IsFor}
 use Rattle.f11_files.specs.declared.structure.Structure.{Structure}
 use Rattle.f11_files.proofs.AnswerLemmas.{right-cause, right-damaged, reads-looked, reads-within}

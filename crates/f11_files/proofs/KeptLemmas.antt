@@ -27,11 +27,11 @@ use Rattle.f11_files.specs.Cuts.{CutsOff, FindsLastKept}
 use Rattle.f11_files.specs.First.{FindsFile}
 use Rattle.f11_files.specs.Structure.{index_in, home_of, IsFor}
 use Rattle.f11_files.specs.declared.structure.Structure.{Structure}
-use Rattle.f11_files.proofs.FieldLemmas.{held-from}
+use Rattle.f11_image_store.proofs.FieldLemmas.{held-from}
 use Rattle.f11_files.proofs.FirstLemmas.{table-of}
 use Rattle.f11_files.proofs.LocateLemmas.{length-first}
 use Rattle.f11_files.proofs.NamedLemmas.{is-file, held-named}
-use Rattle.f11_files.proofs.StoreLemmas.{seen-own}
+use Rattle.f11_image_store.proofs.StoreLemmas.{seen-own}
 
 -- pointers that are cut are no more than before
 cut-few : (runs : List (ℕ × ℕ)) (blocks : ℕ) → length (cut_to runs blocks) ≤ length runs

@@ -10,9 +10,9 @@ use Rattle.f11_index.specs.IndexFile.{index_of}
 use Rattle.f11_index.specs.Table.{Table, table_of, table_in}
 use Rattle.f11_index.proofs.InUseLemmas.{in_use-some, in_use-slot}
 use Rattle.f11_store.specs.Changes.{is_in}
-use Rattle.f11_files.specs.Allocation.{Kills}
+use Rattle.f11_image_store.specs.Allocation.{Kills}
 use Rattle.f11_files.specs.Drops.{KeepsBlocksBut}
-use Rattle.f11_files.specs.SlotLaws.{KeepsOtherBlocks}
+use Rattle.f11_image_store.specs.SlotLaws.{KeepsOtherBlocks}
 
 -- a byte that is 0 is 0 once another is
 put-again : (l : List ℕ) (i j : ℕ) → i ≢ j → set l i 0 ≡ l → set (set l j 0) i 0 ≡ set l j 0

@@ -21,8 +21,8 @@ use Rattle.f11_store.specs.declared.files.FileId.{FileId}
 use Rattle.f11_volume.specs.Volume.{Volume}
 use Rattle.f11_writes.specs.Kept.{WritesGrowth}
 use Rattle.f11_writes.proofs.GrowLemmas.{links-keep}
-use Rattle.f11_files.specs.Allocation.{AddsZeroSlots, LinksLoose}
-use Rattle.f11_files.specs.FileLaws.{HasSlotsMore, LinksOnTo}
+use Rattle.f11_image_store.specs.Allocation.{AddsZeroSlots, LinksLoose}
+use Rattle.f11_image_store.specs.FileLaws.{HasSlotsMore, LinksOnTo}
 use Rattle.f11_files.specs.Growing.{SameFree}
 use Rattle.f11_files.specs.IndexGrowth.{MayBecomeSlots, LinkingSlots, LinksSlots, NamesThese, with_slots_linked}
 use Rattle.f11_files.specs.Link.{MayFollow}
@@ -31,9 +31,9 @@ use Rattle.f11_files.specs.Tail.{HoldsLast, HasStore}
 use Rattle.f11_files.specs.Zeros.{HoldsZeros}
 use Rattle.f11_files.specs.declared.structure.Structure.{Structure}
 use Rattle.f11_files.specs.declared.tail.Tail.{Tail}
-use Rattle.f11_files.proofs.AllocationLemmas.{links-loose}
-use Rattle.f11_files.proofs.FileLemmas.{HasWritten, as-growth, last-linked, m-stays}
-use Rattle.f11_files.proofs.GrowthLemmas.{index-linked}
+use Rattle.f11_image_store.proofs.AllocationLemmas.{links-loose}
+use Rattle.f11_image_store.proofs.FileLemmas.{HasWritten, as-growth, last-linked, m-stays}
+use Rattle.f11_image_store.proofs.GrowthLemmas.{index-linked}
 use Rattle.f11_files.proofs.LinkTailLemmas.{becomes, links}
 use Rattle.f11_files.proofs.ZeroSlotLemmas.{zero-grown}
 use Rattle.f11_files.proofs.SlotGrowthLemmas.{in_use-kept, slots-more, slots-zero, grown-image, grown-stays}

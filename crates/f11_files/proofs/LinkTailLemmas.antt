@@ -26,19 +26,19 @@ use Rattle.f11_writes.specs.Kept.{WritesHeader}
 use Rattle.f11_writes.specs.Volumes.{MayName, MayBecome, links_anew}
 use Rattle.f11_writes.proofs.HeaderLemmas.{file-rewrite-keeps}
 use Rattle.f11_writes.proofs.NameLemmas.{own-names}
-use Rattle.f11_files.specs.Allocation.{LinksLoose}
-use Rattle.f11_files.specs.FileLaws.{SaysAlike, HasPointersMore, LinksOnTo, with_header_more}
+use Rattle.f11_image_store.specs.Allocation.{LinksLoose}
+use Rattle.f11_image_store.specs.FileLaws.{SaysAlike, HasPointersMore, LinksOnTo, with_header_more}
 use Rattle.f11_files.specs.Growing.{SameFree}
 use Rattle.f11_files.specs.Link.{MayFollow, Linking, LinksTail}
 use Rattle.f11_files.specs.Structure.{index_in, home_of, store_on, Lies, Keeps, IsFor}
 use Rattle.f11_files.specs.Tail.{HoldsLast, HasStore}
 use Rattle.f11_files.specs.declared.structure.Structure.{Structure}
 use Rattle.f11_files.specs.declared.tail.Tail.{Tail}
-use Rattle.f11_files.proofs.AllocationLemmas.{links-loose}
+use Rattle.f11_image_store.proofs.AllocationLemmas.{links-loose}
 use Rattle.f11_files.proofs.AlterLemmas.{keeps-header}
-use Rattle.f11_files.proofs.FileLemmas.{as-header, file-linked, last-linked, m-stays, of-now}
+use Rattle.f11_image_store.proofs.FileLemmas.{as-header, file-linked, last-linked, m-stays, of-now}
 use Rattle.f11_files.proofs.FirstLemmas.{table-of}
-use Rattle.f11_files.proofs.InstanceLemmas.{file-stored}
+use Rattle.f11_image_store.proofs.InstanceLemmas.{file-stored}
 use Rattle.f11_files.proofs.NameRunLemmas.{valid-again, sequence-again, alike-again}
 
 -- a header that has another link

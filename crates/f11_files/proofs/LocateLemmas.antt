@@ -35,7 +35,7 @@ use Rattle.f11_files.specs.declared.structure.Structure.{Structure}
 use Rattle.f11_files.proofs.AnswerLemmas.{right-cause, right-fault, right-damaged}
 use Rattle.f11_files.proofs.FirstLemmas.{table-of}
 use Rattle.f11_files.proofs.NamedLemmas.{held-named, is-file, found-named, no-file-cause, seen-same}
-use Rattle.f11_files.proofs.StoreLemmas.{seen-own}
+use Rattle.f11_image_store.proofs.StoreLemmas.{seen-own}
 
 -- the first header was read
 pub reads-first : (index : Index) (f : FileId) (block : List ℕ) (old new : Disk) → FindsFile index f block old new → ReadsFirst index f.number block old new

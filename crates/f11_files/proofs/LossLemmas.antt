@@ -32,11 +32,11 @@ use Rattle.f11_volume.proofs.FileLemmas.{image-files, file-headers-are}
 use Rattle.f11_writes.specs.Kept.{file_in, KeepsButFree}
 use Rattle.f11_writes.specs.OtherSlots.{KeepsOtherSlots}
 use Rattle.f11_writes.proofs.OtherSlotLemmas.{live-was, stay-before, turned}
-use Rattle.f11_files.specs.Allocation.{named_by, BeginsWith, IsEnd, FreesBlocks, Kills, LosesHeaders, LosesBlocks}
-use Rattle.f11_files.specs.StoreOf.{as_seen, is_first, store_of}
-use Rattle.f11_files.proofs.AllocationLemmas.{named-live, named-others, named-unused}
+use Rattle.f11_image_store.specs.Allocation.{named_by, BeginsWith, IsEnd, FreesBlocks, Kills, LosesHeaders, LosesBlocks}
+use Rattle.f11_image_store.specs.StoreOf.{as_seen, is_first, store_of}
+use Rattle.f11_image_store.proofs.AllocationLemmas.{named-live, named-others, named-unused}
 use Rattle.f11_files.proofs.NamedLemmas.{file-stored, seen-same}
-use Rattle.f11_files.proofs.StoreLemmas.{file-at, first-is-tested}
+use Rattle.f11_image_store.proofs.StoreLemmas.{file-at, first-is-tested}
 
 -- what stands in two lists, one behind the other
 pub in-append : (xs ys : List ℕ) (n : ℕ) → is_in (xs ++ ys) n ≡ (is_in xs n || is_in ys n)

@@ -29,19 +29,20 @@ use Rattle.f11_writes.specs.Kept.{WritesHeader}
 use Rattle.f11_writes.specs.Volumes.{MayName, MayBecome, links_to_none}
 use Rattle.f11_writes.proofs.HeaderLemmas.{file-rewrite-keeps}
 use Rattle.f11_writes.proofs.NameLemmas.{more-names}
-use Rattle.f11_files.specs.Allocation.{NamesMore}
-use Rattle.f11_files.specs.FileLaws.{SaysAlike, HasPointersMore, NamesMoreOf, held_from, room_in, with_more_blocks}
+use Rattle.f11_image_store.specs.Allocation.{NamesMore}
+use Rattle.f11_image_store.specs.FileLaws.{SaysAlike, HasPointersMore, NamesMoreOf, held_from, room_in}
+use Rattle.f11_store.specs.Pieces.{with_more_blocks, with_zeros_more}
 use Rattle.f11_files.specs.Growing.{SameFree}
 use Rattle.f11_files.specs.Structure.{index_in, home_of, store_on, Lies, Keeps, IsFor}
-use Rattle.f11_files.specs.Tail.{HoldsLast, MayBeGiven, HasStore, pointers_more, with_zeros_more, Naming, NamesRun, FailsToName, ownership_of}
+use Rattle.f11_files.specs.Tail.{HoldsLast, MayBeGiven, HasStore, pointers_more, Naming, NamesRun, FailsToName, ownership_of}
 use Rattle.f11_files.specs.Zeros.{HoldsZeros}
 use Rattle.f11_files.specs.declared.structure.Structure.{Structure}
 use Rattle.f11_files.specs.declared.tail.Tail.{Tail}
-use Rattle.f11_files.proofs.AllocationLemmas.{names-more}
+use Rattle.f11_image_store.proofs.AllocationLemmas.{names-more}
 use Rattle.f11_files.proofs.AlterLemmas.{keeps-header}
-use Rattle.f11_files.proofs.FieldLemmas.{held-from}
-use Rattle.f11_files.proofs.FileLemmas.{as-header, of-now}
-use Rattle.f11_files.proofs.StepLemmas.{file-grows}
+use Rattle.f11_image_store.proofs.FieldLemmas.{held-from}
+use Rattle.f11_image_store.proofs.FileLemmas.{as-header, of-now}
+use Rattle.f11_image_store.proofs.StepLemmas.{file-grows}
 use Rattle.f11_files.proofs.FirstLemmas.{table-of}
 
 -- how many pointers there are with these blocks

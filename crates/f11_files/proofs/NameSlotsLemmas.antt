@@ -21,18 +21,19 @@ use Rattle.f11_store.specs.Store.{Store}
 use Rattle.f11_volume.specs.Volume.{Volume}
 use Rattle.f11_writes.specs.Kept.{WritesGrowth}
 use Rattle.f11_writes.proofs.GrowLemmas.{names-keep}
-use Rattle.f11_files.specs.Allocation.{AddsZeroSlots, NamesMore}
-use Rattle.f11_files.specs.FileLaws.{HasSlotsMore, NamesMoreOf}
+use Rattle.f11_image_store.specs.Allocation.{AddsZeroSlots, NamesMore}
+use Rattle.f11_image_store.specs.FileLaws.{HasSlotsMore, NamesMoreOf}
 use Rattle.f11_files.specs.Growing.{SameFree}
-use Rattle.f11_files.specs.IndexGrowth.{MayBecomeSlots, NamingSlots, NamesSlots, FailsToNameSlots, with_slots_named}
+use Rattle.f11_files.specs.IndexGrowth.{MayBecomeSlots, NamingSlots, NamesSlots, FailsToNameSlots}
+use Rattle.f11_store.specs.Pieces.{with_slots_named}
 use Rattle.f11_files.specs.Structure.{index_in, bitmap_in, home_of, store_on, IsFor, StaysFor}
 use Rattle.f11_files.specs.Tail.{HoldsLast, MayBeGiven, HasStore, pointers_more, ownership_of}
 use Rattle.f11_files.specs.declared.structure.Structure.{Structure}
 use Rattle.f11_files.specs.declared.tail.Tail.{Tail}
-use Rattle.f11_files.proofs.AllocationLemmas.{names-more}
-use Rattle.f11_files.proofs.FileLemmas.{HasWritten, as-growth, of-now}
+use Rattle.f11_image_store.proofs.AllocationLemmas.{names-more}
+use Rattle.f11_image_store.proofs.FileLemmas.{HasWritten, as-growth, of-now}
 use Rattle.f11_files.proofs.FirstLemmas.{table-of}
-use Rattle.f11_files.proofs.GrowthLemmas.{index-more}
+use Rattle.f11_image_store.proofs.GrowthLemmas.{index-more}
 use Rattle.f11_files.proofs.NameRunLemmas.{valid-again, segment-more, link-more, pointers-fit, becomes, names}
 use Rattle.f11_files.proofs.ZeroSlotLemmas.{zero-grown}
 use Rattle.f11_files.proofs.SlotGrowthLemmas.{in_use-kept, slots-more, slots-zero, grown-image, grown-for, grown-stays}

@@ -20,7 +20,7 @@ use Rattle.f11_store.specs.declared.files.FileId.{FileId}
 use Rattle.f11_volume.specs.Contents.{file_of as said_file}
 use Rattle.f11_writes.specs.Kept.{file_in}
 use Rattle.f11_files.specs.First.{IsFileOf, IsOther, HoldsFile}
-use Rattle.f11_files.specs.StoreOf.{is_first, as_seen, file_at, store_of}
+use Rattle.f11_image_store.specs.StoreOf.{is_first, as_seen, file_at, store_of}
 use Rattle.f11_store.specs.declared.refusals.Refusal.{Refusal}
 use Rattle.f11_store.specs.declared.refusals.Refusal.TheVariants.{NoSuchFile}
 use Rattle.f11_files.specs.Answers.{FailsToRead}
@@ -29,7 +29,7 @@ use Rattle.f11_files.specs.Structure.{index_in, home_of, store_on, IsFor}
 use Rattle.f11_files.specs.declared.structure.Structure.{Structure}
 use Rattle.f11_files.proofs.AnswerLemmas.{right-cause, right-damaged, reads-looked}
 use Rattle.f11_files.proofs.FirstLemmas.{table-of, none-read, never-bad}
-use Rattle.f11_files.proofs.StoreLemmas.{file-at, first-is-tested}
+use Rattle.f11_image_store.proofs.StoreLemmas.{file-at, first-is-tested}
 
 -- the store's file of a number
 pub file-stored : (image : Image) (home : HomeFields) (n : ℕ) → (store_of image home).file n ≡ file_at image (table_of image home) n

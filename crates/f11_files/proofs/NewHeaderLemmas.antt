@@ -9,18 +9,17 @@ use Rattle.f11_store.specs.Store.{Store, free_headers, free_slots}
 use Rattle.f11_store.specs.declared.refusals.Refusal.{Refusal}
 use Rattle.f11_store.specs.declared.refusals.Refusal.TheVariants.{Damaged}
 use Rattle.f11_files.specs.Answers.{Breaks}
-use Rattle.f11_files.specs.Drops.{with_more_free}
-use Rattle.f11_files.specs.FileLaws.{room_in}
+use Rattle.f11_store.specs.Pieces.{with_more_free, file_numbered, MayExtend}
+use Rattle.f11_image_store.specs.FileLaws.{room_in}
 use Rattle.f11_files.specs.Growing.{Taking, Growing}
-use Rattle.f11_files.specs.Pieces.{file_numbered, MayExtend}
-use Rattle.f11_files.specs.StoreOf.{store_of}
+use Rattle.f11_image_store.specs.StoreOf.{store_of}
 use Rattle.f11_files.specs.Structure.{home_of, store_on, IsFor}
 use Rattle.f11_files.specs.Tail.{HoldsLast, MayBeGiven}
 use Rattle.f11_files.specs.declared.structure.Structure.{Structure}
 use Rattle.f11_files.specs.declared.tail.Tail.{Tail}
 use Rattle.f11_files.proofs.FreeingLemmas.{breaks-within, writes-none}
 use Rattle.f11_files.proofs.GrowingLemmas.{breaks-weaker, headers-here, room-here, takes-within}
-use Rattle.f11_files.proofs.PieceLemmas.{HasRoom, has-room}
+use Rattle.f11_store.proofs.PieceLemmas.{HasRoom, has-room}
 
 -- blocks that are free take no header
 same-headers : (s : Store) (count : ℕ) → free_headers (with_more_free s count) ≡ free_headers s

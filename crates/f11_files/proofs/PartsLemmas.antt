@@ -22,7 +22,7 @@ use Rattle.f11_index.specs.declared.index_file.IndexFile.{IndexFile}
 use Rattle.f11_index.proofs.InUseLemmas.{in_use-some, in_use-slot}
 use Rattle.f11_store.specs.Changes.{is_in}
 use Rattle.f11_store.specs.declared.files.FileId.{FileId}
-use Rattle.f11_files.specs.Confines.{no_header, only_header, either}
+use Rattle.f11_image_store.specs.Confines.{no_header, only_header, either}
 use Rattle.f11_files.specs.First.{FindsFile}
 use Rattle.f11_files.specs.Structure.{index_in, bitmap_in, ConfinesTo, WritesParts, StandsAlike, StandsWithin}
 use Rattle.f11_files.specs.declared.structure.Structure.{Structure}

@@ -25,14 +25,14 @@ use Rattle.f11_volume.specs.Contents.{file_of, headers_reached, room_left, point
 use Rattle.f11_volume.proofs.FileLemmas.{reached-are}
 use Rattle.f11_writes.specs.Kept.{file_in}
 use Rattle.f11_files.specs.Answers.{is_among, Reads, FailsToRead, faults_of}
-use Rattle.f11_files.specs.FileLaws.{room_in}
+use Rattle.f11_image_store.specs.FileLaws.{room_in}
 use Rattle.f11_files.specs.First.{HoldsFile}
 use Rattle.f11_files.specs.Operations.{extend_causes, file_causes, IsSpaceOf}
 use Rattle.f11_files.specs.Room.{room_causes, FindsRoom}
 use Rattle.f11_files.specs.Structure.{index_in, home_of, store_on, IsFor}
 use Rattle.f11_files.specs.declared.structure.Structure.{Structure}
 use Rattle.f11_files.proofs.AnswerLemmas.{right-cause}
-use Rattle.f11_files.proofs.FileLemmas.{last-behind}
+use Rattle.f11_image_store.proofs.FileLemmas.{last-behind}
 use Rattle.f11_files.proofs.FirstLemmas.{table-of}
 use Rattle.f11_files.proofs.LocateLemmas.{held-are, reads-along}
 use Rattle.f11_files.proofs.NamedLemmas.{held-named, is-file, found-named, seen-same}

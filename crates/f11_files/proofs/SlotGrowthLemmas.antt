@@ -30,13 +30,13 @@ use Rattle.f11_volume.specs.Space.{storage_bitmap}
 use Rattle.f11_volume.proofs.FileLemmas.{index-apart}
 use Rattle.f11_writes.specs.Kept.{WritesGrowth}
 use Rattle.f11_writes.proofs.SlotLemmas.{header-placed-at}
-use Rattle.f11_files.specs.FileLaws.{HasSlotsMore}
-use Rattle.f11_files.specs.StoreOf.{store_of}
+use Rattle.f11_image_store.specs.FileLaws.{HasSlotsMore}
+use Rattle.f11_image_store.specs.StoreOf.{store_of}
 use Rattle.f11_files.specs.Structure.{index_in, bitmap_in, home_of, IsFor, StaysFor}
 use Rattle.f11_files.specs.Zeros.{HoldsZeros}
 use Rattle.f11_files.specs.declared.structure.Structure.{Structure}
 use Rattle.f11_files.proofs.AlterLemmas.{free-slot}
-use Rattle.f11_files.proofs.FreshStoreLemmas.{zero-sequence}
+use Rattle.f11_image_store.proofs.FreshStoreLemmas.{zero-sequence}
 
 -- a slot that was in use is so still
 pub in_use-kept : (index : Index) (lbn count n : ℕ) → IsIndex index → is_in_use index n ≡ true → is_in_use (with_blocks_behind index lbn count) n ≡ true

@@ -8,7 +8,7 @@ use Rattle.f11_index.proofs.InUseLemmas.{in_use-some, in_use-slot}
 use Rattle.f11_index.specs.Calls.{HasBitWritten}
 use Rattle.f11_index.specs.IndexFile.{Index, slots, slot_bit, header_lbn, is_in_use}
 use Rattle.f11_index.specs.Slots.{IsLeastFree}
-use Rattle.f11_files.specs.Confines.{new_header, only_header}
+use Rattle.f11_image_store.specs.Confines.{new_header, only_header}
 use Rattle.f11_files.specs.Structure.{index_in, WritesParts}
 use Rattle.f11_files.specs.declared.structure.Structure.{Structure}
 use Rattle.f11_files.proofs.PartsLemmas.{bit-went, only-wrote, parts-behind, parts-then, slot-failed, slot-wrote, stands-same}

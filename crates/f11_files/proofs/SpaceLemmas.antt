@@ -9,10 +9,10 @@ use Rattle.f11_index.specs.IndexFile.{Index, index_of, slots, free_slots}
 use Rattle.f11_index.specs.Table.{table_in}
 use Rattle.f11_volume.specs.Space.{storage_bitmap}
 use Rattle.f11_files.specs.Operations.{IsSpaceOf}
-use Rattle.f11_files.specs.StoreOf.{store_of}
+use Rattle.f11_image_store.specs.StoreOf.{store_of}
 use Rattle.f11_files.specs.Structure.{index_in, bitmap_in, home_of, store_on, IsFor}
 use Rattle.f11_files.specs.declared.structure.Structure.{Structure}
-use Rattle.f11_files.proofs.NewFileLemmas.{free-stored}
+use Rattle.f11_image_store.proofs.NewFileLemmas.{free-stored}
 
 free-of : (image : Image) (home : HomeFields) → (store_of image home).free ≡ free_blocks image (storage_bitmap image home)
 unfolding store_of

@@ -17,7 +17,7 @@ use Rattle.f11_volume.specs.Sound.{HasSoundVolume}
 use Rattle.f11_writes.specs.OtherSlots.{KeepsOtherSlots}
 use Rattle.f11_writes.proofs.OtherSlotLemmas.{next-was, header-was}
 use Rattle.f11_files.specs.Drops.{headers_behind, HangsBehind}
-use Rattle.f11_files.specs.FileLaws.{pointers_in}
+use Rattle.f11_image_store.specs.FileLaws.{pointers_in}
 
 -- no header of a file links to header n
 abbrev pub IsUnlinked : Table → ℕ → Type 0

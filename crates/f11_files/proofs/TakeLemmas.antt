@@ -25,18 +25,18 @@ use Rattle.f11_writes.specs.Kept.{KeepsButFree}
 use Rattle.f11_writes.specs.NameLaws.{AreSpare}
 use Rattle.f11_writes.proofs.BitmapLemmas.{used-keeps}
 use Rattle.f11_writes.proofs.NameLemmas.{taken-spare}
-use Rattle.f11_files.specs.Allocation.{free_list}
+use Rattle.f11_image_store.specs.Allocation.{free_list}
 use Rattle.f11_files.specs.Answers.{Breaks}
 use Rattle.f11_files.specs.Growing.{IsTaking, Taking}
-use Rattle.f11_files.specs.Pieces.{TakesSome}
-use Rattle.f11_files.specs.StoreOf.{store_of}
+use Rattle.f11_store.specs.Pieces.{TakesSome}
+use Rattle.f11_image_store.specs.StoreOf.{store_of}
 use Rattle.f11_files.specs.Structure.{index_in, bitmap_in, home_of, store_on, IsFor, StaysFor}
 use Rattle.f11_files.specs.Take.{NoneBelow, TakesRun, with_fewer_free}
 use Rattle.f11_files.specs.declared.structure.Structure.{Structure}
-use Rattle.f11_files.proofs.AllocationLemmas.{lowest-taken}
+use Rattle.f11_image_store.proofs.AllocationLemmas.{lowest-taken}
 use Rattle.f11_files.proofs.FreeingLemmas.{writes-within}
 use Rattle.f11_files.proofs.GrowingLemmas.{breaks-fault, sound-growing, taking-sound, went-writes}
-use Rattle.f11_files.proofs.StoreLemmas.{fewer-free}
+use Rattle.f11_image_store.proofs.StoreLemmas.{fewer-free}
 
 same-slots : (s : Store) (part : ℕ) → free_headers (with_fewer_free s part) ≡ free_headers s
 unfolding free_slots

@@ -12,16 +12,16 @@ use Rattle.f11_store.specs.Store.{Store}
 use Rattle.f11_store.specs.declared.callers.Uic.{Uic}
 use Rattle.f11_volume.specs.Space.{storage_bitmap}
 use Rattle.f11_volume.specs.Volume.{volume_of}
-use Rattle.f11_files.specs.Allocation.{AddsZeroSlots, GainsBlocksAs, NamesMore}
-use Rattle.f11_files.specs.Drops.{with_more_free}
+use Rattle.f11_image_store.specs.Allocation.{AddsZeroSlots, GainsBlocksAs, NamesMore}
+use Rattle.f11_store.specs.Pieces.{with_more_free}
 use Rattle.f11_files.specs.Growing.{SameFree}
-use Rattle.f11_files.specs.StoreOf.{store_of}
+use Rattle.f11_image_store.specs.StoreOf.{store_of}
 use Rattle.f11_files.specs.Structure.{bitmap_in, home_of, store_on, IsFor, StaysFor}
 use Rattle.f11_files.specs.Tail.{HoldsLast}
 use Rattle.f11_files.specs.Take.{NoneBelow, TakesRun, with_fewer_free}
 use Rattle.f11_files.specs.declared.structure.Structure.{Structure}
 use Rattle.f11_files.specs.declared.tail.Tail.{Tail}
-use Rattle.f11_files.proofs.AllocationLemmas.{gains-run}
+use Rattle.f11_image_store.proofs.AllocationLemmas.{gains-run}
 use Rattle.f11_files.proofs.FirstLemmas.{table-of}
 use Rattle.f11_files.proofs.FreeingLemmas.{stays-for}
 

@@ -20,7 +20,7 @@ use Rattle.f11_writes.specs.Kept.{KeepsVolume}
 use Rattle.f11_files.specs.Answers.{Reads, Writes, FailsToRead, FailsToWrite, IsRight, IsUnderWay, Meanwhile, is_grave, faults_of}
 use Rattle.f11_files.specs.Structure.{home_of, Lies, Keeps, IsFor, StaysFor}
 use Rattle.f11_files.specs.declared.structure.Structure.{Structure}
-use Rattle.f11_files.proofs.StoreLemmas.{free-count}
+use Rattle.f11_image_store.proofs.StoreLemmas.{free-count}
 
 -- where headers, storage bitmap and free blocks stay, so does what is kept
 pub keeps-volume : (s : Structure) (old new : Image) → KeepsVolume (home_of s) old new → Keeps s old → Keeps s new

@@ -17,7 +17,7 @@ use Rattle.f11_writes.specs.NameLaws.{AreSpare}
 use Rattle.f11_writes.proofs.NameLemmas.{spare-stay}
 use Rattle.f11_writes.proofs.OtherLemmas.{unnamed-keeps}
 use Rattle.f11_files.specs.Zeros.{HoldsZeros, Keeping, Zeroes, FailsToZero}
-use Rattle.f11_files.proofs.StoreLemmas.{stays}
+use Rattle.f11_image_store.proofs.StoreLemmas.{stays}
 
 -- what was only read is as it was
 pub volume-same : (home : HomeFields) (image : Image) → HasSoundVolume image home → KeepsVolume home image image

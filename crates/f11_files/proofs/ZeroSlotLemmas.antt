@@ -8,9 +8,9 @@ use Rattle.f11_index.specs.IndexFile.{Index, slots}
 use Rattle.f11_index.specs.Table.{Table, table_in, table_of, IsFile}
 use Rattle.f11_volume.specs.Volume.{Volume}
 use Rattle.f11_writes.specs.Kept.{WritesHeader, WritesGrowth}
-use Rattle.f11_files.specs.Allocation.{AddsZeroSlots, GainsSlotsAs}
-use Rattle.f11_files.specs.ExtensionLaws.{EntersExtension}
-use Rattle.f11_files.proofs.AllocationLemmas.{gains-add, gains-nothing}
+use Rattle.f11_image_store.specs.Allocation.{AddsZeroSlots, GainsSlotsAs}
+use Rattle.f11_image_store.specs.ExtensionLaws.{EntersExtension}
+use Rattle.f11_image_store.proofs.AllocationLemmas.{gains-add, gains-nothing}
 use Rattle.f11_store.specs.declared.callers.Uic.{Uic}
 
 pub zero-same : (t : Table) → AddsZeroSlots t t

@@ -8,7 +8,7 @@ use Rattle.f11_index.specs.Table.{Table, table_of}
 use Rattle.f11_volume.specs.Volume.{Volume, volume_of}
 use Rattle.f11_writes.specs.NameLaws.{AreSpare}
 use Rattle.f11_writes.proofs.NameLemmas.{spare-stay}
-use Rattle.f11_files.specs.FileLaws.{room_in}
+use Rattle.f11_image_store.specs.FileLaws.{room_in}
 use Rattle.f11_files.specs.Growing.{SameFree}
 use Rattle.f11_files.specs.Structure.{bitmap_in, home_of, Lies, IsFor}
 use Rattle.f11_files.specs.Tail.{HoldsLast, MayBeGiven, HasNoPlace}

@@ -23,9 +23,9 @@ use Rattle.f11_store.specs.declared.refusals.Refusal.TheVariants.{VolumeFailed, 
 use Rattle.f11_volume.specs.Sound.{HasSoundVolume}
 use Rattle.f11_volume.specs.Space.{storage_bitmap}
 use Rattle.f11_volume.specs.Volume.{Volume, volume_of}
-use Rattle.f11_files.specs.Allocation.{free_list}
-use Rattle.f11_files.specs.Confines.{Confines, no_header, only_header, new_header, either}
-use Rattle.f11_files.specs.StoreOf.{store_of}
+use Rattle.f11_image_store.specs.Allocation.{free_list}
+use Rattle.f11_image_store.specs.Confines.{Confines, no_header, only_header, new_header, either}
+use Rattle.f11_image_store.specs.StoreOf.{store_of}
 
 -- DeviceFault and Damaged fail the volume
 abbrev pub is_grave : Refusal → Bool

@@ -13,10 +13,10 @@ use Rattle.f11_store.specs.Store.{file_named}
 use Rattle.f11_store.specs.declared.files.FileId.{FileId}
 use Rattle.f11_store.specs.declared.refusals.Refusal.{Refusal}
 use Rattle.f11_writes.specs.Kept.{file_in}
-use Rattle.f11_files.specs.Allocation.{KeepsBlocks}
+use Rattle.f11_image_store.specs.Allocation.{KeepsBlocks}
 use Rattle.f11_files.specs.Answers.{Reads, Does, FailsToWrite}
 use Rattle.f11_files.specs.Operations.{length_causes}
-use Rattle.f11_files.specs.StoreOf.{store_of}
+use Rattle.f11_image_store.specs.StoreOf.{store_of}
 
 -- Block `vbn` of a file was found.
 pub record FindsBlock (home : HomeFields) (f : FileId) (vbn lbn : ℕ) (old new : Disk) : Type 0 where

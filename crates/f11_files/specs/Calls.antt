@@ -8,7 +8,7 @@ use Rattle.f11_store.specs.declared.files.Attr.{Attr}
 use Rattle.f11_store.specs.declared.files.FileId.{FileId}
 use Rattle.f11_files.specs.Answers.{Reads}
 use Rattle.f11_files.specs.Operations.{attr_of, file_causes}
-use Rattle.f11_files.specs.StoreOf.{store_of}
+use Rattle.f11_image_store.specs.StoreOf.{store_of}
 
 -- What a file's header says of it was read.
 pub record ReadsAttr (home : HomeFields) (f : FileId) (attr : Attr) (old new : Disk) : Type 0 where

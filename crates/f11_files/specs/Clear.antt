@@ -11,7 +11,7 @@ use Rattle.f11_store.specs.Lags.{with_no_mark}
 use Rattle.f11_store.specs.declared.files.FileId.{FileId}
 use Rattle.f11_writes.specs.OtherSlots.{KeepsOtherSlots}
 use Rattle.f11_volume.specs.Volume.{volume_of}
-use Rattle.f11_files.specs.Allocation.{AddsZeroSlots, GainsBlocks}
+use Rattle.f11_image_store.specs.Allocation.{AddsZeroSlots, GainsBlocks}
 use Rattle.f11_files.specs.First.{HoldsFile}
 use Rattle.f11_files.specs.Structure.{index_in, home_of, store_on, IsFor}
 use Rattle.f11_files.specs.Tail.{HasStore}

@@ -8,10 +8,10 @@ use Rattle.f11_store.specs.Store.{Store, least_free}
 use Rattle.f11_store.specs.declared.callers.Uic.{Uic}
 use Rattle.f11_store.specs.declared.files.FileId.{FileId}
 use Rattle.f11_store.specs.declared.refusals.Refusal.{Refusal}
-use Rattle.f11_files.specs.Allocation.{KeepsBlocks}
+use Rattle.f11_image_store.specs.Allocation.{KeepsBlocks}
 use Rattle.f11_files.specs.Answers.{Does, FailsToWrite}
 use Rattle.f11_files.specs.Operations.{create_causes}
-use Rattle.f11_files.specs.StoreOf.{store_of}
+use Rattle.f11_image_store.specs.StoreOf.{store_of}
 
 -- the work of making a file: it appears in the least free slot
 abbrev pub new_work : Store → Uic → ℕ → List ℕ → List ℕ → Work

@@ -19,11 +19,11 @@ use Rattle.f11_store.specs.Store.{file_named, no_id}
 use Rattle.f11_store.specs.declared.files.FileId.{FileId}
 use Rattle.f11_store.specs.declared.refusals.Refusal.{Refusal}
 use Rattle.f11_writes.specs.Kept.{file_in}
-use Rattle.f11_files.specs.Allocation.{LosesBlocks}
+use Rattle.f11_image_store.specs.Allocation.{LosesBlocks}
 use Rattle.f11_files.specs.Answers.{Does, FailsToWrite}
-use Rattle.f11_files.specs.FileLaws.{SaysAlike, pointers_in}
+use Rattle.f11_image_store.specs.FileLaws.{SaysAlike, pointers_in}
 use Rattle.f11_files.specs.Operations.{length_causes}
-use Rattle.f11_files.specs.StoreOf.{store_of}
+use Rattle.f11_image_store.specs.StoreOf.{store_of}
 
 -- Header n of a file is in hand, the one that names the last of its first blocks, so many, of which it names this many itself; or the
 -- first one, where none stays. The headers up to it were read.

@@ -10,10 +10,10 @@ use Rattle.f11_store.specs.Lags.{go_work}
 use Rattle.f11_store.specs.Store.{file_named}
 use Rattle.f11_store.specs.declared.files.FileId.{FileId}
 use Rattle.f11_store.specs.declared.refusals.Refusal.{Refusal}
-use Rattle.f11_files.specs.Allocation.{LosesHeaders}
+use Rattle.f11_image_store.specs.Allocation.{LosesHeaders}
 use Rattle.f11_files.specs.Answers.{Does, FailsToWrite}
 use Rattle.f11_files.specs.Operations.{file_causes}
-use Rattle.f11_files.specs.StoreOf.{store_of}
+use Rattle.f11_image_store.specs.StoreOf.{store_of}
 
 -- A file was deleted: it is gone, its slots aren't in use, and its blocks are free.
 abbrev pub Deletes : HomeFields → FileId → Disk → Disk → Type 0

@@ -21,12 +21,13 @@ use Rattle.f11_volume.specs.Sound.{HasSoundVolume}
 use Rattle.f11_volume.specs.Space.{storage_bitmap}
 use Rattle.f11_volume.specs.Volume.{Volume, volume_of, IsNamed}
 use Rattle.f11_writes.specs.OtherSlots.{KeepsOtherSlots}
-use Rattle.f11_files.specs.Allocation.{FreesBlocks, LosesHeaders}
+use Rattle.f11_image_store.specs.Allocation.{FreesBlocks, LosesHeaders}
 use Rattle.f11_files.specs.Answers.{Writes, Breaks}
-use Rattle.f11_files.specs.FileLaws.{pointers_in}
+use Rattle.f11_image_store.specs.FileLaws.{pointers_in}
 use Rattle.f11_files.specs.Growing.{SameFree}
-use Rattle.f11_files.specs.SlotLaws.{with_use, KeepsOtherBlocks}
-use Rattle.f11_files.specs.StoreOf.{store_of}
+use Rattle.f11_image_store.specs.SlotLaws.{with_use, KeepsOtherBlocks}
+use Rattle.f11_image_store.specs.StoreOf.{store_of}
+use Rattle.f11_store.specs.Pieces.{with_more_free}
 
 -- A store has the files of another, and what is free there is free here.
 pub record FreesMore (s t : Store) : Type 0 where
@@ -62,10 +63,6 @@ pub record AreAllSpare (v : Volume) (lbns : List ℕ) : Type 0 where
   pub used : (i lbn : ℕ) → slice_get lbns i ≡ Some lbn → v.free lbn ≡ false
   pub unnamed : (i lbn : ℕ) → slice_get lbns i ≡ Some lbn → ¬ IsNamed v.table lbn
   pub apart : AreApart lbns
-
--- so many blocks more are free
-abbrev pub with_more_free : Store → ℕ → Store
-with_more_free s count = record s { free = s.free + count }
 
 -- These blocks were marked free, those of so many pointers at most.
 pub record GivesBlocks (home : HomeFields) (lbns : List ℕ) (pointers : ℕ) (old new : Disk) : Type 0 where

@@ -14,12 +14,12 @@ use Rattle.f11_store.specs.declared.callers.Uic.{Uic}
 use Rattle.f11_store.specs.declared.files.FileId.{FileId}
 use Rattle.f11_store.specs.declared.refusals.Refusal.{Refusal}
 use Rattle.f11_volume.specs.Volume.{volume_of}
-use Rattle.f11_files.specs.Allocation.{GainsBlocks, GainsBlocksAs}
+use Rattle.f11_image_store.specs.Allocation.{GainsBlocks, GainsBlocksAs}
 use Rattle.f11_files.specs.Answers.{Meanwhile, Does, FailsToWrite}
 use Rattle.f11_files.specs.Growing.{Grew, GrowingBy}
 use Rattle.f11_files.specs.Operations.{extend_causes}
-use Rattle.f11_files.specs.Pieces.{file_numbered}
-use Rattle.f11_files.specs.StoreOf.{store_of}
+use Rattle.f11_store.specs.Pieces.{file_numbered}
+use Rattle.f11_image_store.specs.StoreOf.{store_of}
 use Rattle.f11_files.specs.Structure.{bitmap_in, home_of, store_on}
 use Rattle.f11_files.specs.Tail.{HoldsLast, ownership_of, whose}
 use Rattle.f11_files.specs.Take.{NoneBelow}

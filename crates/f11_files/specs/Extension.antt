@@ -14,14 +14,14 @@ use Rattle.f11_index.specs.Table.{table_of}
 use Rattle.f11_store.specs.Changes.{with_slots}
 use Rattle.f11_store.specs.Store.{least_free}
 use Rattle.f11_store.specs.declared.files.FileId.{FileId}
-use Rattle.f11_files.specs.Allocation.{AddsLoose, AddsZeroSlots, NamesMore}
+use Rattle.f11_image_store.specs.Allocation.{AddsLoose, AddsZeroSlots, NamesMore}
 use Rattle.f11_files.specs.Answers.{Writes}
-use Rattle.f11_files.specs.Confines.{new_header}
-use Rattle.f11_files.specs.Drops.{with_more_free}
-use Rattle.f11_files.specs.FileLaws.{pointers_in, room_in}
+use Rattle.f11_image_store.specs.Confines.{new_header}
+use Rattle.f11_store.specs.Pieces.{with_more_free}
+use Rattle.f11_image_store.specs.FileLaws.{pointers_in, room_in}
 use Rattle.f11_files.specs.Growing.{Taking, GrowingInto, Grew, SameFree}
 use Rattle.f11_files.specs.Link.{MayFollow}
-use Rattle.f11_files.specs.StoreOf.{store_of}
+use Rattle.f11_image_store.specs.StoreOf.{store_of}
 use Rattle.f11_files.specs.Structure.{index_in, bitmap_in, home_of, store_on}
 use Rattle.f11_files.specs.Tail.{HoldsLast, ownership_of, whose}
 use Rattle.f11_files.specs.Zeros.{HoldsZeros}

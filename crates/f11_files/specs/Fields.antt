@@ -7,10 +7,10 @@ use Rattle.f11_store.specs.File.{File}
 use Rattle.f11_store.specs.Lags.{one_part, file_changes}
 use Rattle.f11_store.specs.declared.files.FileId.{FileId}
 use Rattle.f11_store.specs.declared.refusals.Refusal.{Refusal}
-use Rattle.f11_files.specs.Allocation.{KeepsBlocks}
+use Rattle.f11_image_store.specs.Allocation.{KeepsBlocks}
 use Rattle.f11_files.specs.Answers.{Does, FailsToWrite}
 use Rattle.f11_files.specs.Operations.{file_causes}
-use Rattle.f11_files.specs.StoreOf.{store_of}
+use Rattle.f11_image_store.specs.StoreOf.{store_of}
 
 -- A file was changed so, and all else is as it was, in two transfers.
 abbrev pub Alters : (File → File) → HomeFields → FileId → Disk → Disk → Type 0

@@ -19,13 +19,13 @@ use Rattle.f11_store.specs.declared.files.FileId.{FileId}
 use Rattle.f11_store.specs.declared.refusals.Refusal.{Refusal}
 use Rattle.f11_store.specs.declared.refusals.Refusal.TheVariants.{NoMemory}
 use Rattle.f11_volume.specs.Volume.{volume_of}
-use Rattle.f11_files.specs.Allocation.{AddsZeroSlots, GainsSlots, GainsSlotsAs, NamesMore}
+use Rattle.f11_image_store.specs.Allocation.{AddsZeroSlots, GainsSlots, GainsSlotsAs, NamesMore}
 use Rattle.f11_files.specs.Answers.{is_grave, faults_of, Does, IsRight, Meanwhile, Reads, Writes}
-use Rattle.f11_files.specs.Drops.{with_more_free}
+use Rattle.f11_store.specs.Pieces.{with_more_free}
 use Rattle.f11_files.specs.Growing.{Growing, SameFree}
 use Rattle.f11_files.specs.Operations.{grow_causes}
 use Rattle.f11_files.specs.Room.{FindsRoom}
-use Rattle.f11_files.specs.StoreOf.{store_of}
+use Rattle.f11_image_store.specs.StoreOf.{store_of}
 use Rattle.f11_files.specs.Structure.{bitmap_in, home_of, store_on}
 use Rattle.f11_files.specs.Tail.{HoldsLast, ownership_of, whose}
 use Rattle.f11_files.specs.Take.{NoneBelow}

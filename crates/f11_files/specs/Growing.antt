@@ -7,11 +7,11 @@ use Rattle.f11_dev.specs.Went.{Went}
 use Rattle.f11_home.specs.Home.{HomeFields}
 use Rattle.f11_store.specs.Changes.{Extends}
 use Rattle.f11_store.specs.File.{need}
-use Rattle.f11_files.specs.Pieces.{TakesSome, ExtendsSome, file_numbered}
+use Rattle.f11_store.specs.Pieces.{TakesSome, ExtendsSome, file_numbered}
 use Rattle.f11_store.specs.Store.{Store}
 use Rattle.f11_volume.specs.Sound.{HasSoundVolume}
 use Rattle.f11_volume.specs.Volume.{volume_of}
-use Rattle.f11_files.specs.StoreOf.{store_of}
+use Rattle.f11_image_store.specs.StoreOf.{store_of}
 
 -- An image that stands meanwhile: its volume is sound, and of this store so many blocks and headers at most were taken.
 pub record IsTaking (home : HomeFields) (blocks headers : ℕ) (s : Store) (image : Image) : Type 0 where

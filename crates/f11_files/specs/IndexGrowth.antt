@@ -1,6 +1,6 @@
 -- The index file's last header in hand names blocks of zeros, or links to a new one that does: they are slots then (Files-11 On-Disk Structure
 -- Level 1, "Index File", "File Header" and "Map Area").
-use Rattle.std.specs.Prelude.{◌≡◌, ℕ, ◌+◌, ◌≤◌, true, IsTrue, []}
+use Rattle.std.specs.Prelude.{◌≡◌, ℕ, ◌+◌, ◌≤◌, true, IsTrue}
 use Rattle.std.specs.List.{range_with_len}
 use Rattle.f11_dev.specs.Disk.{Disk}
 use Rattle.f11_dev.specs.Image.{Image}
@@ -14,8 +14,9 @@ use Rattle.f11_index.specs.Table.{table_of}
 use Rattle.f11_store.specs.Changes.{with_change, with_more_slots}
 use Rattle.f11_store.specs.Store.{Store}
 use Rattle.f11_store.specs.declared.files.FileId.{FileId}
-use Rattle.f11_files.specs.Allocation.{AddsZeroSlots, LinksLoose, NamesMore}
-use Rattle.f11_files.specs.FileLaws.{room_in, with_more_blocks, with_header_linked}
+use Rattle.f11_image_store.specs.Allocation.{AddsZeroSlots, LinksLoose, NamesMore}
+use Rattle.f11_image_store.specs.FileLaws.{room_in, with_header_linked}
+use Rattle.f11_store.specs.Pieces.{with_slots_named}
 use Rattle.f11_files.specs.Growing.{SameFree}
 use Rattle.f11_files.specs.Structure.{index_in, bitmap_in, home_of, store_on}
 use Rattle.f11_files.specs.Tail.{HasStore, HoldsLast, pointers_more, ownership_of, whose}
@@ -26,10 +27,6 @@ use Rattle.f11_files.specs.declared.tail.Tail.{Tail}
 pub record MayBecomeSlots (s : Structure) (count : ℕ) (disk : Disk) : Type 0 where
   pub reserved : count ≤ room s.index
   pub limit : IsTrue disk.honest → (store_on s disk).slots + count ≤ (store_on s disk).limit
-
--- a store whose index file has n slots more, in so many pointers more
-abbrev pub with_slots_named : ℕ → ℕ → Store → Store
-with_slots_named more n s = with_more_slots (with_change s 1 (with_more_blocks more [])) n
 
 -- where the disk is honest, in an image that stands meanwhile the header names them
 abbrev pub NamingSlots : Structure → Tail → ℕ → ℕ → Disk → Image → Type 0

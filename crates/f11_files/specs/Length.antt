@@ -9,7 +9,7 @@ use Rattle.f11_store.specs.Store.{file_named}
 use Rattle.f11_store.specs.declared.files.FileId.{FileId}
 use Rattle.f11_files.specs.Answers.{Reads}
 use Rattle.f11_files.specs.Operations.{file_causes}
-use Rattle.f11_files.specs.StoreOf.{store_of}
+use Rattle.f11_image_store.specs.StoreOf.{store_of}
 
 -- the most blocks that 256 headers can name: each has at most 127 pointers of 256 blocks
 abbrev pub most_blocks : ℕ

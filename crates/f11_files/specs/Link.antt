@@ -9,8 +9,8 @@ use Rattle.f11_index.specs.Headers.{IsInFile, IsLastOf}
 use Rattle.f11_index.specs.Table.{Table, table_of, IsLive, IsNext}
 use Rattle.f11_store.specs.Changes.{with_change}
 use Rattle.f11_store.specs.declared.files.FileId.{FileId}
-use Rattle.f11_files.specs.Allocation.{LinksLoose}
-use Rattle.f11_files.specs.FileLaws.{with_header_more}
+use Rattle.f11_image_store.specs.Allocation.{LinksLoose}
+use Rattle.f11_image_store.specs.FileLaws.{with_header_more}
 use Rattle.f11_files.specs.Growing.{SameFree}
 use Rattle.f11_files.specs.Structure.{home_of, store_on, IsFor}
 use Rattle.f11_files.specs.Tail.{HasStore}

@@ -11,8 +11,8 @@ use Rattle.f11_store.specs.Changes.{is_in}
 use Rattle.f11_store.specs.Store.{Store}
 use Rattle.f11_volume.specs.Sound.{HasSoundVolume}
 use Rattle.f11_volume.specs.Space.{storage_bitmap}
-use Rattle.f11_files.specs.Confines.{Confines, IsNoPart, AreAlike}
-use Rattle.f11_files.specs.StoreOf.{store_of}
+use Rattle.f11_image_store.specs.Confines.{Confines, IsNoPart, AreAlike}
+use Rattle.f11_image_store.specs.StoreOf.{store_of}
 use Rattle.f11_files.specs.declared.structure.Structure.{Structure}
 
 -- the home block, the index file and the storage bitmap that are kept

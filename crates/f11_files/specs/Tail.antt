@@ -12,19 +12,18 @@ use Rattle.f11_index.specs.HeaderBlock.{segment_number, link_of}
 use Rattle.f11_index.specs.Headers.{IsLastOf}
 use Rattle.f11_index.specs.Table.{table_of}
 use Rattle.f11_chain.specs.Calls.{HoldsHeader}
-use Rattle.f11_store.specs.Changes.{with_change}
-use Rattle.f11_store.specs.File.{zero_blocks}
 use Rattle.f11_store.specs.Store.{Store}
 use Rattle.f11_store.specs.declared.callers.Uic.{Uic}
 use Rattle.f11_store.specs.declared.files.FileId.{FileId}
 use Rattle.f11_volume.specs.Sound.{HasSoundVolume}
 use Rattle.f11_volume.specs.Volume.{volume_of}
 use Rattle.f11_writes.specs.NameLaws.{AreSpare}
-use Rattle.f11_files.specs.Allocation.{NamesMore}
-use Rattle.f11_files.specs.FileLaws.{HasPointersMore, room_in, with_more_blocks}
+use Rattle.f11_image_store.specs.Allocation.{NamesMore}
+use Rattle.f11_image_store.specs.FileLaws.{HasPointersMore, room_in}
+use Rattle.f11_store.specs.Pieces.{with_zeros_more}
 use Rattle.f11_files.specs.Growing.{SameFree}
-use Rattle.f11_files.specs.StoreOf.{store_of}
-use Rattle.f11_files.specs.Confines.{only_header, new_header, either}
+use Rattle.f11_image_store.specs.StoreOf.{store_of}
+use Rattle.f11_image_store.specs.Confines.{only_header, new_header, either}
 use Rattle.f11_files.specs.Structure.{index_in, home_of, store_on, ConfinesTo, IsFor, StandsWithin}
 use Rattle.f11_files.specs.Zeros.{HoldsZeros}
 use Rattle.f11_files.specs.declared.structure.Structure.{Structure}
@@ -72,10 +71,6 @@ pub record HasStore (home : HomeFields) (s : Store) (image : Image) : Type 0 whe
 -- how many retrieval pointers more a header has that names these blocks too
 abbrev pub pointers_more : List ℕ → ℕ → ℕ → ℕ
 pointers_more block lbn count = if joins_last (runs_of (map_area block)) lbn count then 0 else 1
-
--- a store in which file f has so many blocks of zeros more, in so many pointers more
-abbrev pub with_zeros_more : ℕ → ℕ → ℕ → Store → Store
-with_zeros_more f more count s = with_change s f (with_more_blocks more (zero_blocks count))
 
 -- where the disk is honest, in an image that stands meanwhile the header names the blocks
 abbrev pub Naming : Structure → Tail → ℕ → ℕ → Disk → Image → Type 0

@@ -12,10 +12,10 @@ use Rattle.f11_store.specs.Store.{Store}
 use Rattle.f11_volume.specs.Volume.{volume_of}
 use Rattle.f11_writes.specs.Kept.{KeepsButFree}
 use Rattle.f11_writes.specs.NameLaws.{AreSpare}
-use Rattle.f11_files.specs.Allocation.{free_list}
+use Rattle.f11_image_store.specs.Allocation.{free_list}
 use Rattle.f11_files.specs.Answers.{Writes}
 use Rattle.f11_files.specs.Growing.{Taking}
-use Rattle.f11_files.specs.StoreOf.{store_of}
+use Rattle.f11_image_store.specs.StoreOf.{store_of}
 use Rattle.f11_files.specs.Structure.{index_in, bitmap_in, home_of, store_on}
 use Rattle.f11_files.specs.declared.structure.Structure.{Structure}
 

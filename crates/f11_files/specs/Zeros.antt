@@ -7,7 +7,7 @@ use Rattle.f11_dev.specs.Went.{Went}
 use Rattle.f11_home.specs.Home.{HomeFields}
 use Rattle.f11_volume.specs.Contents.{block_or_zeros}
 use Rattle.f11_writes.specs.Kept.{KeepsVolume}
-use Rattle.f11_files.specs.StoreOf.{store_of}
+use Rattle.f11_image_store.specs.StoreOf.{store_of}
 
 -- So many blocks from `lbn` on hold zeros.
 pub record HoldsZeros (image : Image) (lbn count : ℕ) : Type 0 where

@@ -2,7 +2,7 @@
 ghost use Rattle.std.specs.Prelude.{◌≡◌, ◌≤◌, false, IfOk, IfErr, OnOk};
 ghost use Rattle.f11_files.specs.Answers.{FailsToRead, is_grave, is_refused, WritesFirstOf};
 ghost use Rattle.f11_files.specs.Calls.{ReadsAttr};
-ghost use Rattle.f11_files.specs.Confines.{only_header};
+ghost use Rattle.f11_image_store.specs.Confines.{only_header};
 ghost use Rattle.f11_files.specs.Fields.{Alters, FailsToAlter};
 ghost use Rattle.f11_files.specs.First.{IsFirstOf};
 ghost use Rattle.f11_files.specs.Operations.{attr_in, file_causes};

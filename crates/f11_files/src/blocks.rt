@@ -2,7 +2,7 @@
 ghost use Rattle.std.specs.Prelude.{◌≡◌, ◌+◌, ◌<◌, ◌≤◌, false, IfErr, OnOk, OnErr, IsTrue};
 ghost use Rattle.f11_files.specs.Answers.{FailsToRead, is_grave, is_refused, WritesBlocksOf};
 ghost use Rattle.f11_files.specs.Blocks.{ReadsBlock, StoresBlock, FailsToStore};
-ghost use Rattle.f11_files.specs.Confines.{no_header};
+ghost use Rattle.f11_image_store.specs.Confines.{no_header};
 ghost use Rattle.f11_files.specs.Operations.{length_causes};
 ghost use Rattle.f11_files.specs.Structure.{home_of, store_on, IsFor, StaysFor, ConfinesTo};
 ghost use Rattle.f11_chain.specs.FileHeaders.{file_blocks};

@@ -2,7 +2,7 @@
 ghost use Rattle.std.specs.Prelude.{◌≡◌, ◌⊎◌, ◌≤◌, OnOk, OnErr};
 ghost use Rattle.f11_dev.specs.Went.{Went};
 ghost use Rattle.f11_files.specs.Clear.{Clearing, ClearsMark};
-ghost use Rattle.f11_files.specs.Confines.{only_header};
+ghost use Rattle.f11_image_store.specs.Confines.{only_header};
 ghost use Rattle.f11_files.specs.First.{HoldsFile};
 ghost use Rattle.f11_files.specs.Structure.{index_in, IsFor, WritesParts};
 

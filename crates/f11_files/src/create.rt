@@ -1,9 +1,9 @@
 //! A new file.
 ghost use Rattle.std.specs.Prelude.{◌≡◌, ◌<◌, false, IfErr, IfOk, true};
 ghost use Rattle.f11_files.specs.Answers.{is_grave, is_light, is_refused, WritesNewHeaders};
-ghost use Rattle.f11_files.specs.Confines.{new_header};
+ghost use Rattle.f11_image_store.specs.Confines.{new_header};
 ghost use Rattle.f11_files.specs.Create.{Creates, FailsToCreate};
-ghost use Rattle.f11_files.specs.NewFileLaws.{IsNewFirst};
+ghost use Rattle.f11_image_store.specs.NewFileLaws.{IsNewFirst};
 ghost use Rattle.f11_files.specs.Structure.{counts_of, home_of, index_in, IsFor, StaysFor, WritesParts};
 ghost use Rattle.f11_header.specs.Fields.{file_sequence};
 ghost use Rattle.f11_header.specs.Writing.{blank_header};

@@ -2,9 +2,9 @@
 ghost use Rattle.std.specs.Prelude.{◌≡◌, ◌<◌, ◌≤◌, ◌*◌, ◌^◌, IfErr, IsTrue, None, OnOk, drop, length};
 ghost use Rattle.f11_chain.specs.Calls.{HoldsHeader};
 ghost use Rattle.f11_files.specs.Answers.{is_grave, is_refused};
-ghost use Rattle.f11_files.specs.Confines.{no_header, only_header};
+ghost use Rattle.f11_image_store.specs.Confines.{no_header, only_header};
 ghost use Rattle.f11_files.specs.Drops.{AreAllSpare, BreaksOff, Buries, DropsBehind, DropsHeader, GivesBlocks, GivesRun, HangsBehind, MayDrop, drop_cost, headers_behind, tail_cost};
-ghost use Rattle.f11_files.specs.FileLaws.{pointers_in};
+ghost use Rattle.f11_image_store.specs.FileLaws.{pointers_in};
 ghost use Rattle.f11_files.specs.Structure.{home_of, index_in, store_on, IsFor, StandsAlike, StaysFor, WritesParts};
 ghost use Rattle.f11_header.specs.Header.{holds_header};
 ghost use Rattle.f11_index.specs.HeaderBlock.{blocks_named};

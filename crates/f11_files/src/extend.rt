@@ -2,10 +2,10 @@
 ghost use Rattle.std.specs.Prelude.{◌≡◌, ◌+◌, ◌-◌, ◌*◌, ◌/◌, ◌<◌, ◌≤◌, false, IfErr, IfOk, IsTrue, OnOk, [], true};
 ghost use Rattle.f11_bits.specs.Transfers.{blocks_from};
 ghost use Rattle.std.specs.List.{range_with_len};
-ghost use Rattle.f11_files.specs.Allocation.{free_list};
+ghost use Rattle.f11_image_store.specs.Allocation.{free_list};
 ghost use Rattle.f11_files.specs.Answers.{is_grave, is_light, is_refused, Breaks, WritesMoreOf};
-ghost use Rattle.f11_files.specs.Confines.{either, new_header};
-ghost use Rattle.f11_files.specs.Drops.{with_more_free};
+ghost use Rattle.f11_image_store.specs.Confines.{either, new_header};
+ghost use Rattle.f11_store.specs.Pieces.{with_more_free, file_numbered, MayExtend};
 ghost use Rattle.f11_files.specs.Extend.{AddsRun, ExtendingBy, ExtendsBy, ExtendsFile, FailsToExtend, IsLengthAfter, IsTailOf};
 ghost use Rattle.f11_files.specs.Extension.{AppendingRun, AppendsRun};
 ghost use Rattle.f11_files.specs.Growing.{GrowingBy};
@@ -17,7 +17,6 @@ ghost use Rattle.f11_index.specs.Headers.{headers_of};
 ghost use Rattle.f11_index.specs.Table.{table_of};
 ghost use Rattle.f11_store.specs.Changes.{is_in};
 ghost use Rattle.f11_store.specs.File.{need};
-ghost use Rattle.f11_files.specs.Pieces.{file_numbered, MayExtend};
 ghost use Rattle.f11_volume.specs.Volume.{volume_of};
 ghost use Rattle.f11_writes.specs.NameLaws.{AreSpare};
 

@@ -1,16 +1,15 @@
 //! A new last header of a file.
 ghost use Rattle.std.specs.Prelude.{◌≡◌, ◌<◌, ◌≤◌, ◌^◌, IfErr, IfOk, IsTrue, OnOk, []};
 ghost use Rattle.f11_files.specs.Answers.{is_grave, is_refused, Breaks};
-ghost use Rattle.f11_files.specs.Confines.{new_header};
-ghost use Rattle.f11_files.specs.Drops.{with_more_free};
+ghost use Rattle.f11_image_store.specs.Confines.{new_header};
+ghost use Rattle.f11_store.specs.Pieces.{with_more_free, MayExtend};
 ghost use Rattle.f11_files.specs.Extension.{AppendingRun, AppendsRun, EntersHeader, IsExtension, TakesSlot};
-ghost use Rattle.f11_files.specs.FileLaws.{room_in};
+ghost use Rattle.f11_image_store.specs.FileLaws.{room_in};
 ghost use Rattle.f11_files.specs.Growing.{Taking};
 ghost use Rattle.f11_files.specs.Structure.{home_of, index_in, store_on, IsFor, StaysFor, WritesParts};
 ghost use Rattle.f11_files.specs.Tail.{GrowsWithin, HoldsLast, MayBeGiven, WritesGrowth};
 ghost use Rattle.f11_header.specs.Header.{holds_header};
 ghost use Rattle.f11_index.specs.HeaderBlock.{segment_number};
-ghost use Rattle.f11_files.specs.Pieces.{MayExtend};
 ghost use Rattle.f11_store.specs.Store.{free_headers};
 
 use crate::create::next_sequence;

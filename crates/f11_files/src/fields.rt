@@ -1,7 +1,7 @@
 //! A field of a file's first header, written and sealed.
 ghost use Rattle.std.specs.Prelude.{◌≡◌, false, IsTrue};
 ghost use Rattle.f11_bytes.specs.Words.{word_sum};
-ghost use Rattle.f11_files.specs.FieldLaws.{SaysBut};
+ghost use Rattle.f11_image_store.specs.FieldLaws.{SaysBut};
 ghost use Rattle.f11_files.specs.First.{IsFirstOf};
 ghost use Rattle.f11_header.specs.Fields.{characteristics, check_word, map_area};
 ghost use Rattle.f11_header.specs.Header.{header_in, header_with, holds_header};

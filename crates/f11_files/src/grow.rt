@@ -2,12 +2,12 @@
 ghost use Rattle.std.specs.Prelude.{◌≡◌, ◌+◌, ◌-◌, ◌*◌, ◌/◌, ◌<◌, ◌≤◌, IfErr, IfOk, IsTrue, OnOk};
 ghost use Rattle.f11_bits.specs.Transfers.{blocks_from};
 ghost use Rattle.std.specs.List.{range_with_len};
-ghost use Rattle.f11_files.specs.Allocation.{free_list};
+ghost use Rattle.f11_image_store.specs.Allocation.{free_list};
 ghost use Rattle.f11_files.specs.Answers.{is_grave, is_refused, Breaks};
-ghost use Rattle.f11_files.specs.Drops.{with_more_free};
-ghost use Rattle.f11_files.specs.FileLaws.{room_in};
+ghost use Rattle.f11_store.specs.Pieces.{with_more_free};
+ghost use Rattle.f11_image_store.specs.FileLaws.{room_in};
 ghost use Rattle.f11_files.specs.GrowIndex.{AddsSlots, AppendingSlots, AppendsSlots, GrowingIndex, GrowingIndexBy, GrowsIndexBy};
-ghost use Rattle.f11_files.specs.IndexPieces.{MayGrowIndex};
+ghost use Rattle.f11_store.specs.IndexPieces.{MayGrowIndex};
 ghost use Rattle.f11_files.specs.Structure.{bitmap_in, home_of, store_on, IsFor, StaysFor};
 ghost use Rattle.f11_files.specs.Tail.{GrowsWithin, HoldsLast, MayBeGiven, WritesGrowth, ownership_of};
 ghost use Rattle.f11_files.specs.Take.{NoneBelow};

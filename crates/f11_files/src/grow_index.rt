@@ -1,12 +1,12 @@
 //! More slots for the index file.
 ghost use Rattle.std.specs.Prelude.{◌≡◌, ◌≤◌, ◌<◌, false, IfErr, IfOk, true, IsTrue};
 ghost use Rattle.f11_volume.specs.Volume.{volume_of};
-ghost use Rattle.f11_files.specs.Allocation.{free_list};
+ghost use Rattle.f11_image_store.specs.Allocation.{free_list};
 ghost use Rattle.f11_files.specs.Answers.{is_grave, is_light, is_refused, FailsToRead, WritesMoreOf};
-ghost use Rattle.f11_files.specs.Confines.{either, new_header};
+ghost use Rattle.f11_image_store.specs.Confines.{either, new_header};
 ghost use Rattle.f11_files.specs.GrowIndex.{index_id, FailsToGrow, FindsIndexRoom, GrowsIndexFile, IsSlotsAfter};
 ghost use Rattle.f11_files.specs.Operations.{grow_causes};
-ghost use Rattle.f11_files.specs.StoreOf.{slot_limit};
+ghost use Rattle.f11_image_store.specs.StoreOf.{slot_limit};
 ghost use Rattle.f11_files.specs.Structure.{counts_of, home_of, store_on, index_in, IsFor, StaysFor, ConfinesTo};
 ghost use Rattle.f11_index.specs.Headers.{headers_of};
 ghost use Rattle.f11_index.specs.Table.{table_of};

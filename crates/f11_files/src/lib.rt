@@ -2,8 +2,7 @@
 //!
 //! [`Files`] owns the device of an accepted volume, and its calls are the requests of the plain store of [`f11_store`] on the store of
 //! the image (`store_of`): what its headers and its storage bitmap tell. On an honest device each image that stands meanwhile is accepted.
-//! What each kind of write makes of the store are laws in [`laws`]. The crate stands on [`f11_vfy`], which says when an image is sound, and on
-//! `f11_writes`, which says what each kind of write leaves of it.
+//! The crate stands on `f11_image_store`, which says what the store of an image is and what each kind of write makes of it.
 #![tactic(auto)]
 
 mod answer;
@@ -20,7 +19,6 @@ mod files;
 mod first;
 mod grow;
 mod grow_index;
-pub mod laws;
 mod length;
 mod link;
 mod locate;

@@ -2,7 +2,7 @@
 ghost use Rattle.std.specs.Prelude.{◌≡◌, ◌≤◌, ◌<◌, IsTrue, OnOk, OnErr};
 ghost use Rattle.f11_dev.specs.Went.{Went};
 ghost use Rattle.f11_files.specs.Link.{MayFollow, Linking, LinksTail};
-ghost use Rattle.f11_files.specs.Confines.{only_header};
+ghost use Rattle.f11_image_store.specs.Confines.{only_header};
 ghost use Rattle.f11_files.specs.Structure.{home_of, IsFor, WritesParts};
 ghost use Rattle.f11_files.specs.Tail.{HoldsLast, whose};
 ghost use Rattle.f11_index.specs.HeaderBlock.{segment_number};

@@ -1,6 +1,6 @@
 //! Blocks that a file's last header is to name.
 ghost use Rattle.std.specs.Prelude.{◌≡◌, ◌≤◌, false, IsTrue, IfOk, OnErr};
-ghost use Rattle.f11_files.specs.Confines.{only_header};
+ghost use Rattle.f11_image_store.specs.Confines.{only_header};
 ghost use Rattle.f11_files.specs.Structure.{home_of, IsFor, WritesParts};
 ghost use Rattle.f11_files.specs.Tail.{HoldsLast, MayBeGiven, NamesRun, FailsToName, HasNoPlace};
 

@@ -1,7 +1,7 @@
 //! Room for more blocks of a file.
 ghost use Rattle.std.specs.Prelude.{◌≡◌, ◌<◌, ◌≤◌, false, IsTrue, Some, None, IfErr, IfOk, OnOk};
 ghost use Rattle.f11_files.specs.Answers.{FailsToRead};
-ghost use Rattle.f11_files.specs.FileLaws.{room_in};
+ghost use Rattle.f11_image_store.specs.FileLaws.{room_in};
 ghost use Rattle.f11_files.specs.Operations.{extend_causes};
 ghost use Rattle.f11_files.specs.Room.{room_causes, FindsRoom};
 ghost use Rattle.f11_files.specs.Structure.{store_on, IsFor};

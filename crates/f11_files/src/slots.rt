@@ -1,7 +1,7 @@
 //! Blocks that become slots of the index file.
 ghost use Rattle.std.specs.Prelude.{◌≡◌, ◌+◌, ◌≤◌, ◌<◌, false, IsTrue, IfOk, OnOk, OnErr};
 ghost use Rattle.f11_dev.specs.Went.{Went};
-ghost use Rattle.f11_files.specs.Confines.{only_header};
+ghost use Rattle.f11_image_store.specs.Confines.{only_header};
 ghost use Rattle.f11_files.specs.IndexGrowth.{FailsToNameSlots, HasSlotsBehind, LinkingSlots, LinksSlots, MayBecomeSlots, NamesSlots, NamesThese};
 ghost use Rattle.f11_files.specs.Link.{MayFollow};
 ghost use Rattle.f11_files.specs.Structure.{bitmap_in, home_of, IsFor, StaysFor, WritesParts};

@@ -2,7 +2,7 @@
 ghost use Rattle.std.specs.Prelude.{◌≡◌, ◌+◌, ◌<◌, ◌≤◌, IfErr, IfOk, IsTrue};
 ghost use Rattle.f11_bits.specs.Transfers.{blocks_from};
 ghost use Rattle.f11_files.specs.Answers.{is_grave, is_refused, Breaks};
-ghost use Rattle.f11_files.specs.Confines.{no_header};
+ghost use Rattle.f11_image_store.specs.Confines.{no_header};
 ghost use Rattle.f11_files.specs.Growing.{Taking};
 ghost use Rattle.f11_files.specs.Structure.{bitmap_in, home_of, store_on, IsFor, StaysFor, StandsAlike, WritesParts};
 ghost use Rattle.f11_files.specs.Take.{NoneBelow, TakesRun};

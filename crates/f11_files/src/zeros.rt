@@ -1,7 +1,7 @@
 //! Zeros in the blocks that a file is to have.
 ghost use Rattle.std.specs.Prelude.{◌≤◌, ◌+◌, length, IsTrue, OnOk, OnErr};
 ghost use Rattle.std.specs.List.{range_with_len};
-ghost use Rattle.f11_files.specs.Confines.{no_header};
+ghost use Rattle.f11_image_store.specs.Confines.{no_header};
 ghost use Rattle.f11_files.specs.Structure.{home_of, IsFor, ConfinesTo};
 ghost use Rattle.f11_files.specs.Zeros.{Zeroes, FailsToZero};
 ghost use Rattle.f11_volume.specs.Volume.{volume_of};

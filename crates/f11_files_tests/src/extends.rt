@@ -1,6 +1,6 @@
 //! Files of a Files-11 volume that are extended.
 ghost use Rattle.std.specs.Prelude.{◌<◌, ◌+◌, OnOk};
-ghost use Rattle.f11_files.specs.Allocation.{GainsBlocks};
+ghost use Rattle.f11_image_store.specs.Allocation.{GainsBlocks};
 ghost use Rattle.f11_files.specs.Open.{disk_in, home_in, is_honest, IsIdFrom};
 ghost use Rattle.f11_volume.specs.Volume.{volume_of};
 

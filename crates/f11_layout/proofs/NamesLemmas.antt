@@ -16,7 +16,8 @@ use Rattle.f11_map.specs.InHand.{AppendsBlocks}
 use Rattle.f11_map.specs.MapArea.{runs_of, blocks_of, blocks_in}
 use Rattle.f11_map.specs.MapWriting.{joins, joins_last, WritesPointers}
 use Rattle.f11_map.proofs.PointerLemmas.{WritesPointers-same}
-use Rattle.f11_map.proofs.RunLemmas.{joins_last-at, joins-fits, with_blocks-apart, range_with_len-append}
+use Rattle.f11_map.proofs.RunLemmas.{joins_last-at, joins-fits, with_blocks-apart}
+use Rattle.f11_store.proofs.RangeLemmas.{range_with_len-append}
 use Rattle.f11_layout.specs.NamesBlocks.{HasNoPointers, NamesBlocks}
 
 -- the first so many runs, of which all but the last are of 256 blocks

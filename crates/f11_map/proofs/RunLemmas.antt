@@ -1,5 +1,5 @@
 -- Facts about lists of retrieval pointers: how blocks join the last one, and how they are cut.
-use Rattle.std.proofs.Common.{◌≡◌, ℕ, zero, suc, ◌+◌, ◌-◌, ◌/◌, ◌<◌, ◌≤◌, true, false, leb, eqb, List, [], ◌∷◌, ◌++◌, length, get_or, take, drop, Some, refl, sym, ap, ◌∙◌, ⊎_elim, arith, add-zero, zero-add, drop-cons, append_assoc}
+use Rattle.std.proofs.Common.{◌≡◌, ℕ, zero, suc, ◌+◌, ◌-◌, ◌/◌, ◌<◌, ◌≤◌, true, false, leb, eqb, List, [], ◌∷◌, ◌++◌, length, get_or, take, drop, Some, refl, sym, ap, ◌∙◌, ⊎_elim, arith, drop-cons, append_assoc}
 use Rattle.std.specs.List.{All, slice_get, range_with_len}
 use Rattle.std.proofs.Math.Seq.{take-append-add}
 use Rattle.std.proofs.lemmas.Bool.{cases_Bool, cases_lt, and_parts, eqb-true, leb-true, ne_eqb, le-leb, lt-leb, cond-true, cond-false}
@@ -11,6 +11,7 @@ use Rattle.f11_header.specs.MapFields.{words_in_use}
 use Rattle.f11_map.specs.MapArea.{run_at, runs_of, blocks_in, LiesIn}
 use Rattle.f11_map.specs.MapWriting.{joins, joins_last, with_blocks, cut_to}
 use Rattle.f11_map.proofs.MapLemmas.{blocks_in-append, slice_get-append_back, block_here}
+use Rattle.f11_store.proofs.RangeLemmas.{range_with_len-append}
 
 -- the block that lies in a pointer
 pub slice_get-blocks_in : (runs : List (ℕ × ℕ)) (place i left : ℕ) (run : ℕ × ℕ) → slice_get runs i ≡ Some run → LiesIn runs place i left
@@ -49,14 +50,6 @@ pub with_blocks-apart : (runs : List (ℕ × ℕ)) (lbn count : ℕ) → joins_l
 with_blocks-apart [] lbn count apart = refl
 with_blocks-apart (r ∷ []) lbn count apart = cond-false (joins r lbn count) _ _ apart
 with_blocks-apart (r ∷ s ∷ runs) lbn count apart = ap (λ (rest : List (ℕ × ℕ)). r ∷ rest) (with_blocks-apart (s ∷ runs) lbn count apart)
-
--- two runs of blocks, one behind the other
-pub range_with_len-append : (from few more : ℕ) → range_with_len from (few + more) ≡ range_with_len from few ++ range_with_len (from + few) more
-range_with_len-append from zero more = rw (zero-add, add-zero) refl
-range_with_len-append from (suc few) more =
-    let counts : suc few + more ≡ suc (few + more) = omega arith in
-    let next : from + suc few ≡ from + 1 + few = omega arith in
-    rw (counts, next) (ap (λ (rest : List ℕ). from ∷ rest) (range_with_len-append (from + 1) few more))
 
 -- the blocks of the pointers with more blocks
 pub blocks_in-with_blocks : (runs : List (ℕ × ℕ)) (lbn count : ℕ) → blocks_in (with_blocks runs lbn count) ≡ blocks_in runs ++ range_with_len lbn count

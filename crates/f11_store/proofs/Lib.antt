@@ -16,3 +16,9 @@ pub mod StepFates
 pub mod StepLaws
 pub mod StoreLemmas
 mod WorkedLemmas
+pub mod RangeLemmas
+pub mod TakenSlotLemmas
+pub mod PieceLemmas
+pub mod PieceLagLemmas
+pub mod IndexPieceLemmas
+pub mod IndexPieceLagLemmas

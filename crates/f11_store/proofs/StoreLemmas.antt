@@ -128,3 +128,18 @@ agreeing_are_one s t h = λ i. record {
   index_bitmap_blocks = h.index_bitmap_blocks i;
   limit = h.limit i;
 }
+
+-- two stores with the same in each field are one
+pub same-store : (s t : Store) → ((n : ℕ) → s.file n ≡ t.file n) → s.free ≡ t.free → s.slots ≡ t.slots → ((n : ℕ) → s.in_use n ≡ t.in_use n) → ((n : ℕ) → s.last n ≡ t.last n)
+    → s.access ≡ t.access → s.bitmap_blocks ≡ t.bitmap_blocks → s.index_bitmap_blocks ≡ t.index_bitmap_blocks → s.limit ≡ t.limit → s ≡ t
+same-store s t file free slots in_use last access bitmap_blocks index_bitmap_blocks limit = λ i. record {
+  file = λ n. file n i;
+  free = free i;
+  slots = slots i;
+  in_use = λ n. in_use n i;
+  last = λ n. last n i;
+  access = access i;
+  bitmap_blocks = bitmap_blocks i;
+  index_bitmap_blocks = index_bitmap_blocks i;
+  limit = limit i;
+}

@@ -15,3 +15,5 @@ pub mod Step
 pub mod Store
 pub mod Text
 pub mod Worked
+pub mod Pieces
+pub mod IndexPieces

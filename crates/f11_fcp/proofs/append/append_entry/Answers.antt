@@ -3,7 +3,7 @@ use Rattle.f11_entries.specs.Costs.{append_cost}
 use Rattle.f11_files.specs.Answers.{Breaks}
 use Rattle.f11_files.specs.Fields.{Alters, FailsToAlter}
 use Rattle.f11_files.specs.Open.{disk_in, has_failed, home_in, store_in}
-use Rattle.f11_files.specs.StoreOf.{store_of}
+use Rattle.f11_image_store.specs.StoreOf.{store_of}
 use Rattle.f11_home.specs.Home.{HomeFields}
 use Rattle.f11_store.specs.Changes.{with_replacement}
 use Rattle.f11_store.specs.Lags.{file_changes, one_part}

@@ -1,6 +1,6 @@
 use Rattle.std.proofs.Common.{◌∙◌, sym, subst}
 use Rattle.f11_files.specs.Open.{disk_in, home_in}
-use Rattle.f11_files.specs.StoreOf.{store_of}
+use Rattle.f11_image_store.specs.StoreOf.{store_of}
 use Rattle.f11_home.specs.Home.{HomeFields}
 use Rattle.f11_store.specs.Directory.{record_bytes}
 use Rattle.f11_store.specs.declared.refusals.Refusal.{Refusal}

@@ -1,4 +1,4 @@
-use Rattle.f11_files.proofs.FieldLemmas.{contiguous-cleared}
+use Rattle.f11_image_store.proofs.FieldLemmas.{contiguous-cleared}
 use Rattle.f11_files.proofs.fields.clear_contiguous.Goals as goal
 
 pub returns-clause-cleared : goal.returns-clause-cleared

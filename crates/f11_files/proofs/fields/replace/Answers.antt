@@ -1,4 +1,4 @@
-use Rattle.f11_files.proofs.FieldLemmas.{attributes-replaced, ident-replaced, protection-replaced}
+use Rattle.f11_image_store.proofs.FieldLemmas.{attributes-replaced, ident-replaced, protection-replaced}
 use Rattle.f11_files.proofs.FirstLemmas.{first-segment}
 use Rattle.f11_files.proofs.fields.replace.Goals as goal
 

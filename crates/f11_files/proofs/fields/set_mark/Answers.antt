@@ -1,4 +1,4 @@
-use Rattle.f11_files.proofs.FieldLemmas.{delete-marked}
+use Rattle.f11_image_store.proofs.FieldLemmas.{delete-marked}
 use Rattle.f11_files.proofs.fields.set_mark.Goals as goal
 
 pub returns : goal.returns

@@ -3,8 +3,8 @@ use Rattle.std.specs.Prelude.{IfOk, OnOk}
 use Rattle.f11_dev.specs.Image.{Image}
 use Rattle.f11_home.specs.Home.{HomeFields}
 use Rattle.f11_volume.specs.Volume.{volume_of}
-use Rattle.f11_files.specs.Allocation.{GainsBlocks}
-use Rattle.f11_files.proofs.AllocationLawLemmas.{gains-both}
+use Rattle.f11_image_store.specs.Allocation.{GainsBlocks}
+use Rattle.f11_image_store.proofs.AllocationLawLemmas.{gains-both}
 use Rattle.f11_files_tests.proofs.extends.extended_twice.Goals as goal
 
 -- the blocks of both calls, with the home block that the volume had

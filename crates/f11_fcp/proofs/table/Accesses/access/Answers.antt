@@ -2,7 +2,7 @@ use Rattle.std.proofs.Common.{◌∙◌, ◌||◌, false, refl, sym, ap}
 use Rattle.f11_dev.specs.Image.{Image}
 use Rattle.f11_home.specs.Home.{HomeFields}
 use Rattle.f11_files.specs.Open.{store_in, home_in, disk_in}
-use Rattle.f11_files.specs.StoreOf.{store_of}
+use Rattle.f11_image_store.specs.StoreOf.{store_of}
 use Rattle.f11_fcp.specs.Handles.{state_of}
 use Rattle.f11_fcp.specs.Places.{table_of}
 use Rattle.f11_fcp.proofs.AccessLemmas.{access-bad, access-in-use, access-system, access-unread, access-marked, access-unprivileged, access-barred, access-taken, access-kept}

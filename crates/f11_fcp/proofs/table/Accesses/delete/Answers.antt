@@ -5,7 +5,7 @@ use Rattle.f11_store.specs.Changes.{with_marked_file}
 use Rattle.f11_store.specs.Store.{Store}
 use Rattle.f11_files.specs.Answers.{is_grave}
 use Rattle.f11_files.specs.Open.{store_in, disk_in, home_in}
-use Rattle.f11_files.specs.StoreOf.{store_of}
+use Rattle.f11_image_store.specs.StoreOf.{store_of}
 use Rattle.f11_fcp.specs.Accesses.{Table, HasAccessed, with_marks}
 use Rattle.f11_fcp.specs.Handles.{state_of}
 use Rattle.f11_fcp.specs.Places.{table_of}

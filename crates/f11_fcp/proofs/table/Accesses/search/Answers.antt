@@ -4,7 +4,7 @@ use Rattle.f11_files.specs.Answers.{FailsToRead, is_grave}
 use Rattle.f11_files.specs.Length.{CountsBlocks}
 use Rattle.f11_files.specs.Open.{disk_in, has_failed, home_in, store_in}
 use Rattle.f11_files.specs.Operations.{file_causes}
-use Rattle.f11_files.specs.StoreOf.{store_of}
+use Rattle.f11_image_store.specs.StoreOf.{store_of}
 use Rattle.f11_home.specs.Home.{HomeFields}
 use Rattle.f11_store.specs.Cost.{header_count}
 use Rattle.f11_store.specs.Store.{file_named}

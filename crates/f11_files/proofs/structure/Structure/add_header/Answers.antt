@@ -6,7 +6,7 @@ use Rattle.f11_files.proofs.ExtensionBlockLemmas.{segment-said}
 use Rattle.f11_files.proofs.FreeingLemmas.{stays-for}
 use Rattle.f11_files.proofs.PartsLemmas.{to-parts}
 use Rattle.f11_files.proofs.GrowthPartsLemmas.{grows-linked, grows-taken, of-new}
-use Rattle.f11_files.specs.Confines.{new_header}
+use Rattle.f11_image_store.specs.Confines.{new_header}
 use Rattle.f11_files.specs.Structure.{index_in}
 use Rattle.f11_files.proofs.structure.Structure.add_header.Goals as goal
 

@@ -7,7 +7,7 @@ use Rattle.f11_files.proofs.NewHeaderLemmas.{too-many, some-free, fails-enter}
 use Rattle.std.specs.List.{range_with_len}
 use Rattle.f11_files.proofs.PartsLemmas.{to-parts}
 use Rattle.f11_files.proofs.GrowthPartsLemmas.{grows-linked, grows-taken-behind, of-new}
-use Rattle.f11_files.specs.Confines.{new_header}
+use Rattle.f11_image_store.specs.Confines.{new_header}
 use Rattle.f11_files.specs.Structure.{index_in}
 use Rattle.f11_files.proofs.structure.Structure.add_index_header.Goals as goal
 

@@ -1,5 +1,5 @@
 use Rattle.f11_files.proofs.AddRunLemmas.{fails-take, run-may, fails-append, adds-run}
-use Rattle.f11_files.proofs.PieceLemmas.{may-free}
+use Rattle.f11_store.proofs.PieceLemmas.{may-free}
 use Rattle.f11_files.proofs.TakenRunLemmas.{run-last}
 use Rattle.f11_files.proofs.AnswerLemmas.{handed}
 use Rattle.f11_files.proofs.GrowthPartsLemmas.{grows-marked, grows-then, growth-run, growth-marked}

@@ -1,6 +1,6 @@
 use Rattle.f11_files.proofs.AddSlotsLemmas.{fails-take, run-may, fails-append, adds-slots}
-use Rattle.f11_files.proofs.IndexPieceLemmas.{as-file}
-use Rattle.f11_files.proofs.PieceLemmas.{may-free}
+use Rattle.f11_store.proofs.IndexPieceLemmas.{as-file}
+use Rattle.f11_store.proofs.PieceLemmas.{may-free}
 use Rattle.f11_files.proofs.TakenRunLemmas.{run-last}
 use Rattle.f11_files.proofs.AnswerLemmas.{handed}
 use Rattle.f11_files.proofs.GrowthPartsLemmas.{grows-marked, grows-then, growth-run, run-free, growth-marked}

@@ -2,7 +2,7 @@ use Rattle.std.proofs.Common.{◌≡◌, ◌⊎◌, ◌<◌, ◌≤◌, ◌∙�
 use Rattle.f11_chain.specs.Calls.{FindsLast, ReadsNext}
 use Rattle.f11_index.specs.Table.{table_of}
 use Rattle.f11_store.specs.Changes.{is_in}
-use Rattle.f11_files.specs.Confines.{only_header}
+use Rattle.f11_image_store.specs.Confines.{only_header}
 use Rattle.f11_files.specs.Drops.{headers_behind}
 use Rattle.f11_files.specs.Structure.{home_of, index_in}
 use Rattle.f11_files.proofs.AnswerLemmas.{handed}

@@ -1,6 +1,6 @@
 use Rattle.std.proofs.Common.{◌≡◌, ◌<◌, ℕ, true, arith, refl}
 use Rattle.f11_files.proofs.FreeingLemmas.{no-run, outside-run, run-used, gives-run, fails-run, run-stays, broken-stays}
-use Rattle.f11_files.specs.Confines.{no_header}
+use Rattle.f11_image_store.specs.Confines.{no_header}
 use Rattle.f11_files.proofs.PartsLemmas.{marks-went}
 use Rattle.f11_files.proofs.structure.Structure.give_run.Goals as goal
 

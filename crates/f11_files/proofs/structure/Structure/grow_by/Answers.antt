@@ -6,7 +6,7 @@ use Rattle.f11_files.proofs.GrowingLemmas.{breaks-stays}
 use Rattle.f11_home.specs.Home.{HomeFields}
 use Rattle.f11_store.specs.Changes.{is_in}
 use Rattle.f11_volume.specs.Volume.{volume_of}
-use Rattle.f11_files.specs.Allocation.{free_list}
+use Rattle.f11_image_store.specs.Allocation.{free_list}
 use Rattle.f11_files.specs.Structure.{home_of}
 use Rattle.f11_files.proofs.PartsLemmas.{fewer-free, parts-none, to-parts}
 use Rattle.f11_files.proofs.GrowthPartsLemmas.{grows-then, growth-then}

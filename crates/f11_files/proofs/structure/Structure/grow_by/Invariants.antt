@@ -1,6 +1,6 @@
 use Rattle.std.proofs.Common.{IsTrue}
 use Rattle.f11_volume.specs.Volume.{volume_of}
-use Rattle.f11_files.specs.Allocation.{free_list}
+use Rattle.f11_image_store.specs.Allocation.{free_list}
 use Rattle.f11_files.specs.Structure.{home_of}
 use Rattle.f11_files.specs.Tail.{GrowsWithin, WritesGrowth}
 use Rattle.f11_files.proofs.GrowByLemmas.{GrowingOn}

@@ -4,7 +4,7 @@ use Rattle.f11_chain.specs.FileHeaders.{file_blocks}
 use Rattle.f11_index.specs.Table.{table_of}
 use Rattle.f11_files.specs.Structure.{home_of}
 use Rattle.f11_files.proofs.PartsLemmas.{at-in, other-failed, other-wrote, parts-looked, stands-same, stands-within, to-parts, to-then}
-use Rattle.f11_files.specs.Confines.{no_header}
+use Rattle.f11_image_store.specs.Confines.{no_header}
 use Rattle.f11_files.proofs.structure.Structure.write_block.Goals as goal
 
 pub returns-in-Ok-clause-stored : goal.returns-in-Ok-clause-stored

@@ -2,7 +2,7 @@ use Rattle.std.proofs.Common.{◌≡◌, ◌+◌, subst, arith, ℕ}
 use Rattle.f11_bytes.proofs.ResultLemmas.{OnErr-given}
 use Rattle.std.specs.List.{range_with_len}
 use Rattle.f11_dev.specs.Disk.{Disk}
-use Rattle.f11_files.specs.Confines.{no_header}
+use Rattle.f11_image_store.specs.Confines.{no_header}
 use Rattle.f11_files.specs.Structure.{home_of, ConfinesTo}
 use Rattle.f11_files.specs.declared.structure.Structure.{Structure}
 use Rattle.f11_files.proofs.LossLemmas.{in-run}

@@ -1,5 +1,0 @@
-use Rattle.f11_files.proofs.AllocationLawLemmas.{cells-named, files-named, free-counted, gains-both}
-use Rattle.f11_files.proofs.laws.allocation.Goals as goal
-
-pub returns : goal.returns
-returns c = record { cells = cells-named; files = files-named; gains = gains-both; free = free-counted }

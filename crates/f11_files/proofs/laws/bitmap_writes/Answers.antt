@@ -1,8 +1,0 @@
-use Rattle.f11_files.proofs.StoreLemmas.{fewer-free, more-free}
-use Rattle.f11_files.proofs.laws.bitmap_writes.Goals as goal
-
-pub returns-clause-used : goal.returns-clause-used
-returns-clause-used c = fewer-free
-
-pub returns-clause-free : goal.returns-clause-free
-returns-clause-free c = more-free

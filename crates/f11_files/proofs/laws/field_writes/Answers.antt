@@ -1,5 +1,0 @@
-use Rattle.f11_files.proofs.FieldLemmas.{changes-file, changes-index}
-use Rattle.f11_files.proofs.laws.field_writes.Goals as goal
-
-pub returns : goal.returns
-returns c = record { file = changes-file; index_file = changes-index }

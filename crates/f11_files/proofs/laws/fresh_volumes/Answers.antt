@@ -1,5 +1,0 @@
-use Rattle.f11_files.proofs.FreshStoreLemmas.{fresh-is-stored}
-use Rattle.f11_files.proofs.laws.fresh_volumes.Goals as goal
-
-pub returns : goal.returns
-returns c = fresh-is-stored

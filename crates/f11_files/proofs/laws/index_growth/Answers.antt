@@ -1,5 +1,0 @@
-use Rattle.f11_files.proofs.GrowthLemmas.{index-stored, index-more, index-linked}
-use Rattle.f11_files.proofs.laws.index_growth.Goals as goal
-
-pub returns : goal.returns
-returns c = record { any = index-stored; names = index-more; links = index-linked }

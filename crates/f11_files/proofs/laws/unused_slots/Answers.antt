@@ -1,5 +1,0 @@
-use Rattle.f11_files.proofs.StoreLemmas.{unused-is-empty}
-use Rattle.f11_files.proofs.laws.unused_slots.Goals as goal
-
-pub returns : goal.returns
-returns c = unused-is-empty

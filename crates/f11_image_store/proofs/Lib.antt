@@ -1,0 +1,14 @@
+pub mod AllocationLemmas
+pub mod AllocationLawLemmas
+pub mod StoreLemmas
+pub mod SlotLemmas
+pub mod InstanceLemmas
+pub mod FieldLemmas
+pub mod FileLemmas
+pub mod GrowthLemmas
+pub mod NewFileLemmas
+pub mod FreshStoreLemmas
+pub mod StepLemmas
+pub mod ExtensionLemmas
+pub mod LooseLemmas
+pub mod SparedLemmas

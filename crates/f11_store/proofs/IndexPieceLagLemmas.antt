@@ -1,0 +1,89 @@
+-- What stands while the index file of the plain store grows piece by piece lags the store before.
+use Rattle.std.proofs.Common.{◌≡◌, ℕ, suc, ◌+◌, ◌-◌, ◌≤◌, ◌==◌, ◌⊎◌, inl, inr, Bool, true, false, List, [], ◌∷◌, Option, Some, take, replicate, unwrap_or, refl, sym, ◌∙◌, ap, subst, arith, if◌then◌else◌}
+use Rattle.std.proofs.lemmas.List.{append-nil, take-replicate}
+use Rattle.f11_store.proofs.Frees.{same_limits, same_limits_then}
+use Rattle.f11_store.proofs.Growth.{alike}
+use Rattle.f11_store.proofs.LagLaws.{last_after_growth, parts_of_growth}
+use Rattle.f11_store.specs.Changes.{grown_file, is_in, next_sequence, with_change, with_grown_file, with_more_slots, MayGrow}
+use Rattle.f11_store.specs.File.{File, need, no_file}
+use Rattle.f11_store.specs.Lags.{file_changes, grow_parts, grow_work, slot_appears, with_no_mark, with_parts, AreLike, LagsBy, Part}
+use Rattle.f11_store.specs.Store.{Store, free_headers, free_slots, index_file}
+use Rattle.f11_store.specs.IndexPieces.{ClearedGrowLags, GrownLags, TakenIndexLags}
+use Rattle.f11_store.specs.Pieces.{TakesSome}
+use Rattle.f11_store.proofs.PieceLagLemmas.{cleared-work, once, takes-none}
+use Rattle.f11_store.proofs.PieceLemmas.{headers-grown, needs-add}
+use Rattle.f11_store.proofs.TakenSlotLemmas.{more-headers}
+
+-- the parts of growing by some of the slots are the first ones of growing by all
+first-slots : (n a : ℕ) → a ≤ n → take (suc a) (grow_parts n) ≡ grow_parts a
+unfolding grow_parts
+first-slots n a few = ap (λ (ps : List Part). file_changes 1 with_no_mark ∷ ps) (take-replicate a n slot_appears few)
+
+-- a slot in use or not, which had x and has v, has what y is or what comes next
+abbrev GivenOnce : Bool → ℕ → ℕ → ℕ → Type 0
+GivenOnce used v x y = (v ≡ x) ⊎ ((used ≡ false) × (v ≡ next_sequence x)) → (v ≡ y) ⊎ (v ≡ next_sequence y)
+
+given-new : (used : Bool) (v : ℕ) → GivenOnce used v 0 0
+given-new used v (inl e) = inl e
+given-new used v (inr (free, e)) = inr e
+
+-- the index file grew, and then some was taken for more
+module _ (s : Store) (n a b : ℕ) (f : File) (added pointers room : ℕ) (may : MayGrow f a added pointers room) (few : a + b ≤ n) where
+  abbrev grown : Store
+  grown = with_grown_file s 1 f a [] added pointers room
+
+  abbrev after : Store
+  after = with_more_slots grown a
+
+  parts : with_parts s (take (suc a) (grow_parts n)) ≡ record (with_change s 1 with_no_mark) { slots = s.slots + a }
+  parts = ap (with_parts s) (first-slots n a (omega (arith, few))) ∙ parts_of_growth s a
+
+  after-alike : s.file 1 ≡ Some f → (m : ℕ) → AreLike (after.file m) ((with_change s 1 with_no_mark).file m)
+  after-alike was m = rw was (by_test (m == 1) (s.file m))
+    where
+      by_test : (here : Bool) (o : Option File)
+          → AreLike (if here then Some (grown_file s f [] added pointers room) else o) (if here then Some (with_no_mark f) else o)
+      by_test true o = record { sequence = refl; owner = refl; protection = refl; characteristics = refl; ident = refl; attr = refl; blocks = append-nil f.blocks }
+      by_test false o = alike o
+
+  after-lags : (u : Store) → s.file 1 ≡ Some f → TakesSome b (need room b) after u → LagsBy (grow_work f.room n) u s
+  after-lags u was takes =
+      let need_less : added + need room b ≤ need f.room n = needs-add f n a b added pointers room may few in
+      let left : free_headers grown ≡ free_headers s - added = headers-grown s 1 a f [] added pointers room in
+      record {
+        done = suc a;
+        files = λ m.
+            subst (λ (o : Option File). AreLike o ((with_parts s (take (suc a) (grow_parts n))).file m)) (sym (takes.files m))
+            (subst (λ (x : Store). AreLike (after.file m) (x.file m)) (sym parts) (after-alike was m));
+        slots = takes.slots ∙ sym (ap (λ (x : Store). x.slots) parts);
+        others = λ m out. takes.files m ∙ ap (λ (here : Bool). if here then Some (grown_file s f [] added pointers room) else s.file m) out;
+        free_blocks = omega (arith, takes.free, few);
+        headers = omega (arith, takes.slots_free, need_less, left, more-headers grown a);
+        last = λ m h held.
+            last_after_growth (GivenOnce (grown.in_use m) (u.last m)) s.slots a m (grown.last m) (s.last m) (omega (arith, h, takes.slots))
+            (once (is_in (take added (free_slots s)) m) (s.in_use m) (s.last m) (u.last m)) (given-new (grown.in_use m) (u.last m)) (takes.last m);
+        no_header = λ e m h.
+            takes.no_header (omega (arith, need_less, e)) m
+            ∙ last_after_growth (λ x y. x ≡ y) s.slots a m (grown.last m) (s.last m) (omega (arith, h, takes.slots))
+            (ap (λ (i : ℕ). if is_in (take i (free_slots s)) m then next_sequence (s.last m) else s.last m) {x = added} {y = 0} (omega (arith, need_less, e))) refl;
+        limits = same_limits_then s after u (same_limits refl refl refl) takes.limits;
+      }
+
+pub taken-index-lags : TakenIndexLags
+taken-index-lags s t u n a b may e few takes =
+    let same : f ≡ index_file s = sym (ap (λ (o : Option File). unwrap_or o no_file) e.grows.was) in
+    let is : t ≡ with_more_slots (with_grown_file s 1 f a [] e.grows.added e.grows.pointers e.grows.room) a =
+    e.store_is ∙ ap (λ (x : Store). with_more_slots x a) e.grows.store_is in
+    subst (λ (g : File). LagsBy (grow_work g.room n) u s) same
+    (after-lags s n a b f e.grows.added e.grows.pointers e.grows.room e.grows.may_grow few u e.grows.was
+    (subst (λ (x : Store). TakesSome b (need (index_file x).room b) x u) is takes))
+  where
+    f : File
+    f = e.grows.before
+
+pub grown-lags : GrownLags
+grown-lags s t n a may e few = taken-index-lags s t t n a 0 may e (omega (arith, few)) (takes-none t (need (index_file t).room 0))
+
+pub cleared-grow-lags : ClearedGrowLags
+unfolding grow_parts
+cleared-grow-lags s t room n lags = cleared-work s t 1 (replicate n slot_appears) n (need room n) lags

@@ -1,0 +1,450 @@
+-- A file of the plain store that grows piece by piece.
+use Rattle.std.proofs.Common.{◌≡◌, ◌≢◌, ℕ, zero, suc, ◌+◌, ◌-◌, ◌*◌, ◌<◌, ◌≤◌, ◌==◌, ◌||◌, ◌⊎◌, inl, inr, Bool, true, false, List, [], ◌∷◌, ◌++◌, Option, Some, None, length, take, drop, slice_index, unwrap_or, option_map, refl, sym, ◌∙◌, ap, subst, arith, append_assoc, if◌then◌else◌, nat_lt}
+use Rattle.std.proofs.Math.Bool.{or-true}
+use Rattle.std.proofs.Math.Seq.{take-add}
+use Rattle.std.proofs.lemmas.Bool.{cases_eq, eq-eqb, le-ltb, ne_eqb}
+use Rattle.std.proofs.lemmas.Bool.Decides.{nat_tests}
+use Rattle.std.proofs.lemmas.List.{append-nil, length-append, length-drop, length-take, replicate-append-replicate}
+use Rattle.std.proofs.lemmas.Nat.{and_assoc}
+use Rattle.f11_store.proofs.Frees.{same_limits_then}
+use Rattle.f11_store.proofs.StoreLemmas.{none_first, none_rest, same_number, same-store}
+use Rattle.f11_store.specs.Causes.{first_of, growth_causes}
+use Rattle.f11_store.specs.Changes.{grown_file, is_in, next_sequence, with_change, with_grown_file, with_slots, Extends, Grows, MayGrow}
+use Rattle.f11_store.specs.File.{File, need, no_file, without_contiguous, zero_block, zero_blocks}
+use Rattle.f11_store.specs.Lags.{with_no_mark}
+use Rattle.f11_store.specs.Store.{Store, free_headers, free_slots, least_free}
+use Rattle.f11_store.specs.declared.refusals.Refusal.TheVariants.{DeviceFull, NoHeader, TooManySegments}
+use Rattle.f11_store.specs.Pieces.{with_more_free, with_more_blocks, file_numbered, ClearedExtends, ClearedMayExtend, ExtensionsAdd, FewerMayExtend, MayExtend, NoneIsExtended, OthersMayExtend, TakingAdds, with_zeros_more}
+use Rattle.f11_store.proofs.TakenSlotLemmas.{both-in, free-left, used-none}
+
+-- the contiguous mark that was cleared is clear
+pub cleared-twice : (c : ℕ) → without_contiguous (without_contiguous c) ≡ without_contiguous c
+cleared-twice c = and_assoc 65407 c 65407
+
+-- room for n more blocks of a file: in its segments, on the volume, and in the index file
+pub record HasRoom (s : Store) (f : File) (n : ℕ) : Type 0 where
+  pub segments : length f.held + need f.room n ≤ 256
+  pub blocks : n ≤ s.free
+  pub headers : need f.room n ≤ free_headers s
+
+not-more : (a b : ℕ) → nat_lt a b ≡ false → b ≤ a
+not-more a b h = grind (arith, nat_tests)
+
+pub has-room : (s : Store) (f : File) (n : ℕ) → first_of (growth_causes s f n) ≡ None → HasRoom s f n
+has-room s f n h =
+    let first = none_rest (nat_lt 256 (length f.held + need f.room n)) TooManySegments _ h in
+    let second = none_rest (nat_lt s.free n) DeviceFull _ first in
+    record {
+      segments = not-more 256 (length f.held + need f.room n) (none_first _ TooManySegments _ h);
+      blocks = not-more s.free n (none_first _ DeviceFull _ first);
+      headers = not-more (free_headers s) (need f.room n) (none_first _ NoHeader _ second);
+    }
+
+no-cause : (s : Store) (f : File) (n : ℕ) → HasRoom s f n → first_of (growth_causes s f n) ≡ None
+no-cause s f n has =
+    λ i. if le-ltb 256 (length f.held + need f.room n) has.segments i then Some TooManySegments
+    else if le-ltb s.free n has.blocks i then Some DeviceFull
+    else if le-ltb (free_headers s) (need f.room n) has.headers i then Some NoHeader
+    else None
+
+-- the free headers once some were added
+free-grown :
+    (s : Store) (k n : ℕ) (f : File) (blocks : List (List ℕ)) (added pointers room : ℕ) →
+    free_slots (with_grown_file s k f n blocks added pointers room) ≡ drop added (free_slots s)
+free-grown s k n f blocks added pointers room = free-left s (with_grown_file s k f n blocks added pointers room) added refl refl
+
+pub headers-grown :
+    (s : Store) (k n : ℕ) (f : File) (blocks : List (List ℕ)) (added pointers room : ℕ) →
+    free_headers (with_grown_file s k f n blocks added pointers room) ≡ free_headers s - added
+headers-grown s k n f blocks added pointers room = ap length (free-grown s k n f blocks added pointers room) ∙ length-drop added (free_slots s)
+
+-- n blocks need no fewer headers than some of them and the others
+pub needs-add : (f : File) (n a b added pointers room : ℕ) → MayGrow f a added pointers room → a + b ≤ n → added + need room b ≤ need f.room n
+needs-add f n a b zero pointers room may h = omega (arith, may.no_more, may.no_fewer, may.places, h)
+needs-add f n a b (suc m) pointers room may h =
+    let filled : room ≤ 101 = may.filled (omega arith) in
+    omega (arith, may.headers, may.no_more, may.no_fewer, may.places, filled, h)
+
+-- a file that grows twice: what it has then
+file-twice :
+    (s : Store) (k a : ℕ) (f : File) (one two : List (List ℕ)) (added pointers room more pointers' room' : ℕ) →
+    grown_file (with_grown_file s k f a one added pointers room) (grown_file s f one added pointers room) two more pointers' room'
+    ≡ grown_file s f (one ++ two) (added + more) pointers' room'
+file-twice s k a f one two added pointers room more pointers' room' = λ i. record (grown_file s f (one ++ two) (added + more) pointers' room') {
+  characteristics = cleared-twice f.characteristics i;
+  held = held i;
+  blocks = append_assoc f.blocks one two i;
+}
+  where
+    free : List ℕ
+    free = free_slots s
+
+    held : (f.held ++ take added free) ++ take more (free_slots (with_grown_file s k f a one added pointers room)) ≡ f.held ++ take (added + more) free
+    held =
+        append_assoc f.held (take added free) _
+        ∙ ap (λ (l : List ℕ). f.held ++ (take added free ++ take more l)) (free-grown s k a f one added pointers room)
+        ∙ ap (λ (l : List ℕ). f.held ++ l) (sym (take-add added more free))
+
+-- and the store
+grown-twice :
+    (s : Store) (k a b : ℕ) (f : File) (one two : List (List ℕ)) (added pointers room more pointers' room' : ℕ) →
+    with_grown_file (with_grown_file s k f a one added pointers room) k (grown_file s f one added pointers room) b two more pointers' room'
+    ≡ with_grown_file s k f (a + b) (one ++ two) (added + more) pointers' room'
+grown-twice s k a b f one two added pointers room more pointers' room' =
+    same-store
+    (with_grown_file t k (grown_file s f one added pointers room) b two more pointers' room')
+    (with_grown_file s k f (a + b) (one ++ two) (added + more) pointers' room')
+    (λ n. two_writes (n == k) (s.file n)) (omega arith) refl
+    (λ n. two_marks _ _ (s.in_use n) ∙ ap (λ (b : Bool). b || s.in_use n) (whole n))
+    (λ n. two_numbers _ _ (s.last n) (apart n) ∙ ap (λ (b : Bool). if b then next_sequence (s.last n) else s.last n) (whole n))
+    refl refl refl refl
+  where
+    t : Store
+    t = with_grown_file s k f a one added pointers room
+
+    slots : List ℕ
+    slots = free_slots s
+
+    whole : (n : ℕ) → (is_in (take added slots) n || is_in (take more (free_slots t)) n) ≡ is_in (take (added + more) slots) n
+    whole n =
+        ap (λ (l : List ℕ). is_in (take added slots) n || is_in (take more l) n) (free-grown s k a f one added pointers room)
+        ∙ sym (both-in slots added more n)
+
+    apart : (n : ℕ) → is_in (take added slots) n ≡ true → is_in (take more (free_slots t)) n ≡ false
+    apart n e = used-none t more n (ap (λ (b : Bool). b || s.in_use n) e)
+
+    two_writes : (here : Bool) (o : Option File) →
+        (if here then Some (grown_file t (grown_file s f one added pointers room) two more pointers' room')
+        else if here then Some (grown_file s f one added pointers room) else o)
+        ≡ (if here then Some (grown_file s f (one ++ two) (added + more) pointers' room') else o)
+    two_writes true o = ap Some (file-twice s k a f one two added pointers room more pointers' room')
+    two_writes false o = refl
+
+    two_marks : (x y z : Bool) → (y || (x || z)) ≡ ((x || y) || z)
+    two_marks true y z = or-true y
+    two_marks false y z = refl
+
+    two_numbers : (x y : Bool) (l : ℕ) → (x ≡ true → y ≡ false) →
+        (if y then next_sequence (if x then next_sequence l else l) else if x then next_sequence l else l)
+        ≡ (if x || y then next_sequence l else l)
+    two_numbers true y l h = ap (λ (b : Bool). if b then next_sequence (next_sequence l) else next_sequence l) (h refl)
+    two_numbers false y l h = refl
+
+-- by no block
+grown-none :
+    (s : Store) (k : ℕ) (f : File) → s.file k ≡ Some f → without_contiguous f.characteristics ≡ f.characteristics →
+    s ≡ with_grown_file s k f 0 [] 0 f.pointers f.room
+grown-none s k f was clear =
+    same-store s (with_grown_file s k f 0 [] 0 f.pointers f.room)
+    (λ n. by_number n (cases_eq n k)) (omega arith) refl (λ n. refl) (λ n. refl) refl refl refl refl
+  where
+    same : f ≡ grown_file s f [] 0 f.pointers f.room
+    same = λ i. record f { characteristics = sym clear i; held = sym (append-nil f.held) i; blocks = sym (append-nil f.blocks) i }
+
+    by_number : (n : ℕ) → (n ≡ k) ⊎ (n ≢ k) → s.file n ≡ (if n == k then Some (grown_file s f [] 0 f.pointers f.room) else s.file n)
+    by_number n (inl e) =
+        ap s.file e ∙ was ∙ ap Some same
+        ∙ sym (ap (λ (b : Bool). if b then Some (grown_file s f [] 0 f.pointers f.room) else s.file n) (eq-eqb n k e))
+    by_number n (inr e) = sym (ap (λ (b : Bool). if b then Some (grown_file s f [] 0 f.pointers f.room) else s.file n) (ne_eqb n k e))
+
+pub none-grows : (s : Store) (k n : ℕ) → MayExtend s k n → Grows s k 0 [] s
+none-grows s k n may = record {
+  before = file_numbered s k;
+  added = 0;
+  pointers = (file_numbered s k).pointers;
+  room = (file_numbered s k).room;
+  was = may.is_file;
+  may_grow = record { headers = omega arith; no_fewer = omega arith; no_more = omega arith; places = omega arith; filled = λ some. omega (arith, some) };
+  store_is = grown-none s k (file_numbered s k) may.is_file may.no_mark;
+}
+
+pub none-extended : NoneIsExtended
+unfolding zero_blocks
+none-extended s k n may = none-grows s k n may
+
+-- a file that may grow is one without the mark and with room
+pub may-extend : (s : Store) (k n : ℕ) (f : File) → s.file k ≡ Some f → without_contiguous f.characteristics ≡ f.characteristics → HasRoom s f n → MayExtend s k n
+may-extend s k n f was clear has =
+    let same : f ≡ file_numbered s k = sym (ap (λ (o : Option File). unwrap_or o no_file) was) in
+    record {
+      is_file = was ∙ ap Some same;
+      no_mark = subst (λ (g : File). without_contiguous g.characteristics ≡ g.characteristics) same clear;
+      no_cause = subst (λ (g : File). first_of (growth_causes s g n) ≡ None) same (no-cause s f n has);
+    }
+
+pub may-free : (s : Store) (k n : ℕ) → MayExtend s k n → n ≤ s.free
+may-free s k n may = (has-room s (file_numbered s k) n may.no_cause).blocks
+
+pub fewer-may : FewerMayExtend
+fewer-may s k n m may few =
+    let has = has-room s (file_numbered s k) n may.no_cause in
+    may-extend s k m (file_numbered s k) may.is_file may.no_mark (record {
+      segments = omega (arith, has.segments, few);
+      blocks = omega (arith, has.blocks, few);
+      headers = omega (arith, has.headers, few);
+    })
+
+-- what has room for n blocks more has, after some of them, for the others
+room-then :
+    (s : Store) (k n a : ℕ) (f : File) (blocks : List (List ℕ)) (added pointers room : ℕ) → HasRoom s f n → MayGrow f a added pointers room → a ≤ n →
+    HasRoom (with_grown_file s k f a blocks added pointers room) (grown_file s f blocks added pointers room) (n - a)
+room-then s k n a f blocks added pointers room has may few =
+    let need_less : added + need room (n - a) ≤ need f.room n = needs-add f n a (n - a) added pointers room may (omega (arith, few)) in
+    record {
+      segments = omega (arith, has.segments, need_less, length-append f.held (take added (free_slots s)), length-take added (free_slots s));
+      blocks = omega (arith, has.blocks, few);
+      headers = omega (arith, has.headers, need_less, headers-grown s k a f blocks added pointers room);
+    }
+
+pub others-may-grow :
+    (s t : Store) (k n a : ℕ) (blocks : List (List ℕ)) → MayExtend s k n → Grows s k a blocks t → a ≤ n → MayExtend t k (n - a)
+others-may-grow s t k n a blocks may e few =
+    let same : file_numbered s k ≡ e.before = ap (λ (o : Option File). unwrap_or o no_file) e.was in
+    let has : HasRoom s e.before n = subst (λ (g : File). HasRoom s g n) same (has-room s (file_numbered s k) n may.no_cause) in
+    subst (λ (x : Store). MayExtend x k (n - a)) (sym e.store_is)
+    (may-extend (with_grown_file s k e.before a blocks e.added e.pointers e.room) k (n - a)
+    (grown_file s e.before blocks e.added e.pointers e.room)
+    (ap (λ (b : Bool). if b then Some (grown_file s e.before blocks e.added e.pointers e.room) else s.file k) (same_number k))
+    (cleared-twice e.before.characteristics)
+    (room-then s k n a e.before blocks e.added e.pointers e.room has e.may_grow few))
+
+pub others-may : OthersMayExtend
+others-may s t k n a may e few = others-may-grow s t k n a (zero_blocks a) may e few
+
+-- two pieces are one
+may-twice :
+    (f g : File) (a b added pointers room more pointers' room' : ℕ) → MayGrow f a added pointers room → g.pointers ≡ pointers → g.room ≡ room →
+    MayGrow g b more pointers' room' → MayGrow f (a + b) (added + more) pointers' room'
+may-twice f g a b added pointers room more pointers' room' one pointers_are room_is two = record {
+  headers = by_number (added + more) refl;
+  no_fewer = omega (arith, one.no_fewer, two.no_fewer, pointers_are);
+  no_more = omega (arith, one.no_more, two.no_more, pointers_are);
+  places = places;
+  filled = filled;
+}
+  where
+    places : pointers' + room' ≡ f.pointers + f.room + 102 * (added + more)
+    places = omega (arith, one.places, two.places, pointers_are, room_is)
+
+    filled : 0 < added + more → room' ≤ 101
+    filled some = by_more more refl some
+      where
+        by_more : (m : ℕ) → more ≡ m → 0 < added + more → room' ≤ 101
+        by_more zero e some =
+            let first : room ≤ 101 = one.filled (omega (arith, some, e)) in omega (arith, first, e, two.places, two.no_fewer, pointers_are, room_is)
+        by_more (suc m) e some = two.filled (omega (arith, e))
+
+    by_number : (n : ℕ) → added + more ≡ n → added + more ≤ need f.room (a + b)
+    by_number zero e = omega (arith, e)
+    by_number (suc n) e =
+        let last : room' ≤ 101 = filled (omega (arith, e)) in
+        omega (arith, places, last, one.no_more, two.no_more, pointers_are)
+
+-- what a file has that grew, as one that grows again
+pub grown-before :
+    (s t u : Store) (k a b : ℕ) (blocks more : List (List ℕ)) (one : Grows s k a blocks t) (two : Grows t k b more u) →
+    two.before ≡ grown_file s one.before blocks one.added one.pointers one.room
+grown-before s t u k a b blocks more one two =
+    let grown : File = grown_file s one.before blocks one.added one.pointers one.room in
+    let now : t.file k ≡ Some grown =
+    ap (λ (x : Store). x.file k) one.store_is ∙ ap (λ (b : Bool). if b then Some grown else s.file k) (same_number k) in
+    ap (λ (o : Option File). unwrap_or o no_file) (sym two.was ∙ now)
+
+pub grows-add :
+    (s t u : Store) (k a b : ℕ) (blocks more : List (List ℕ)) (one : Grows s k a blocks t) (two : Grows t k b more u) →
+    (whole : Grows s k (a + b) (blocks ++ more) u) × (whole.added ≡ one.added + two.added)
+grows-add s t u k a b blocks more one two =
+    let same = grown-before s t u k a b blocks more one two in (
+      record {
+        before = one.before;
+        added = one.added + two.added;
+        pointers = two.pointers;
+        room = two.room;
+        was = one.was;
+        may_grow =
+            may-twice one.before two.before a b one.added one.pointers one.room two.added two.pointers two.room one.may_grow
+            (ap (λ (f : File). f.pointers) same) (ap (λ (f : File). f.room) same) two.may_grow;
+        store_is =
+            two.store_is
+            ∙ (λ i. with_grown_file (one.store_is i) k (same i) b more two.added two.pointers two.room)
+            ∙ grown-twice s k a b one.before blocks more one.added one.pointers one.room two.added two.pointers two.room;
+      },
+      refl,
+    )
+
+zeros-add : (a b : ℕ) → zero_blocks a ++ zero_blocks b ≡ zero_blocks (a + b)
+unfolding zero_blocks
+zeros-add a b = replicate-append-replicate a b zero_block
+
+pub extensions-add : ExtensionsAdd
+extensions-add s t u k a b one two =
+    subst (λ (blocks : List (List ℕ)). (whole : Grows s k (a + b) blocks u) × (whole.added ≡ one.added + two.added)) (zeros-add a b)
+    (grows-add s t u k a b (zero_blocks a) (zero_blocks b) one two)
+
+-- what a store has whose file's mark is cleared
+pub free-cleared : (s : Store) (k : ℕ) → free_slots (with_change s k with_no_mark) ≡ free_slots s
+unfolding free_slots
+free-cleared s k = refl
+
+changed-is : (s : Store) (k : ℕ) (change : File → File) (f : File) → s.file k ≡ Some f → (with_change s k change).file k ≡ Some (change f)
+changed-is s k change f was =
+    ap (λ (b : Bool). if b then option_map change (s.file k) else s.file k) (same_number k) ∙ ap (option_map change) was
+
+pub cleared-may : ClearedMayExtend
+cleared-may s k n was h =
+    let f = file_numbered s k in
+    let has = has-room s f n h in
+    let left : free_headers (with_change s k with_no_mark) ≡ free_headers s = ap length (free-cleared s k) in
+    may-extend (with_change s k with_no_mark) k n (with_no_mark f) (changed-is s k with_no_mark f was) (cleared-twice f.characteristics) (record {
+      segments = has.segments;
+      blocks = has.blocks;
+      headers = omega (arith, has.headers, left);
+    })
+
+-- a file whose mark was cleared first is like one that grows at once
+grown-cleared :
+    (s : Store) (k n : ℕ) (f : File) (blocks : List (List ℕ)) (added pointers room : ℕ) →
+    with_grown_file (with_change s k with_no_mark) k (with_no_mark f) n blocks added pointers room ≡ with_grown_file s k f n blocks added pointers room
+unfolding free_slots
+grown-cleared s k n f blocks added pointers room =
+    same-store
+    (with_grown_file (with_change s k with_no_mark) k (with_no_mark f) n blocks added pointers room)
+    (with_grown_file s k f n blocks added pointers room)
+    (λ m. two_writes (m == k) (s.file m)) refl refl (λ m. refl) (λ m. refl) refl refl refl refl
+  where
+    same : grown_file (with_change s k with_no_mark) (with_no_mark f) blocks added pointers room ≡ grown_file s f blocks added pointers room
+    same = λ i. record (grown_file s f blocks added pointers room) { characteristics = cleared-twice f.characteristics i }
+
+    two_writes : (here : Bool) (o : Option File) →
+        (if here then Some (grown_file (with_change s k with_no_mark) (with_no_mark f) blocks added pointers room)
+        else if here then option_map with_no_mark (s.file k) else o)
+        ≡ (if here then Some (grown_file s f blocks added pointers room) else o)
+    two_writes true o = ap Some same
+    two_writes false o = refl
+
+pub cleared-then :
+    (s t : Store) (k n : ℕ) (blocks : List (List ℕ)) → s.file k ≡ Some (file_numbered s k) → (one : Grows (with_change s k with_no_mark) k n blocks t) →
+    (whole : Grows s k n blocks t) × (whole.added ≡ one.added)
+cleared-then s t k n blocks was one =
+    let f = file_numbered s k in
+    let same : one.before ≡ with_no_mark f = ap (λ (o : Option File). unwrap_or o no_file) (sym one.was ∙ changed-is s k with_no_mark f was) in
+    let may : MayGrow (with_no_mark f) n one.added one.pointers one.room = subst (λ (g : File). MayGrow g n one.added one.pointers one.room) same one.may_grow in (
+      record {
+        before = f;
+        added = one.added;
+        pointers = one.pointers;
+        room = one.room;
+        was = was;
+        may_grow = record { headers = may.headers; no_fewer = may.no_fewer; no_more = may.no_more; places = may.places; filled = may.filled };
+        store_is =
+            one.store_is
+            ∙ ap (λ (g : File). with_grown_file (with_change s k with_no_mark) k g n blocks one.added one.pointers one.room) same
+            ∙ grown-cleared s k n f blocks one.added one.pointers one.room;
+      },
+      refl,
+    )
+
+pub cleared-extends : ClearedExtends
+cleared-extends s t k n was one = cleared-then s t k n (zero_blocks n) was one
+
+-- a change of a file that is there, seen where it is
+changed-as : (s : Store) (k m : ℕ) (change : File → File) (f g : File) → s.file k ≡ Some f → change f ≡ g
+    → (if m == k then option_map change (s.file k) else s.file m) ≡ (if m == k then Some g else s.file m)
+changed-as s k m change f g was is = ap (λ (o : Option File). if m == k then o else s.file m) (ap (option_map change) was ∙ ap Some is)
+
+-- a file whose last header names n blocks more
+pub named-grows :
+    (s : Store) (k count more : ℕ) (blocks : List (List ℕ)) → MayExtend (with_more_free s count) k count → 0 < count → more ≤ 1 → more ≤ (file_numbered s k).room →
+    (e : Grows (with_more_free s count) k count blocks (with_change s k (with_more_blocks more blocks))) × (e.added ≡ 0)
+named-grows s k count more blocks may some one fits = (
+  record {
+    before = f;
+    added = 0;
+    pointers = f.pointers + more;
+    room = f.room - more;
+    was = may.is_file;
+    may_grow = record { headers = omega arith; no_fewer = omega arith; no_more = omega (arith, one, some); places = omega (arith, fits); filled = λ none. omega (arith, none) };
+    store_is =
+        same-store (with_change s k (with_more_blocks more blocks)) (with_grown_file (with_more_free s count) k f count blocks 0 (f.pointers + more) (f.room - more))
+        (λ m. changed-as s k m (with_more_blocks more blocks) f _ may.is_file same)
+        (omega arith) refl (λ m. refl) (λ m. refl) refl refl refl refl;
+  },
+  refl,
+)
+  where
+    f : File
+    f = file_numbered s k
+
+    same : with_more_blocks more blocks f ≡ grown_file (with_more_free s count) f blocks 0 (f.pointers + more) (f.room - more)
+    same = λ i. record (with_more_blocks more blocks f) { characteristics = sym may.no_mark i; held = sym (append-nil f.held) i }
+
+pub named-extends :
+    (s : Store) (k count more : ℕ) → MayExtend (with_more_free s count) k count → 0 < count → more ≤ 1 → more ≤ (file_numbered s k).room →
+    (e : Extends (with_more_free s count) k count (with_zeros_more k more count s)) × (e.added ≡ 0)
+named-extends s k count more may some one fits = named-grows s k count more (zero_blocks count) may some one fits
+
+-- the first of some slots is the least
+first-is : (slots : List ℕ) → 1 ≤ length slots → take 1 slots ≡ slice_index slots 0 ∷ []
+first-is [] h = absurd (omega (arith, h))
+first-is (n ∷ ns) h = refl
+
+-- a file with header m more, which names these blocks by one pointer
+abbrev pub with_linked : ℕ → List (List ℕ) → File → File
+with_linked m blocks f = record f { held = f.held ++ m ∷ []; pointers = f.pointers + 1; room = 101; blocks = f.blocks ++ blocks }
+
+pub linked-grows :
+    (s : Store) (k count m : ℕ) (blocks : List (List ℕ)) → MayExtend (with_more_free s count) k count → 0 < count → (file_numbered s k).room ≡ 0 → m ≡ least_free s →
+    (e : Grows (with_more_free s count) k count blocks (with_change (with_slots s (m ∷ [])) k (with_linked m blocks))) × (e.added ≡ 1)
+unfolding free_slots
+linked-grows s k count m blocks may some full least = (
+  record {
+    before = f;
+    added = 1;
+    pointers = f.pointers + 1;
+    room = 101;
+    was = may.is_file;
+    may_grow = record { headers = omega (arith, some, full); no_fewer = omega arith; no_more = omega (arith, some); places = omega (arith, full); filled = λ added. omega arith };
+    store_is =
+        same-store (with_change (with_slots s (m ∷ [])) k (with_linked m blocks))
+        (with_grown_file (with_more_free s count) k f count blocks 1 (f.pointers + 1) 101)
+        (λ n. changed-as s k n (with_linked m blocks) f _ may.is_file same)
+        (omega arith) refl
+        (λ n. ap (λ (l : List ℕ). is_in l n || s.in_use n) (sym taken))
+        (λ n. ap (λ (l : List ℕ). if is_in l n then next_sequence (s.last n) else s.last n) (sym taken))
+        refl refl refl refl;
+  },
+  refl,
+)
+  where
+    f : File
+    f = file_numbered s k
+
+    taken : take 1 (free_slots (with_more_free s count)) ≡ m ∷ []
+    taken =
+        first-is (free_slots s) (let has = has-room (with_more_free s count) f count may.no_cause in omega (arith, has.headers, some, full))
+        ∙ ap (λ (n : ℕ). n ∷ []) (sym least)
+
+    same : with_linked m blocks f ≡ grown_file (with_more_free s count) f blocks 1 (f.pointers + 1) 101
+    same = λ i. record (with_linked m blocks f) { characteristics = sym may.no_mark i; held = f.held ++ sym taken i }
+
+pub linked-extends :
+    (s : Store) (k count m : ℕ) → MayExtend (with_more_free s count) k count → 0 < count → (file_numbered s k).room ≡ 0 → m ≡ least_free s →
+    (e : Extends (with_more_free s count) k count (with_change (with_slots s (m ∷ [])) k (with_linked m (zero_blocks count)))) × (e.added ≡ 1)
+linked-extends s k count m may some full least = linked-grows s k count m (zero_blocks count) may some full least
+
+pub taking-adds : TakingAdds
+taking-adds s t u a b h first second = record {
+  files = λ n. second.files n ∙ first.files n;
+  free = omega (arith, first.free, second.free);
+  unused = λ n e. first.unused n (second.unused n e);
+  slots_free = omega (arith, first.slots_free, second.slots_free);
+  last = λ n. later n (second.last n);
+  no_header = λ e n. second.no_header e n ∙ first.no_header refl n;
+  slots = second.slots ∙ first.slots;
+  limits = same_limits_then s t u first.limits second.limits;
+}
+  where
+    later : (n : ℕ) → (u.last n ≡ t.last n) ⊎ ((t.in_use n ≡ false) × (u.last n ≡ next_sequence (t.last n)))
+        → (u.last n ≡ s.last n) ⊎ ((s.in_use n ≡ false) × (u.last n ≡ next_sequence (s.last n)))
+    later n (inl e) = inl (e ∙ first.no_header refl n)
+    later n (inr (free, e)) = inr (first.unused n free, e ∙ ap next_sequence (first.no_header refl n))
