@@ -9,7 +9,7 @@ use Rattle.f11_dev.proofs.LookedLemmas.{looked_none, looked_read, looked_within}
 use Rattle.f11_header.specs.Header.{IsHeader}
 use Rattle.f11_index.specs.IndexFile.{Index, is_in_use, header_lbn}
 use Rattle.f11_index.specs.Table.{Table, table_in, LinksRightly}
-use Rattle.f11_index.specs.HeaderBlock.{segment_number, link_of}
+use Rattle.f11_map.specs.HeaderBlock.{segment_number, link_of}
 use Rattle.f11_index.proofs.SegmentLemmas.{table-bytes}
 use Rattle.f11_chain.specs.Calls.{ReadsHeader, FindsWrongLink, IsNextOf, table}
 

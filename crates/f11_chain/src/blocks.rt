@@ -5,11 +5,11 @@ ghost use Rattle.f11_index.specs.IndexFile.{slots};
 ghost use Rattle.f11_index.specs.Kept.{index_kept, LiesWithin};
 
 use crate::fault::ChainFault;
-use crate::header::{lbn_of, len_blocks, segment};
 use crate::step::{first, next};
 use f11_bytes::{BLOCK_SIZE, Block};
 use f11_dev::Device;
 use f11_index::IndexFile;
+use f11_map::in_hand::{lbn_of, len_blocks, segment};
 
 /// How many headers a file has at most (profile).
 const MOST_HEADERS: u16 = 256;

@@ -7,11 +7,9 @@
 
 mod blocks;
 mod fault;
-mod header;
 pub mod laws;
 mod step;
 
 pub use blocks::{FileEnd, Place, last, last_from, locate, seek};
 pub use fault::ChainFault;
-pub use header::lbn_of;
 pub use step::{first, next};

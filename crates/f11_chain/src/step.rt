@@ -2,19 +2,27 @@
 ghost use Rattle.std.specs.Prelude.{◌≡◌, ◌<◌, ◌≤◌, length, IsTrue, IfOk, IfSome, IfNone, IsOk, IsErrOf, OnOk, OnErr};
 ghost use Rattle.f11_chain.specs.Calls.{HoldsFirst, ReadsHeader, ReadsFirst, FindsNoFile, ReadsNext, FindsLast, FindsWrongLink, FailsToReadNext};
 ghost use Rattle.f11_dev.specs.Looked.{Looked};
+ghost use Rattle.f11_header.specs.Fields.{file_sequence};
 ghost use Rattle.f11_header.specs.Header.{holds_header};
 ghost use Rattle.f11_index.specs.IndexFile.{slots};
 ghost use Rattle.f11_index.specs.Kept.{index_kept, LiesWithin};
 
 use crate::fault::ChainFault;
-use crate::header::{link, segment, sequence};
 use f11_bytes::Block;
 use f11_dev::{Device, DeviceFault};
-use f11_header::check;
+use f11_header::{Header, check};
 use f11_index::IndexFile;
+use f11_map::in_hand::{link, segment};
 
 /// The greatest segment number: a header that has it has no next one.
 const LAST_SEGMENT: u8 = 255;
+
+/// The sequence number of a header.
+fn sequence(block: &Block) -> u16
+    ensures { result ≡ file_sequence block.now }
+{
+    Header::new(block).id().sequence
+}
 
 /// Reads the first header of file `n` into the block: it is valid, in use, and has segment number 0. One transfer at most.
 ///

@@ -8,7 +8,7 @@ use Rattle.f11_dev.specs.Image.{Image}
 use Rattle.f11_dev.specs.Went.{Went}
 use Rattle.f11_dev.proofs.WentLemmas.{went_more, went_weaker}
 use Rattle.f11_home.specs.Home.{HomeFields}
-use Rattle.f11_index.specs.HeaderBlock.{segment_number, blocks_named}
+use Rattle.f11_map.specs.HeaderBlock.{segment_number, blocks_named}
 use Rattle.f11_index.specs.Headers.{IsLastOf}
 use Rattle.f11_index.specs.Kept.{room}
 use Rattle.f11_index.specs.Table.{Table, table_of, IsLive}

@@ -13,7 +13,7 @@ use Rattle.f11_header.proofs.AreaLemmas.{changes-with_word, word-kept}
 use Rattle.f11_home.specs.Home.{HomeFields}
 use Rattle.f11_index.specs.Calls.{SetsBit, HasBitWritten, WritesBit, FailsToWriteBit, with_bitmap_block}
 use Rattle.f11_index.specs.Growth.{with_header}
-use Rattle.f11_index.specs.HeaderBlock.{blocks_named}
+use Rattle.f11_map.specs.HeaderBlock.{blocks_named}
 use Rattle.f11_index.specs.IndexFile.{Index, index_of, slots, header_lbn}
 use Rattle.f11_index.specs.Table.{Table, table_of, last_sequence, IsLive, IsFile, first, next}
 use Rattle.f11_index.specs.Kept.{index_kept}

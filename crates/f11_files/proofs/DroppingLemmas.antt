@@ -9,7 +9,7 @@ use Rattle.f11_dev.proofs.WentLemmas.{went_looked, went_within}
 use Rattle.f11_header.specs.Header.{holds_header}
 use Rattle.f11_header.specs.Writing.{dead_header}
 use Rattle.f11_home.specs.Home.{HomeFields}
-use Rattle.f11_index.specs.HeaderBlock.{segment_number, link_of, blocks_named}
+use Rattle.f11_map.specs.HeaderBlock.{segment_number, link_of, blocks_named}
 use Rattle.f11_index.specs.IndexFile.{index_of}
 use Rattle.f11_index.specs.Table.{Table, table_of, IsLive}
 use Rattle.f11_index.proofs.HeadersLemmas.{live-some}

@@ -15,7 +15,7 @@ use Rattle.f11_home.specs.Home.{HomeFields}
 use Rattle.f11_chain.specs.Calls.{HoldsHeader}
 use Rattle.f11_chain.proofs.StepLemmas.{table-in_use}
 use Rattle.f11_index.specs.Calls.{SetsBit, HasBitWritten, WritesBit, FailsToWriteBit, bitmap_place, bitmap_block, with_bitmap_block}
-use Rattle.f11_index.specs.HeaderBlock.{segment_number, link_of}
+use Rattle.f11_map.specs.HeaderBlock.{segment_number, link_of}
 use Rattle.f11_index.specs.IndexFile.{Index, index_of, index_file, is_in_use, header_lbn, slots, free_slots as free_in_index}
 use Rattle.f11_index.specs.Kept.{index_kept, room}
 use Rattle.f11_index.specs.Slots.{IsLeastFree}

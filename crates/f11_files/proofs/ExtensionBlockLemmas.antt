@@ -8,7 +8,7 @@ use Rattle.f11_header.specs.MapFields.{places, segment as segment_in}
 use Rattle.f11_map.specs.InHand.{AppendsBlocks}
 use Rattle.f11_map.specs.MapArea.{blocks_in, runs_of}
 use Rattle.f11_map.specs.MapWriting.{with_blocks}
-use Rattle.f11_index.specs.HeaderBlock.{segment_number, link_of, blocks_named}
+use Rattle.f11_map.specs.HeaderBlock.{segment_number, link_of, blocks_named}
 use Rattle.f11_store.specs.declared.files.FileId.{FileId}
 use Rattle.f11_files.specs.Extension.{IsExtension}
 use Rattle.f11_image_store.specs.FileLaws.{pointers_in}

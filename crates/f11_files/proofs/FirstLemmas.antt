@@ -8,7 +8,7 @@ use Rattle.f11_dev.proofs.LookedLemmas.{looked_read}
 use Rattle.f11_header.specs.Fields.{map_area}
 use Rattle.f11_header.specs.MapFields.{segment}
 use Rattle.f11_header.specs.Header.{IsHeader, IsDead}
-use Rattle.f11_index.specs.HeaderBlock.{segment_number}
+use Rattle.f11_map.specs.HeaderBlock.{segment_number}
 use Rattle.f11_index.specs.IndexFile.{Index, is_in_use, header_lbn}
 use Rattle.f11_index.specs.Table.{Table, table_in, table_of}
 use Rattle.f11_index.proofs.InUseLemmas.{header-within, in_use-some, in_use-slot}

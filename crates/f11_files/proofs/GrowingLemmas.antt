@@ -5,7 +5,7 @@ use Rattle.f11_dev.specs.Image.{Image}
 use Rattle.f11_dev.specs.Went.{Went}
 use Rattle.f11_dev.proofs.WentLemmas.{went_last, went_more, went_weaker}
 use Rattle.f11_home.specs.Home.{HomeFields}
-use Rattle.f11_index.specs.HeaderBlock.{segment_number}
+use Rattle.f11_map.specs.HeaderBlock.{segment_number}
 use Rattle.f11_index.specs.Table.{Table, table_of}
 use Rattle.f11_index.proofs.ChainLemmas.{file_of-header}
 use Rattle.f11_store.specs.Changes.{Extends}

@@ -8,7 +8,7 @@ use Rattle.f11_dev.specs.Disk.{Disk}
 use Rattle.f11_dev.specs.Image.{Image}
 use Rattle.f11_index.proofs.HeadersLemmas.{header-placed}
 use Rattle.f11_index.specs.Calls.{SetsBit}
-use Rattle.f11_index.specs.HeaderBlock.{segment_number, link_of}
+use Rattle.f11_map.specs.HeaderBlock.{segment_number, link_of}
 use Rattle.f11_index.specs.Headers.{headers_of}
 use Rattle.f11_index.specs.IndexFile.{Index, slot_bit, bit_of_slot}
 use Rattle.f11_index.specs.Kept.{index_kept}

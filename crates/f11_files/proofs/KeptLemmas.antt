@@ -10,7 +10,7 @@ use Rattle.f11_dev.proofs.LookedLemmas.{looked_more, looked_within}
 use Rattle.f11_header.specs.Fields.{HeaderFields, header_fields, map_area}
 use Rattle.f11_header.specs.Header.{holds_header}
 use Rattle.f11_header.proofs.HeaderFacts.{header_in-held}
-use Rattle.f11_index.specs.HeaderBlock.{segment_number, link_of, blocks_named}
+use Rattle.f11_map.specs.HeaderBlock.{segment_number, link_of, blocks_named}
 use Rattle.f11_index.specs.Table.{Table, table_in, table_of, IsFile, IsHeaderOf, first}
 use Rattle.f11_chain.specs.Calls.{table, Seeks}
 use Rattle.f11_chain.specs.FileHeaders.{blocks_by, blocks_before, file_blocks}

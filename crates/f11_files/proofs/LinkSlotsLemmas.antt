@@ -9,7 +9,7 @@ use Rattle.f11_home.specs.Home.{HomeFields}
 use Rattle.f11_map.specs.InHand.{SetsLink}
 use Rattle.f11_index.specs.Calls.{with_blocks_behind}
 use Rattle.f11_index.specs.Growth.{MayLinkOn, with_header}
-use Rattle.f11_index.specs.HeaderBlock.{segment_number}
+use Rattle.f11_map.specs.HeaderBlock.{segment_number}
 use Rattle.f11_index.specs.Headers.{IsLastOf}
 use Rattle.f11_index.specs.IndexFile.{Index, header_lbn, is_in_use}
 use Rattle.f11_index.specs.Kept.{index_kept, room}

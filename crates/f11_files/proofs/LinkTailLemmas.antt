@@ -13,7 +13,7 @@ use Rattle.f11_home.specs.Home.{HomeFields}
 use Rattle.f11_map.specs.InHand.{SetsLink}
 use Rattle.f11_map.specs.MapArea.{blocks_in}
 use Rattle.f11_index.specs.Growth.{with_header, IsGoodFor}
-use Rattle.f11_index.specs.HeaderBlock.{segment_number, link_of, blocks_named}
+use Rattle.f11_map.specs.HeaderBlock.{segment_number, link_of, blocks_named}
 use Rattle.f11_index.specs.Headers.{IsLastOf}
 use Rattle.f11_index.specs.IndexFile.{Index, header_lbn}
 use Rattle.f11_index.specs.Table.{Table, table_of, IsLive, IsNext}

@@ -16,7 +16,7 @@ use Rattle.f11_map.specs.MapArea.{runs_of}
 use Rattle.f11_map.specs.MapWriting.{joins, joins_last, with_blocks}
 use Rattle.f11_map.proofs.MapLemmas.{length-runs_of-le}
 use Rattle.f11_index.specs.Growth.{with_header, IsGoodFor}
-use Rattle.f11_index.specs.HeaderBlock.{segment_number, link_of, blocks_named}
+use Rattle.f11_map.specs.HeaderBlock.{segment_number, link_of, blocks_named}
 use Rattle.f11_index.specs.Headers.{IsLastOf}
 use Rattle.f11_index.specs.IndexFile.{Index, header_lbn}
 use Rattle.f11_index.specs.Table.{Table, table_of}

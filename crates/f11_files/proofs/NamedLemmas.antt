@@ -8,7 +8,7 @@ use Rattle.f11_dev.proofs.LookedLemmas.{looked_read}
 use Rattle.f11_dev.specs.Image.{Image}
 use Rattle.f11_header.specs.Fields.{file_sequence}
 use Rattle.f11_home.specs.Home.{HomeFields}
-use Rattle.f11_index.specs.HeaderBlock.{segment_number}
+use Rattle.f11_map.specs.HeaderBlock.{segment_number}
 use Rattle.f11_index.specs.IndexFile.{is_in_use, header_lbn}
 use Rattle.f11_index.specs.Table.{Table, table_of, IsFile, last_sequence}
 use Rattle.f11_chain.specs.Calls.{table}

@@ -3,7 +3,7 @@ use Rattle.std.proofs.Common.{◌≡◌, ◌+◌, ◌<◌, ◌≤◌, ℕ, IsTru
 use Rattle.f11_dev.specs.Disk.{Disk}
 use Rattle.f11_dev.specs.Image.{Image}
 use Rattle.f11_home.specs.Home.{HomeFields}
-use Rattle.f11_index.specs.HeaderBlock.{segment_number}
+use Rattle.f11_map.specs.HeaderBlock.{segment_number}
 use Rattle.f11_store.specs.File.{File, need}
 use Rattle.f11_store.specs.Store.{Store, free_headers, free_slots}
 use Rattle.f11_store.specs.declared.refusals.Refusal.{Refusal}

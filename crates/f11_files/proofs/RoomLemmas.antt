@@ -6,7 +6,7 @@ use Rattle.f11_dev.specs.Disk.{Disk}
 use Rattle.f11_dev.specs.Image.{Image}
 use Rattle.f11_header.specs.Fields.{map_area}
 use Rattle.f11_header.specs.MapFields.{places}
-use Rattle.f11_index.specs.HeaderBlock.{segment_number}
+use Rattle.f11_map.specs.HeaderBlock.{segment_number}
 use Rattle.f11_index.specs.Headers.{headers_of, IsLastOf}
 use Rattle.f11_index.specs.Table.{Table, table_of, first}
 use Rattle.f11_index.proofs.ChainLemmas.{file_of-header, live_of-header}

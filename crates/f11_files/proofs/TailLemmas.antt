@@ -7,7 +7,7 @@ use Rattle.f11_dev.specs.Image.{Image}
 use Rattle.f11_header.specs.Fields.{file_sequence}
 use Rattle.f11_header.specs.Header.{IsHeader}
 use Rattle.f11_home.specs.Home.{HomeFields}
-use Rattle.f11_index.specs.HeaderBlock.{segment_number, link_of, blocks_named}
+use Rattle.f11_map.specs.HeaderBlock.{segment_number, link_of, blocks_named}
 use Rattle.f11_index.specs.Headers.{headers_from, IsInFile, IsChained, HasByteSegments}
 use Rattle.f11_index.specs.Table.{Table, table_of, IsLive, IsNext, IsHeaderOf, first, next, IsWholeFile}
 use Rattle.f11_index.proofs.HeadersLemmas.{link_number, live-some, headers_from-some, headers_from-none}

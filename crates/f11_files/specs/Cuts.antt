@@ -6,7 +6,7 @@ use Rattle.f11_dev.specs.Looked.{Looked}
 use Rattle.f11_header.specs.Fields.{file_number, file_sequence, check_word}
 use Rattle.f11_header.specs.Header.{holds_header}
 use Rattle.f11_home.specs.Home.{HomeFields}
-use Rattle.f11_index.specs.HeaderBlock.{segment_number, link_of, blocks_named}
+use Rattle.f11_map.specs.HeaderBlock.{segment_number, link_of, blocks_named}
 use Rattle.f11_index.specs.IndexFile.{Index}
 use Rattle.f11_index.specs.Table.{table_of, IsHeaderOf}
 use Rattle.f11_chain.specs.Calls.{HoldsHeader}

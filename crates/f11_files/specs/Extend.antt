@@ -4,7 +4,7 @@ use Rattle.f11_dev.specs.Disk.{Disk}
 use Rattle.f11_dev.specs.Image.{Image}
 use Rattle.f11_header.specs.Fields.{owner, protection}
 use Rattle.f11_home.specs.Home.{HomeFields}
-use Rattle.f11_index.specs.HeaderBlock.{link_of}
+use Rattle.f11_map.specs.HeaderBlock.{link_of}
 use Rattle.f11_store.specs.Changes.{Extends}
 use Rattle.f11_store.specs.Cost.{growth_cost}
 use Rattle.f11_store.specs.File.{length_of}

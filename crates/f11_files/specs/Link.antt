@@ -4,7 +4,7 @@ use Rattle.f11_dev.specs.Disk.{Disk}
 use Rattle.f11_dev.specs.Image.{Image}
 use Rattle.f11_dev.specs.Went.{Went}
 use Rattle.f11_header.specs.Fields.{file_sequence}
-use Rattle.f11_index.specs.HeaderBlock.{segment_number, link_of}
+use Rattle.f11_map.specs.HeaderBlock.{segment_number, link_of}
 use Rattle.f11_index.specs.Headers.{IsInFile, IsLastOf}
 use Rattle.f11_index.specs.Table.{Table, table_of, IsLive, IsNext}
 use Rattle.f11_store.specs.Changes.{with_change}

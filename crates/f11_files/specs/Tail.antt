@@ -8,7 +8,7 @@ use Rattle.f11_header.specs.Fields.{map_area}
 use Rattle.f11_home.specs.Home.{HomeFields}
 use Rattle.f11_map.specs.MapArea.{runs_of}
 use Rattle.f11_map.specs.MapWriting.{joins_last}
-use Rattle.f11_index.specs.HeaderBlock.{segment_number, link_of}
+use Rattle.f11_map.specs.HeaderBlock.{segment_number, link_of}
 use Rattle.f11_index.specs.Headers.{IsLastOf}
 use Rattle.f11_index.specs.Table.{table_of}
 use Rattle.f11_chain.specs.Calls.{HoldsHeader}

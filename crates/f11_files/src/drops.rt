@@ -7,7 +7,7 @@ ghost use Rattle.f11_files.specs.Drops.{AreAllSpare, BreaksOff, Buries, DropsBeh
 ghost use Rattle.f11_image_store.specs.FileLaws.{pointers_in};
 ghost use Rattle.f11_files.specs.Structure.{home_of, index_in, store_on, IsFor, StandsAlike, StaysFor, WritesParts};
 ghost use Rattle.f11_header.specs.Header.{holds_header};
-ghost use Rattle.f11_index.specs.HeaderBlock.{blocks_named};
+ghost use Rattle.f11_map.specs.HeaderBlock.{blocks_named};
 ghost use Rattle.f11_index.specs.Table.{table_of};
 ghost use Rattle.f11_store.specs.Changes.{is_in, with_file};
 ghost use Rattle.f11_volume.specs.Volume.{volume_of};

@@ -27,17 +27,16 @@ use crate::tail::Tail;
 use f11_bytes::{BLOCK_SIZE, Block};
 use f11_dev::Device;
 use f11_header::Header;
-use f11_map::in_hand::map;
+use f11_map::in_hand::link;
 use f11_store::{FileId, Refusal};
 
 /// A file's last header in hand: the first, where that links to none, or else this one.
-#[tactic(auto, unfolding(f11_index::specs::HeaderBlock::link_of))]
 pub(crate) fn tail_of(file: FileId, first: &Block, number: u16, last: &Block) -> Tail
     requires { IsTrue (holds_header first.now) }
     ensures tail { IsTailOf file first.now number last.now result }
 {
     let header = Header::new(first);
-    let alone = map(first).link().number == 0;
+    let alone = link(first).number == 0;
     Tail {
         file,
         owner: header.owner(),

@@ -9,7 +9,7 @@ ghost use Rattle.f11_files.specs.Growing.{Taking};
 ghost use Rattle.f11_files.specs.Structure.{home_of, index_in, store_on, IsFor, StaysFor, WritesParts};
 ghost use Rattle.f11_files.specs.Tail.{GrowsWithin, HoldsLast, MayBeGiven, WritesGrowth};
 ghost use Rattle.f11_header.specs.Header.{holds_header};
-ghost use Rattle.f11_index.specs.HeaderBlock.{segment_number};
+ghost use Rattle.f11_map.specs.HeaderBlock.{segment_number};
 ghost use Rattle.f11_store.specs.Store.{free_headers};
 
 use crate::create::next_sequence;

@@ -9,7 +9,7 @@ use crate::structure::Structure;
 use f11_bytes::Block;
 use f11_dev::Device;
 use f11_header::{Header, HeaderFault, check};
-use f11_map::Map;
+use f11_map::in_hand::segment;
 use f11_store::{FileId, Refusal};
 
 /// Whether a block is the first header of the file with this identification.
@@ -17,7 +17,6 @@ use f11_store::{FileId, Refusal};
 /// # Errors
 ///
 /// `Damaged` where it is no header, nor a dead one; `NoSuchFile` where it is any other.
-#[tactic(auto, unfolding(f11_index::specs::HeaderBlock::segment_number))]
 fn judge_first(block: &Block, f: FileId) -> Result<(), Refusal>
     ensures first { OnOk result (IsFirstOf f block.now) }
     ensures refused { IfErr result (λ refusal. IsOther f block.now refusal) }
@@ -27,8 +26,7 @@ fn judge_first(block: &Block, f: FileId) -> Result<(), Refusal>
         Err(HeaderFault::Dead) => return Err(Refusal::NoSuchFile),
         Err(HeaderFault::Bad) => return Err(Refusal::Damaged),
     }
-    let header = Header::new(block);
-    if Map::of(&header).segment() != 0 || header.id().sequence != f.sequence {
+    if segment(block) != 0 || Header::new(block).id().sequence != f.sequence {
         return Err(Refusal::NoSuchFile);
     }
     Ok(())

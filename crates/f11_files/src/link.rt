@@ -5,7 +5,7 @@ ghost use Rattle.f11_files.specs.Link.{MayFollow, Linking, LinksTail};
 ghost use Rattle.f11_image_store.specs.Confines.{only_header};
 ghost use Rattle.f11_files.specs.Structure.{home_of, IsFor, WritesParts};
 ghost use Rattle.f11_files.specs.Tail.{HoldsLast, whose};
-ghost use Rattle.f11_index.specs.HeaderBlock.{segment_number};
+ghost use Rattle.f11_map.specs.HeaderBlock.{segment_number};
 ghost use Rattle.f11_index.specs.Table.{table_of};
 
 use crate::structure::Structure;

@@ -10,8 +10,9 @@ ghost use Rattle.f11_store.specs.Store.{file_named};
 use crate::answer::refusal_for;
 use crate::structure::Structure;
 use f11_bytes::BLOCK_SIZE;
-use f11_chain::{lbn_of, seek};
+use f11_chain::seek;
 use f11_dev::Device;
+use f11_map::in_hand::lbn_of;
 use f11_store::{FileId, Refusal};
 
 impl Structure {

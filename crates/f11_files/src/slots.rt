@@ -7,7 +7,7 @@ ghost use Rattle.f11_files.specs.Link.{MayFollow};
 ghost use Rattle.f11_files.specs.Structure.{bitmap_in, home_of, IsFor, StaysFor, WritesParts};
 ghost use Rattle.f11_files.specs.Tail.{HoldsLast, MayBeGiven, HasNoPlace, whose};
 ghost use Rattle.f11_files.specs.Zeros.{HoldsZeros};
-ghost use Rattle.f11_index.specs.HeaderBlock.{segment_number};
+ghost use Rattle.f11_map.specs.HeaderBlock.{segment_number};
 ghost use Rattle.f11_index.specs.Table.{table_of};
 
 use crate::structure::Structure;

@@ -5,7 +5,7 @@ use Rattle.std.proofs.lemmas.Bool.{cases_Bool, and_parts, and_from, leb-true, le
 use Rattle.f11_bytes.specs.Words.{word_sum}
 use Rattle.f11_header.specs.Fields.{ident_offset, map_offset, file_number, file_sequence, level, check_word, map_area, ident_end, ident_words, HeaderFields, header_fields}
 use Rattle.f11_header.specs.MapFields.{segment, count_size, lbn_size, words_in_use, places, holds_pointers}
-use Rattle.f11_header.specs.Header.{holds_header, header_in, header_with, IsHeader}
+use Rattle.f11_header.specs.Header.{holds_header, header_in, header_with, IsHeader, IsDead}
 
 -- whole pointers of format 1, no more than there are places for
 pub record PointerFacts (m : List ℕ) : Type 0 where
@@ -121,3 +121,7 @@ IsHeader-parts b n header =
       (facts.ident_placed, facts.map_placed, facts.map_within),
       (pointers.count_is, pointers.lbn_is, pointers.even, pointers.within),
     )
+
+-- a dead header is no valid one
+pub dead-not-valid : (b : List ℕ) (n : ℕ) → IsDead b → ¬ IsHeader b n
+dead-not-valid b n none valid = let some = (header_facts b valid.holds).some_number in omega (arith, some, none)

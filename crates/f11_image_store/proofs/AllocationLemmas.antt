@@ -12,7 +12,7 @@ use Rattle.f11_header.specs.Header.{holds_header}
 use Rattle.f11_bytes.specs.Words.{word_sum}
 use Rattle.f11_home.specs.Home.{HomeFields}
 use Rattle.f11_store.proofs.RangeLemmas.{range_with_len-append}
-use Rattle.f11_index.specs.HeaderBlock.{link_of, blocks_named}
+use Rattle.f11_map.specs.HeaderBlock.{link_of, blocks_named}
 use Rattle.f11_index.specs.Headers.{is_live, IsInFile, IsLastOf}
 use Rattle.f11_index.specs.IndexFile.{Index}
 use Rattle.f11_index.specs.Table.{Table, table_of, IsFile, IsLive, IsNext, IsHeaderOf, first, next}

@@ -13,7 +13,7 @@ use Rattle.f11_header.proofs.HeaderFacts.{header_in-held}
 use Rattle.f11_home.specs.Home.{HomeFields}
 use Rattle.f11_map.specs.MapArea.{runs_of, blocks_of}
 use Rattle.f11_index.specs.Growth.{with_header}
-use Rattle.f11_index.specs.HeaderBlock.{segment_number, link_of, blocks_named}
+use Rattle.f11_map.specs.HeaderBlock.{segment_number, link_of, blocks_named}
 use Rattle.f11_index.specs.Headers.{headers_of}
 use Rattle.f11_index.specs.Table.{Table, table_of, IsFile, IsLive, IsHeaderOf, IsWholeFile, first}
 use Rattle.f11_index.proofs.ChainLemmas.{live_of-header}

@@ -12,7 +12,7 @@ use Rattle.f11_header.specs.Header.{IsHeader}
 use Rattle.f11_header.specs.MapFields.{places}
 use Rattle.f11_home.specs.Home.{HomeFields}
 use Rattle.f11_index.specs.ChangeLaws.{IsAsGood}
-use Rattle.f11_index.specs.HeaderBlock.{segment_number, link_of, blocks_named}
+use Rattle.f11_map.specs.HeaderBlock.{segment_number, link_of, blocks_named}
 use Rattle.f11_index.specs.Headers.{headers_of, headers_from, IsLastOf}
 use Rattle.f11_index.specs.Table.{Table, table_in, table_of, IsLive, IsNext, IsHeaderOf, IsWholeFile, first, next}
 use Rattle.f11_index.proofs.ChainLemmas.{file_of-header, live_of-header}

@@ -19,10 +19,10 @@ use Rattle.f11_layout.specs.declared.layout.Layout.{Layout}
 use Rattle.f11_layout.proofs.HomeLemmas.{fresh-max_files}
 use Rattle.f11_store.specs.File.{File}
 use Rattle.f11_volume.specs.Contents.{block_or_zeros, file_of, headers_reached, pointer_count, room_left}
-use Rattle.f11_vfy.specs.Fresh.{used_by, IsFreshUpTo, IsFreshVolume}
+use Rattle.f11_volume.specs.Fresh.{used_by, IsFreshUpTo, IsFreshVolume}
 use Rattle.f11_volume.specs.Space.{storage_bitmap}
 use Rattle.f11_volume.proofs.FileLemmas.{reached-are, file-blocks-are}
-use Rattle.f11_vfy.proofs.FreshLemmas.{home-is, bitmap-size, slots-are, header-at, own, used-own, own-in_use, is-file, whole, own-headers, own-blocks, volume-size, places-are, free-are, free-inside}
+use Rattle.f11_volume.proofs.FreshLemmas.{home-is, bitmap-size, slots-are, header-at, own, used-own, own-in_use, is-file, whole, own-headers, own-blocks, volume-size, places-are, free-are, free-inside}
 use Rattle.f11_image_store.specs.FreshStore.{is_own, fresh_file, fresh_store}
 use Rattle.f11_image_store.specs.StoreOf.{as_seen, file_at, last_given, store_of}
 use Rattle.f11_image_store.proofs.InstanceLemmas.{last-at}

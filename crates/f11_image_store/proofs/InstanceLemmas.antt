@@ -13,7 +13,7 @@ use Rattle.f11_store.specs.Changes.{with_file, with_change}
 use Rattle.f11_store.specs.File.{File}
 use Rattle.f11_store.specs.Store.{Store}
 use Rattle.f11_volume.proofs.FileLemmas.{image-files}
-use Rattle.f11_vfy.proofs.SlotLemmas.{dead-not-valid}
+use Rattle.f11_header.proofs.HeaderFacts.{dead-not-valid}
 use Rattle.f11_writes.specs.Kept.{file_in, WritesHeader, WritesSlotBit}
 use Rattle.f11_image_store.specs.StoreOf.{as_seen, file_at, last_given, store_of}
 use Rattle.f11_image_store.specs.SlotLaws.{with_use, with_last, KeepsOtherBlocks, ConcernsFile, IsLoose}

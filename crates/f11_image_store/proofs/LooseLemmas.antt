@@ -1,7 +1,7 @@
 -- Headers that are of no file.
 use Rattle.std.proofs.Common.{◌≡◌, ◌≢◌, ◌<◌, ◌≤◌, inl, inr, ℕ, ap, sym, subst, ◌∙◌, arith}
 use Rattle.std.proofs.lemmas.Bool.{cases_lt}
-use Rattle.f11_index.specs.HeaderBlock.{segment_number}
+use Rattle.f11_map.specs.HeaderBlock.{segment_number}
 use Rattle.f11_index.specs.Headers.{IsChained}
 use Rattle.f11_index.specs.Table.{Table, IsLive, IsHeaderOf, first, next}
 use Rattle.f11_index.proofs.ChainLemmas.{file_of-header, same-segment}

@@ -13,7 +13,7 @@ use Rattle.f11_home.specs.Home.{HomeFields}
 use Rattle.f11_map.specs.MapArea.{run_at, runs_of, blocks_in}
 use Rattle.f11_index.specs.Calls.{SetsBit}
 use Rattle.f11_index.specs.Growth.{with_header}
-use Rattle.f11_index.specs.HeaderBlock.{segment_number, link_of, blocks_named}
+use Rattle.f11_map.specs.HeaderBlock.{segment_number, link_of, blocks_named}
 use Rattle.f11_index.specs.IndexFile.{Index, index_of, slots, is_in_use, free_slots as free_in_index}
 use Rattle.f11_index.specs.Slots.{IsLeastFree}
 use Rattle.f11_index.specs.Table.{Table, table_in, table_of, last_sequence, IsFile, IsWholeFile, first}

@@ -5,7 +5,7 @@ use Rattle.f11_bits.specs.Bitmap.{Bitmap, count_below, is_free, free_blocks, Mar
 use Rattle.f11_bits.proofs.BitmapLemmas.{free_blocks-given, free_blocks-taken}
 use Rattle.f11_dev.specs.Image.{Image}
 use Rattle.f11_home.specs.Home.{HomeFields}
-use Rattle.f11_index.specs.HeaderBlock.{segment_number}
+use Rattle.f11_map.specs.HeaderBlock.{segment_number}
 use Rattle.f11_index.specs.Headers.{is_live}
 use Rattle.f11_index.specs.Table.{Table, table_of, IsFile}
 use Rattle.f11_index.proofs.NextLemmas.{live-tested}

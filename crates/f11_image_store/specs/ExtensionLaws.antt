@@ -8,7 +8,7 @@ use Rattle.f11_header.specs.Header.{IsHeader}
 use Rattle.f11_home.specs.Home.{HomeFields}
 use Rattle.f11_index.specs.Calls.{SetsBit}
 use Rattle.f11_index.specs.Growth.{with_header}
-use Rattle.f11_index.specs.HeaderBlock.{segment_number, link_of, blocks_named}
+use Rattle.f11_map.specs.HeaderBlock.{segment_number, link_of, blocks_named}
 use Rattle.f11_index.specs.Headers.{IsInFile}
 use Rattle.f11_index.specs.IndexFile.{Index, index_of, slots, is_in_use}
 use Rattle.f11_index.specs.Table.{table_of, IsLive, IsNext, IsHeaderOf}

@@ -8,7 +8,7 @@ use Rattle.f11_layout.specs.Places.{bit_blocks}
 use Rattle.f11_layout.specs.declared.layout.Layout.{Layout}
 use Rattle.f11_store.specs.File.{File}
 use Rattle.f11_store.specs.Store.{Store}
-use Rattle.f11_vfy.specs.Fresh.{used_by, IsFreshVolume}
+use Rattle.f11_volume.specs.Fresh.{used_by, IsFreshVolume}
 use Rattle.f11_image_store.specs.FileLaws.{held_from}
 use Rattle.f11_image_store.specs.StoreOf.{as_seen, store_of}
 

@@ -1,7 +1,7 @@
 -- Headers that are of no file: those behind the one that a file was cut at, and those of a file whose first header was killed (Files-11 On-Disk
 -- Structure Level 1, "File Header" and "Map Area").
 use Rattle.std.specs.Prelude.{◌≡◌, ℕ, ◌<◌}
-use Rattle.f11_index.specs.HeaderBlock.{segment_number, link_of}
+use Rattle.f11_map.specs.HeaderBlock.{segment_number, link_of}
 use Rattle.f11_index.specs.Headers.{IsInFile, IsChained}
 use Rattle.f11_index.specs.Table.{Table, IsLive, IsNext, IsHeaderOf}
 use Rattle.f11_writes.specs.OtherSlots.{KeepsOtherSlots}

@@ -4,7 +4,7 @@ use Rattle.std.specs.Prelude.{ℕ, ◌==◌, ◌&&◌, Bool, nat_lt, nat_le, min
 use Rattle.f11_bits.specs.Bitmap.{free_blocks}
 use Rattle.f11_dev.specs.Image.{Image}
 use Rattle.f11_home.specs.Home.{HomeFields}
-use Rattle.f11_index.specs.HeaderBlock.{segment_number}
+use Rattle.f11_map.specs.HeaderBlock.{segment_number}
 use Rattle.f11_index.specs.Headers.{is_live}
 use Rattle.f11_index.specs.IndexFile.{most_slots}
 use Rattle.f11_index.specs.Table.{Table, table_of, last_sequence}

@@ -1,7 +1,7 @@
 -- Facts about the headers of a file.
 use Rattle.std.proofs.Common.{◌≡◌, ℕ, ◌<◌, refl, sym, ap, ◌∙◌, inl, inr, arith}
 use Rattle.std.proofs.lemmas.Bool.{cases_eq}
-use Rattle.f11_index.specs.HeaderBlock.{segment_number, link_of}
+use Rattle.f11_map.specs.HeaderBlock.{segment_number, link_of}
 use Rattle.f11_index.specs.Table.{Table, IsLive, IsFile, IsNext, IsHeaderOf, first, next}
 
 -- a file that has a header has its first one

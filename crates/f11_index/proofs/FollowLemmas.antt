@@ -12,7 +12,7 @@ use Rattle.f11_header.specs.Fields.{file_sequence}
 use Rattle.f11_header.specs.Header.{IsHeader}
 use Rattle.f11_home.specs.Home.{HomeFields, IsSound}
 use Rattle.f11_home.specs.HomeBlock as HomeBlock
-use Rattle.f11_index.specs.HeaderBlock.{segment_number, link_of, blocks_named}
+use Rattle.f11_map.specs.HeaderBlock.{segment_number, link_of, blocks_named}
 use Rattle.f11_index.specs.Headers.{headers_of}
 use Rattle.f11_index.specs.IndexFile.{index_of, index_file, blocks_on, bit_of_slot, header_place, header_among, headers_among, most_slots, slots, first_header_lbn}
 use Rattle.f11_index.specs.Sound.{IsPlaced, IsIndexFile}

@@ -15,7 +15,7 @@ use Rattle.f11_home.specs.Home.{HomeFields}
 use Rattle.f11_index.specs.Calls.{with_blocks_behind}
 use Rattle.f11_index.specs.ChangeLaws.{IsAsGood}
 use Rattle.f11_index.specs.Growth.{IsGoodFor, MayNameMore, MayLinkOn, GrowsIndexFile, with_header}
-use Rattle.f11_index.specs.HeaderBlock.{segment_number, link_of, blocks_named}
+use Rattle.f11_map.specs.HeaderBlock.{segment_number, link_of, blocks_named}
 use Rattle.f11_index.specs.Headers.{IsLastOf}
 use Rattle.f11_index.specs.IndexFile.{Index, index_of, index_file, blocks_on, header_place, header_among, header_lbn, headers_among, most_slots, slots, slot_bit, is_in_use, first_header_lbn, HasNonePast}
 use Rattle.f11_index.specs.Sound.{IsIndexFile, AreApart}

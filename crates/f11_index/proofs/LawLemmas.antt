@@ -9,7 +9,7 @@ use Rattle.f11_dev.specs.Image.{Image, image_block}
 use Rattle.f11_dev.proofs.ImageLemmas.{image_block-written, image_block-other}
 use Rattle.f11_home.specs.Home.{HomeFields}
 use Rattle.f11_index.specs.Calls.{SetsBit, with_bitmap_block, bitmap_block, bitmap_place}
-use Rattle.f11_index.specs.HeaderBlock.{link_of, blocks_named}
+use Rattle.f11_map.specs.HeaderBlock.{link_of, blocks_named}
 use Rattle.f11_index.specs.IndexFile.{Index, index_of, index_file, headers_among, header_lbn, header_place, most_slots, slots, is_in_use}
 use Rattle.f11_index.specs.Laws.{BlocksStay, LeadsAlike, KeepsIndexFile, KeepsButBit, KeepsButHeader}
 use Rattle.f11_index.specs.Sound.{IsPlaced, IsIndexFile, IsNoneOf, AreApart}

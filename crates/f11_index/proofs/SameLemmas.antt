@@ -3,7 +3,7 @@ use Rattle.std.proofs.Common.{◌≡◌, ℕ, zero, suc, ◌+◌, ◌<◌, List,
 use Rattle.std.specs.List.{slice_get}
 use Rattle.f11_dev.specs.Image.{Image, image_block}
 use Rattle.f11_home.specs.Home.{HomeFields}
-use Rattle.f11_index.specs.HeaderBlock.{link_of, blocks_named}
+use Rattle.f11_map.specs.HeaderBlock.{link_of, blocks_named}
 use Rattle.f11_index.specs.IndexFile.{index_file, blocks_on, header_place, header_among, first_header_lbn}
 use Rattle.f11_index.specs.Laws.{LeadsAlike}
 use Rattle.f11_index.specs.Sound.{IsIndexFile}

@@ -2,7 +2,7 @@
 use Rattle.std.proofs.Common.{◌≡◌, ℕ, ◌+◌, sym, ap, ◌∙◌, arith}
 use Rattle.f11_store.specs.declared.files.FileId.{FileId}
 use Rattle.f11_index.specs.ChangeLaws.{IsAsGood, StayUpTo}
-use Rattle.f11_index.specs.HeaderBlock.{link_of}
+use Rattle.f11_map.specs.HeaderBlock.{link_of}
 use Rattle.f11_index.specs.Headers.{IsLastOf}
 use Rattle.f11_index.specs.Table.{Table, IsLive, IsNext, IsHeaderOf, first, next}
 

@@ -2,7 +2,7 @@
 use Rattle.std.specs.Prelude.{◌≡◌, ◌↔◌, ℕ, ◌+◌, ◌<◌, ◌≤◌, IsTrue, length, Contains, Some}
 use Rattle.std.specs.List.{slice_get}
 use Rattle.f11_dev.specs.Image.{Image, IsImage}
-use Rattle.f11_index.specs.HeaderBlock.{segment_number}
+use Rattle.f11_map.specs.HeaderBlock.{segment_number}
 use Rattle.f11_index.specs.Headers.{is_live, next_of, headers_from, headers_of, IsLastOf, IsInFile, IsChained, HasByteSegments}
 use Rattle.f11_index.specs.IndexFile.{Index}
 use Rattle.f11_index.specs.Sound.{AreApart}

@@ -4,7 +4,7 @@ use Rattle.std.specs.Prelude.{◌≡◌, ℕ, zero, suc, ◌+◌, ◌<◌, ◌==
 use Rattle.f11_bytes.specs.Words.{word_sum}
 use Rattle.f11_header.specs.Fields.{file_number, file_sequence, check_word}
 use Rattle.f11_header.specs.Header.{holds_header}
-use Rattle.f11_index.specs.HeaderBlock.{segment_number, link_of}
+use Rattle.f11_map.specs.HeaderBlock.{segment_number, link_of}
 use Rattle.f11_index.specs.Table.{Table, IsNext, IsHeaderOf, LinksRightly}
 
 -- whether header n is live: its slot is in use, and it is valid

@@ -4,7 +4,7 @@ use Rattle.std.specs.List.{slice_get, range_with_len}
 use Rattle.f11_bytes.specs.Bits.{bit}
 use Rattle.f11_dev.specs.Image.{Image, image_block}
 use Rattle.f11_home.specs.Home.{HomeFields}
-use Rattle.f11_index.specs.HeaderBlock.{blocks_named, link_of}
+use Rattle.f11_map.specs.HeaderBlock.{blocks_named, link_of}
 use Rattle.f11_store.specs.Store.{free_among}
 
 -- The virtual blocks of the index file are, from 1 on: the boot block, the home block, the H.IBSZ blocks of the index bitmap,

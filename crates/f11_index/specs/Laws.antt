@@ -6,7 +6,7 @@ use Rattle.f11_dev.specs.Image.{Image, image_block}
 use Rattle.f11_home.specs.Home.{HomeFields}
 use Rattle.f11_index.specs.ChangeLaws.{StaysHeader}
 use Rattle.f11_index.specs.Calls.{SetsBit, WritesBit, with_bitmap_block}
-use Rattle.f11_index.specs.HeaderBlock.{link_of, blocks_named}
+use Rattle.f11_map.specs.HeaderBlock.{link_of, blocks_named}
 use Rattle.f11_index.specs.IndexFile.{Index, index_of, index_file, slots, is_in_use, header_lbn}
 use Rattle.f11_index.specs.Kept.{IsFor}
 use Rattle.f11_index.specs.Sound.{IsIndexFile, IsNoneOf, AreApart}

@@ -1,4 +1,3 @@
-pub mod HeaderBlock
 pub mod IndexFile
 pub mod Table
 pub mod Headers

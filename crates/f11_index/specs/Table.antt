@@ -5,7 +5,7 @@ use Rattle.f11_dev.specs.Image.{Image, image_block}
 use Rattle.f11_home.specs.Home.{HomeFields}
 use Rattle.f11_header.specs.Fields.{file_number, file_sequence}
 use Rattle.f11_header.specs.Header.{IsHeader}
-use Rattle.f11_index.specs.HeaderBlock.{segment_number, link_of}
+use Rattle.f11_map.specs.HeaderBlock.{segment_number, link_of}
 use Rattle.f11_index.specs.IndexFile.{Index, index_of, slots, is_in_use, header_lbn}
 
 pub record Table : Type 0 where

@@ -2,7 +2,7 @@
 ghost use Rattle.std.specs.Prelude.{◌≡◌, ℕ, ◌+◌, ◌-◌, ◌<◌, ◌≤◌, ◌^◌, ◌↔◌, ◌++◌, [], min, length, IsTrue, IfOk, OnOk, vec_capacity};
 ghost use Rattle.std.specs.List.{range_with_len};
 ghost use Rattle.f11_header.specs.Header.{holds_header};
-ghost use Rattle.f11_index.specs.HeaderBlock.{blocks_named};
+ghost use Rattle.f11_map.specs.HeaderBlock.{blocks_named};
 ghost use Rattle.f11_index.specs.IndexFile.{most_slots};
 ghost use Rattle.f11_index.specs.Walk.{lbn_due, first_place, FitFrom, AddsTo, AddsIf};
 

@@ -9,3 +9,4 @@ pub use Rattle.f11_header.specs.MapFields
 pub use Rattle.f11_header.specs.Header
 pub use Rattle.f11_header.specs.Lent
 pub use Rattle.f11_header.specs.Writing
+pub mod HeaderBlock

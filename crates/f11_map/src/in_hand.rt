@@ -1,10 +1,11 @@
 //! Retrieval pointers of a header in hand: a block that holds a header, valid or valid but for its check word. What changes
 //! it seals it again, so it is a valid header then.
 ghost use Rattle.std.specs.Prelude.{◌≡◌, ◌↔◌, ◌<◌, ◌≤◌, ◌^◌, ◌++◌, false, length, take, IsTrue, IsOk, IsErr, OnOk};
-ghost use Rattle.std.specs.List.{range_with_len};
+ghost use Rattle.std.specs.List.{range_with_len, slice_get};
 ghost use Rattle.f11_header.specs.Fields.{map_area};
 ghost use Rattle.f11_header.specs.MapFields.{IsMapArea, places};
 ghost use Rattle.f11_header.specs.Header.{holds_header};
+ghost use Rattle.f11_map.specs.HeaderBlock.{segment_number, link_of, blocks_named};
 ghost use Rattle.f11_map.specs.InHand.{AppendsBlocks, CutsBlocks, SetsLink};
 ghost use Rattle.f11_map.specs.Map.{area_of};
 ghost use Rattle.f11_map.specs.MapArea.{runs_of, blocks_of};
@@ -22,6 +23,43 @@ pub fn map(block: &Block) -> Map<'_>
     ensures { area_of result ≡ map_area block.now }
 {
     Map::of(&Header::new(block))
+}
+
+/// The segment number of the header: which part of its file's map it has, 0 in the file's first header.
+#[tactic(auto, unfolding(crate::specs::HeaderBlock::segment_number))]
+pub fn segment(block: &Block) -> u8
+    requires { IsTrue (holds_header block.now) }
+    ensures { result ≡ segment_number block.now }
+{
+    map(block).segment()
+}
+
+/// The header's link to its file's next one; number 0 is none.
+#[tactic(auto, unfolding(crate::specs::HeaderBlock::link_of))]
+pub fn link(block: &Block) -> FileId
+    requires { IsTrue (holds_header block.now) }
+    ensures { result ≡ link_of block.now }
+{
+    map(block).link()
+}
+
+/// How many blocks the header names: 127 pointers of 256 blocks at most.
+#[tactic(auto, unfolding(crate::specs::HeaderBlock::blocks_named))]
+pub fn len_blocks(block: &Block) -> u32
+    requires { IsTrue (holds_header block.now) }
+    ensures count { result ≡ length (blocks_named block.now) }
+    ensures few { result ≤ 32512 }
+{
+    map(block).len_blocks()
+}
+
+/// The LBN of block number `place`, from 0, of those that the header names; `None` where it names no more.
+#[tactic(auto, unfolding(crate::specs::HeaderBlock::blocks_named))]
+pub fn lbn_of(block: &Block, place: u32) -> Option<u32>
+    requires { IsTrue (holds_header block.now) }
+    ensures { result ≡ slice_get (blocks_named block.now) place }
+{
+    map(block).lbn_of(place)
 }
 
 /// Adds `count` blocks, 1 to 256, from LBN `lbn` on, below 16,777,216, to those of the header, as [`MapMut::append`] does, and

@@ -9,7 +9,7 @@ use Rattle.f11_dev.specs.Image.{Image}
 use Rattle.f11_dev.specs.Looked.{Looked}
 use Rattle.f11_dev.proofs.LookedLemmas.{looked_none, looked_more, looked_within}
 use Rattle.f11_header.specs.Fields.{attributes}
-use Rattle.f11_index.specs.HeaderBlock.{blocks_named}
+use Rattle.f11_map.specs.HeaderBlock.{blocks_named}
 use Rattle.f11_index.specs.Headers.{next_of}
 use Rattle.f11_index.specs.IndexFile.{Index, is_in_use}
 use Rattle.f11_index.specs.Table.{Table, table_in, IsLive, IsNext}

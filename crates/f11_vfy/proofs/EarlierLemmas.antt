@@ -11,7 +11,7 @@ use Rattle.f11_header.specs.Fields.{map_area}
 use Rattle.f11_home.specs.Home.{candidate, candidates}
 use Rattle.f11_home.proofs.HomeLemmas.{candidate-below, candidates-above}
 use Rattle.f11_map.specs.MapArea.{runs_of, blocks_in}
-use Rattle.f11_index.specs.HeaderBlock.{segment_number, link_of, blocks_named}
+use Rattle.f11_map.specs.HeaderBlock.{segment_number, link_of, blocks_named}
 use Rattle.f11_index.specs.IndexFile.{Index}
 use Rattle.f11_index.specs.Table.{Table, table_in, IsNext, IsHeaderOf}
 use Rattle.f11_index.proofs.BlockLemmas.{blocks_in-more}

@@ -7,7 +7,7 @@ use Rattle.std.proofs.lemmas.List.{get_or_default}
 use Rattle.f11_dev.specs.Image.{Image}
 use Rattle.f11_findings.specs.Finding.{finding, IsExactly}
 use Rattle.f11_findings.specs.declared.finding.Finding.{Finding}
-use Rattle.f11_index.specs.HeaderBlock.{segment_number, link_of}
+use Rattle.f11_map.specs.HeaderBlock.{segment_number, link_of}
 use Rattle.f11_index.specs.Table.{IsLive, IsFile, IsNext}
 use Rattle.f11_store.specs.File.{is_marked}
 use Rattle.f11_store.specs.declared.files.FileId.{FileId}

@@ -11,7 +11,7 @@ use Rattle.f11_dev.proofs.ImageLemmas.{image_block-written, image_block-other}
 use Rattle.f11_bits.proofs.BitmapLemmas.{slice_get-set_other}
 use Rattle.f11_layout.specs.Fresh.{IsFreshBlock}
 use Rattle.f11_layout.specs.declared.layout.Layout.{Layout}
-use Rattle.f11_vfy.specs.Fresh.{used_by, IsFreshUpTo, KeepsBehind}
+use Rattle.f11_volume.specs.Fresh.{used_by, IsFreshUpTo, KeepsBehind}
 use Rattle.f11_vfy.specs.Init.{LaysOut, FailsToLayOut}
 
 -- So many blocks were written.

@@ -1,5 +1,3 @@
-pub mod FreshBits
-pub mod FreshLemmas
 pub mod LayLemmas
 pub mod BitLemmas
 pub mod SumLemmas

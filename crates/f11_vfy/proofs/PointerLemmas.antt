@@ -9,7 +9,7 @@ use Rattle.f11_findings.specs.declared.finding.Finding.{Finding}
 use Rattle.f11_header.specs.Fields.{map_area}
 use Rattle.f11_map.specs.MapArea.{runs_of, blocks_in}
 use Rattle.f11_map.proofs.MapLemmas.{blocks_in-append}
-use Rattle.f11_index.specs.HeaderBlock.{blocks_named}
+use Rattle.f11_map.specs.HeaderBlock.{blocks_named}
 use Rattle.f11_vfy.specs.Count.{times_among, within, Shows}
 use Rattle.f11_vfy.specs.Found.{Finds}
 use Rattle.f11_vfy.specs.Survey.{IsOutside, OutsideOf}

@@ -1,7 +1,6 @@
 -- What a slot's state says of its header.
-use Rattle.std.proofs.Common.{◌≡◌, ℕ, true, false, refl, sym, ◌∙◌, List, arith}
-use Rattle.f11_header.specs.Header.{IsHeader, IsDead}
-use Rattle.f11_header.proofs.HeaderFacts.{header_facts}
+use Rattle.std.proofs.Common.{◌≡◌, ℕ, true, false, refl, sym, ◌∙◌}
+use Rattle.f11_header.proofs.HeaderFacts.{dead-not-valid}
 use Rattle.f11_index.specs.Table.{Table, IsLive, IsDeadSlot}
 use Rattle.f11_vfy.specs.Slot.{HasState, IsBadSlot, unused, dead, bad, live}
 use Rattle.f11_vfy.specs.declared.slot.State.{State}
@@ -9,9 +8,6 @@ use Rattle.f11_vfy.specs.declared.slot.State.TheVariants.{Dead, Bad, Live}
 
 apart : (t : Table) (n : ℕ) {A : Type 0} → t.in_use n ≡ false → t.in_use n ≡ true → A
 apart t n one other = let no : false ≡ true = sym one ∙ other in absurd cc
-
-pub dead-not-valid : (b : List ℕ) (n : ℕ) → IsDead b → ¬ IsHeader b n
-dead-not-valid b n none valid = let some = (header_facts b valid.holds).some_number in omega (arith, some, none)
 
 pub live-from : (t : Table) (n : ℕ) (s : State) → HasState t n s → s ≡ Live → IsLive t n
 live-from t n s (live x) is = x

@@ -13,7 +13,7 @@ use Rattle.f11_dev.specs.Looked.{Looked}
 use Rattle.f11_dev.proofs.LookedLemmas.{looked_more, looked_within}
 use Rattle.f11_dir.proofs.RecordWords.{word-record_in}
 use Rattle.f11_header.specs.Fields.{map_area}
-use Rattle.f11_index.specs.HeaderBlock.{blocks_named}
+use Rattle.f11_map.specs.HeaderBlock.{blocks_named}
 use Rattle.f11_map.specs.MapArea.{runs_of, blocks_in}
 use Rattle.f11_map.proofs.MapLemmas.{blocks_in-append, blocks_in-drop, length-blocks_in-more}
 use Rattle.f11_store.specs.Directory.{is_empty, record_in, record_at}

@@ -1,7 +1,7 @@
 -- Which headers are headers of files, and which are the next of which, by what is kept of them (Files-11 On-Disk Structure Level 1,
 -- "File Header").
 use Rattle.std.specs.Prelude.{◌≡◌, ◌≢◌, ◌≤◌, ◌<◌, ◌+◌, ◌&&◌, ◌==◌, ◌↔◌, ℕ, true, not, if◌then◌else◌, List, length, slice_index}
-use Rattle.f11_index.specs.HeaderBlock.{segment_number}
+use Rattle.f11_map.specs.HeaderBlock.{segment_number}
 use Rattle.f11_index.specs.Table.{Table, IsNext}
 use Rattle.f11_vfy.specs.Bits.{has, limit_of}
 use Rattle.f11_vfy.specs.Count.{within}

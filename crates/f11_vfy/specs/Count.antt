@@ -1,6 +1,6 @@
 -- How often headers name a block, and how often headers of files link to a header (profile).
 use Rattle.std.specs.Prelude.{◌≡◌, ◌≤◌, ◌<◌, ◌+◌, ◌&&◌, ◌==◌, ℕ, zero, suc, nat_le, nat_lt, Bool, List, [], ◌∷◌, if◌then◌else◌}
-use Rattle.f11_index.specs.HeaderBlock.{blocks_named}
+use Rattle.f11_map.specs.HeaderBlock.{blocks_named}
 use Rattle.f11_index.specs.Table.{Table}
 use Rattle.f11_vfy.specs.Bits.{has, limit_of}
 use Rattle.f11_index.specs.Headers.{is_live}

@@ -5,7 +5,7 @@ use Rattle.f11_dev.specs.Disk.{Disk}
 use Rattle.f11_dev.specs.Image.{Image}
 use Rattle.f11_dev.specs.Looked.{Looked}
 use Rattle.f11_findings.specs.declared.finding.Finding.{Finding}
-use Rattle.f11_index.specs.HeaderBlock.{segment_number}
+use Rattle.f11_map.specs.HeaderBlock.{segment_number}
 use Rattle.f11_index.specs.Headers.{is_live}
 use Rattle.f11_index.specs.IndexFile.{Index}
 use Rattle.f11_index.specs.Table.{Table, table_in}

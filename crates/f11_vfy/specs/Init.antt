@@ -8,7 +8,7 @@ use Rattle.f11_layout.specs.declared.layout.Layout.{Layout}
 use Rattle.f11_layout.specs.declared.params.InitParams.{InitParams}
 use Rattle.f11_vfy.specs.declared.fresh.InitError.{InitError}
 use Rattle.f11_vfy.specs.declared.fresh.InitError.TheVariants.{BadParameter, DeviceFault}
-use Rattle.f11_vfy.specs.Fresh.{used_by, KeepsBehind, IsFreshVolume}
+use Rattle.f11_volume.specs.Fresh.{used_by, KeepsBehind, IsFreshVolume}
 
 -- The front of a fresh volume was written: each block of it once, and no other. Meanwhile too, no block behind it changed.
 pub record LaysOut (l : Layout) (old new : Disk) : Type 0 where

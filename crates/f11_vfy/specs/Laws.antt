@@ -1,22 +1,15 @@
--- Laws of the verifier's findings, which show that its definitions say what is meant (profile).
-use Rattle.std.specs.Prelude.{◌≡◌, ℕ, ◌≤◌, length}
-use Rattle.f11_dev.specs.Image.{Image, IsImage}
+-- Laws of what the verifier reads, which show that its words for it say what is meant (profile).
+use Rattle.std.specs.Prelude.{◌≡◌, ℕ}
+use Rattle.f11_dev.specs.Image.{Image}
 use Rattle.f11_home.specs.Home.{HomeFields}
 use Rattle.f11_index.specs.IndexFile.{index_of}
 use Rattle.f11_index.specs.Table.{Table}
-use Rattle.f11_layout.specs.declared.layout.Layout.{Layout}
 use Rattle.f11_store.specs.Directory.{is_directory}
 use Rattle.f11_volume.specs.Contents.{file_of}
-use Rattle.f11_vfy.specs.Fresh.{IsFreshVolume}
 use Rattle.f11_vfy.specs.Reading.{volume_in}
 use Rattle.f11_vfy.specs.Slot.{says_directory}
 use Rattle.f11_volume.specs.Space.{storage_bitmap}
-use Rattle.f11_volume.specs.Sound.{IsSoundImage}
 use Rattle.f11_volume.specs.Volume.{volume_of}
-
--- an image on which a fresh volume was made is sound
-abbrev pub FreshIsSound : Type 0
-FreshIsSound = (l : Layout) (old new : Image) → IsImage new → l.blocks ≤ length new → IsFreshVolume l old new → IsSoundImage new
 
 -- a file is a directory where its first header says so
 abbrev pub DirectoryIsSaid : Type 0

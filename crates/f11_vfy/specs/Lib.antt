@@ -1,5 +1,4 @@
 pub mod Accepted
-pub mod Fresh
 pub mod Init
 pub mod Framing
 pub mod Directories

@@ -3,7 +3,7 @@ use Rattle.std.specs.Prelude.{◌≡◌, ◌+◌, ◌<◌, ◌&&◌, ◌==◌, �
 use Rattle.f11_bytes.specs.Words.{word}
 use Rattle.f11_header.specs.Fields.{file_sequence, characteristics, attributes, ident_area}
 use Rattle.f11_header.specs.Header.{IsHeader, IsDead}
-use Rattle.f11_index.specs.HeaderBlock.{segment_number, link_of}
+use Rattle.f11_map.specs.HeaderBlock.{segment_number, link_of}
 use Rattle.f11_index.specs.Table.{Table, IsLive, IsDeadSlot}
 use Rattle.f11_vfy.specs.declared.slot.Slot.{Slot}
 use Rattle.f11_vfy.specs.declared.slot.State.{State}

@@ -6,7 +6,7 @@ use Rattle.f11_dev.specs.Disk.{Disk}
 use Rattle.f11_dev.specs.Looked.{Looked}
 use Rattle.f11_header.specs.Fields.{map_area}
 use Rattle.f11_header.specs.Header.{IsHeader}
-use Rattle.f11_index.specs.HeaderBlock.{blocks_named}
+use Rattle.f11_map.specs.HeaderBlock.{blocks_named}
 use Rattle.f11_index.specs.IndexFile.{Index, slots, is_in_use}
 use Rattle.f11_index.specs.Table.{Table, table_in}
 use Rattle.f11_map.specs.MapArea.{runs_of}

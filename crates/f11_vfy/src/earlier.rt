@@ -3,7 +3,7 @@ ghost use Rattle.std.specs.Prelude.{◌≡◌, ◌↔◌, ℕ, ◌<◌, ◌≤�
 ghost use Rattle.f11_dev.specs.Looked.{Looked};
 ghost use Rattle.f11_header.specs.Header.{holds_header};
 ghost use Rattle.f11_home.specs.Home.{candidate};
-ghost use Rattle.f11_index.specs.HeaderBlock.{blocks_named};
+ghost use Rattle.f11_map.specs.HeaderBlock.{blocks_named};
 ghost use Rattle.f11_index.specs.Kept.{index_kept, LiesWithin};
 ghost use Rattle.f11_vfy.specs.Bits.{has, limit_of};
 ghost use Rattle.f11_vfy.specs.Earlier.{Puts, PutsNamed, JudgesEarlier};

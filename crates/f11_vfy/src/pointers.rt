@@ -1,7 +1,7 @@
 //! The retrieval pointers of one header.
 ghost use Rattle.std.specs.Prelude.{◌≡◌, ◌≤◌, ◌<◌, ◌+◌, ℕ, max, IsTrue, OnOk};
 ghost use Rattle.f11_header.specs.Header.{holds_header};
-ghost use Rattle.f11_index.specs.HeaderBlock.{blocks_named};
+ghost use Rattle.f11_map.specs.HeaderBlock.{blocks_named};
 ghost use Rattle.f11_vfy.specs.Bits.{limit_of};
 ghost use Rattle.f11_vfy.specs.Count.{Shows, times_among};
 ghost use Rattle.f11_vfy.specs.Found.{Finds};

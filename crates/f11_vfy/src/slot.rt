@@ -2,12 +2,12 @@
 ghost use Rattle.std.specs.Prelude.{◌≡◌, ◌≢◌, ◌↔◌, ◌≤◌, ◌&&◌, ◌==◌, length, slice_index, IsTrue};
 ghost use Rattle.f11_bytes.specs.Words.{word};
 ghost use Rattle.f11_header.specs.Header.{IsHeader, IsDead, holds_header};
-ghost use Rattle.f11_index.specs.HeaderBlock.{segment_number, link_of};
+ghost use Rattle.f11_map.specs.HeaderBlock.{segment_number, link_of};
 ghost use Rattle.f11_vfy.specs.Slot.{KeepsHeader, says_directory};
 
 use f11_bytes::{Block, read_word};
 use f11_header::{Header, HeaderFault, check};
-use f11_map::in_hand::map;
+use f11_map::in_hand::{link, segment};
 use f11_store::FileId;
 
 /// What a slot has.
@@ -109,29 +109,11 @@ fn keep_header(block: &Block) -> Slot
     }
 }
 
-/// The segment number of a header.
-#[tactic(auto, unfolding(f11_index::specs::HeaderBlock::segment_number))]
-fn segment(block: &Block) -> u8
-    requires { IsTrue (holds_header block.now) }
-    ensures { result ≡ segment_number block.now }
-{
-    map(block).segment()
-}
-
-/// The link of a header.
-#[tactic(auto, unfolding(f11_index::specs::HeaderBlock::link_of))]
-fn link(block: &Block) -> FileId
-    requires { IsTrue (holds_header block.now) }
-    ensures { result ≡ link_of block.now }
-{
-    map(block).link()
-}
-
 /// The ident type of a directory, `DIR` in Radix-50 (Files-11 On-Disk Structure Level 1, "Directories").
 const TYPE_DIR: u16 = 6778;
 
 /// Whether a file whose first header this is is a directory: ident type `DIR`, record type 1, record size 16.
-#[tactic(auto, unfolding(f11_index::specs::HeaderBlock::segment_number))]
+#[tactic(auto, unfolding(f11_map::specs::HeaderBlock::segment_number))]
 fn is_directory(block: &Block) -> bool
     requires header { IsTrue (holds_header block.now) }
     requires first { segment_number block.now ≡ 0 }

@@ -10,7 +10,7 @@ use Rattle.f11_header.specs.Fields.{file_number, check_word}
 use Rattle.f11_home.specs.Home.{HomeFields, candidate, candidates, IsCandidate, fields_of, IsHomeOf, HasNoHome}
 use Rattle.f11_home.specs.HomeBlock.{index_blocks, index_lbn, HasHomeFields, IsHomeBlock}
 use Rattle.f11_home.proofs.HomeLemmas.{home-unique, HasNoHome-all}
-use Rattle.f11_index.specs.HeaderBlock.{segment_number, link_of, blocks_named}
+use Rattle.f11_map.specs.HeaderBlock.{segment_number, link_of, blocks_named}
 use Rattle.f11_index.specs.IndexFile.{Index, index_of, slots, slot_bit, header_lbn, IsPastSlots, IsFirstPast, HasNonePast}
 use Rattle.f11_index.specs.Sound.{IsPlaced, IsIndexFile}
 use Rattle.f11_index.specs.Table.{Table, table_in, table_of, IsFile, IsNext, IsHeaderOf, IsWholeFile, first, next}

@@ -5,3 +5,5 @@ pub mod DecideLemmas
 pub mod AcceptedLemmas
 pub mod MemberLemmas
 pub mod FileLemmas
+pub mod FreshBits
+pub mod FreshLemmas

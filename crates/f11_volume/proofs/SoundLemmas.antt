@@ -5,7 +5,7 @@ use Rattle.std.proofs.lemmas.Bool.{cases_eq, cases_lt, false_from_ne_true}
 use Rattle.std.proofs.lemmas.Option.{slice_get_within, get_or_from_slice_get}
 use Rattle.f11_header.specs.Fields.{file_number, map_area}
 use Rattle.f11_header.specs.Header.{IsHeader, IsDead}
-use Rattle.f11_index.specs.HeaderBlock.{segment_number, blocks_named}
+use Rattle.f11_map.specs.HeaderBlock.{segment_number, blocks_named}
 use Rattle.f11_index.specs.Table.{Table, IsLive, IsNext}
 use Rattle.f11_map.specs.MapArea.{runs_of}
 use Rattle.f11_map.proofs.RunLemmas.{AreSome-runs_of}

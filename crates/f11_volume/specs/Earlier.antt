@@ -1,7 +1,7 @@
 -- Which candidates for the home block are blocks of a file (profile).
 use Rattle.std.specs.Prelude.{ℕ, ◌<◌, Contains}
 use Rattle.f11_home.specs.Home.{candidate}
-use Rattle.f11_index.specs.HeaderBlock.{blocks_named}
+use Rattle.f11_map.specs.HeaderBlock.{blocks_named}
 use Rattle.f11_index.specs.Table.{Table, IsHeaderOf}
 
 -- a header of file f names this block

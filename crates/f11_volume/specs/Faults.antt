@@ -4,7 +4,7 @@ use Rattle.std.specs.Prelude.{◌≡◌, ◌≢◌, ℕ, ◌+◌, ◌<◌, ◌�
 use Rattle.f11_dev.specs.Image.{Image}
 use Rattle.f11_header.specs.Header.{IsHeader, IsDead}
 use Rattle.f11_home.specs.Home.{HomeFields, candidate, IsHomeOf, HasNoHome}
-use Rattle.f11_index.specs.HeaderBlock.{segment_number, link_of, blocks_named}
+use Rattle.f11_map.specs.HeaderBlock.{segment_number, link_of, blocks_named}
 use Rattle.f11_index.specs.Headers.{IsInFile}
 use Rattle.f11_index.specs.IndexFile.{index_of, IsFirstPast, HasNonePast}
 use Rattle.f11_index.specs.Sound.{IsIndexFile}

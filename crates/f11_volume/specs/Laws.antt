@@ -1,11 +1,13 @@
 -- Laws of what a volume is, which show that its definitions say what is meant (profile).
-use Rattle.std.specs.Prelude.{◌≡◌, ◌↔◌, ℕ}
-use Rattle.f11_dev.specs.Image.{Image, IsImage}
+use Rattle.std.specs.Prelude.{◌≡◌, ◌↔◌, ℕ, ◌≤◌, length}
 use Rattle.f11_home.specs.Home.{HomeFields, IsHomeOf}
 use Rattle.f11_volume.specs.Faults.{IsFramed, IsFrameFault, IsVolumeFault}
 use Rattle.f11_volume.specs.Sound.{IsSoundVolume, HasSoundVolume, IsSoundImage}
 use Rattle.f11_volume.specs.Verdict.{IsFault, IsAccepted}
 use Rattle.f11_volume.specs.Volume.{Volume}
+use Rattle.f11_dev.specs.Image.{Image, IsImage}
+use Rattle.f11_layout.specs.declared.layout.Layout.{Layout}
+use Rattle.f11_volume.specs.Fresh.{IsFreshVolume}
 
 -- an image whose frame is as it should be has no fault of the frame
 abbrev pub FrameHasNoFault : Type 0
@@ -27,3 +29,7 @@ AcceptedIsSound = (image : Image) → IsImage image → IsAccepted image ↔ IsS
 -- so an image with this home block is accepted exactly where its volume is sound
 abbrev pub AcceptedHasSoundVolume : Type 0
 AcceptedHasSoundVolume = (image : Image) (home : HomeFields) → IsImage image → IsHomeOf image home → IsAccepted image ↔ HasSoundVolume image home
+
+-- an image on which a fresh volume was made is sound
+abbrev pub FreshIsSound : Type 0
+FreshIsSound = (l : Layout) (old new : Image) → IsImage new → l.blocks ≤ length new → IsFreshVolume l old new → IsSoundImage new

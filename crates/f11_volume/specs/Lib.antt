@@ -8,3 +8,4 @@ pub mod Sound
 pub mod FileLaws
 pub mod Earlier
 pub mod Laws
+pub mod Fresh

@@ -4,7 +4,7 @@ use Rattle.std.specs.Int.{bit_at}
 use Rattle.std.specs.List.{slice_get}
 use Rattle.f11_dev.specs.Image.{Image}
 use Rattle.f11_rad50.specs.Name.{IsName}
-use Rattle.f11_index.specs.HeaderBlock.{segment_number}
+use Rattle.f11_map.specs.HeaderBlock.{segment_number}
 use Rattle.f11_index.specs.Headers.{IsInFile}
 use Rattle.f11_index.specs.Table.{Table, IsLive, IsDeadSlot, IsFile, last_sequence}
 use Rattle.f11_store.specs.Directory.{is_directory, entries_of, is_empty, record_id, record_name}

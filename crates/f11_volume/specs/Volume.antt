@@ -7,7 +7,7 @@ use Rattle.f11_bits.specs.Bitmap.{is_free}
 use Rattle.f11_home.specs.Home.{HomeFields}
 use Rattle.f11_header.specs.Fields.{map_area}
 use Rattle.f11_map.specs.MapArea.{runs_of}
-use Rattle.f11_index.specs.HeaderBlock.{link_of, blocks_named}
+use Rattle.f11_map.specs.HeaderBlock.{link_of, blocks_named}
 use Rattle.f11_index.specs.Headers.{IsInFile}
 use Rattle.f11_index.specs.Table.{Table, table_of, IsLive}
 use Rattle.f11_volume.specs.Space.{storage_bitmap}

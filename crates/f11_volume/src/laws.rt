@@ -30,3 +30,8 @@ pub fn whole_files()
     ensures headers { files.FileHasItsHeaders }
     ensures blocks { files.FileHasItsBlocks }
 {}
+
+/// An image on which a fresh volume was made is sound.
+pub fn fresh_volumes()
+    ensures { laws.FreshIsSound }
+{}

@@ -8,7 +8,7 @@ use Rattle.f11_home.specs.Home.{HomeFields}
 use Rattle.f11_header.specs.Fields.{file_sequence}
 use Rattle.f11_index.specs.Calls.{SetsBit, bitmap_place, bitmap_block, with_bitmap_block}
 use Rattle.f11_index.specs.ChangeLaws.{StaysHeader}
-use Rattle.f11_index.specs.HeaderBlock.{segment_number, link_of}
+use Rattle.f11_map.specs.HeaderBlock.{segment_number, link_of}
 use Rattle.f11_index.specs.IndexFile.{Index, index_of, slots, is_in_use, HasNonePast}
 use Rattle.f11_index.specs.Laws.{KeepsButBit}
 use Rattle.f11_index.specs.Sound.{IsIndexFile}

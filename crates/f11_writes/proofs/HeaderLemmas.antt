@@ -9,7 +9,7 @@ use Rattle.f11_header.specs.Header.{IsHeader, IsDead}
 use Rattle.f11_home.specs.Home.{HomeFields}
 use Rattle.f11_index.specs.ChangeLaws.{StaysHeader}
 use Rattle.f11_index.specs.Growth.{IsGoodFor, with_header}
-use Rattle.f11_index.specs.HeaderBlock.{segment_number, link_of}
+use Rattle.f11_map.specs.HeaderBlock.{segment_number, link_of}
 use Rattle.f11_index.specs.IndexFile.{index_of, slots, header_lbn, HasNonePast, is_in_use}
 use Rattle.f11_index.specs.Laws.{LeadsAlike, KeepsButHeader}
 use Rattle.f11_index.specs.Sound.{IsIndexFile}

@@ -10,7 +10,7 @@ use Rattle.f11_store.specs.declared.files.FileId.{FileId}
 use Rattle.f11_index.specs.Calls.{SetsBit}
 use Rattle.f11_index.specs.ChangeLaws.{IsAsGood}
 use Rattle.f11_index.specs.Growth.{with_header}
-use Rattle.f11_index.specs.HeaderBlock.{segment_number, link_of, blocks_named}
+use Rattle.f11_map.specs.HeaderBlock.{segment_number, link_of, blocks_named}
 use Rattle.f11_index.specs.Headers.{headers_of, IsInFile}
 use Rattle.f11_index.specs.IndexFile.{Index, index_of}
 use Rattle.f11_index.specs.Table.{Table, table_of, IsLive, IsFile, IsNext, IsHeaderOf}

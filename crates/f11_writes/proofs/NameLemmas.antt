@@ -8,7 +8,7 @@ use Rattle.f11_bits.specs.Bitmap.{is_free, Marks}
 use Rattle.f11_dev.specs.Image.{Image}
 use Rattle.f11_header.specs.Header.{IsHeader}
 use Rattle.f11_home.specs.Home.{HomeFields}
-use Rattle.f11_index.specs.HeaderBlock.{blocks_named}
+use Rattle.f11_map.specs.HeaderBlock.{blocks_named}
 use Rattle.f11_index.specs.Table.{Table, table_of, IsLive}
 use Rattle.f11_index.proofs.PlaceLemmas.{slice_get-append_front, slice_get-range}
 use Rattle.f11_map.proofs.MapLemmas.{slice_get-append_back}

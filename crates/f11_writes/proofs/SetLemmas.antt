@@ -5,7 +5,7 @@ use Rattle.std.proofs.lemmas.Bool.{cases_eq}
 use Rattle.f11_header.specs.Fields.{file_sequence}
 use Rattle.f11_header.specs.Header.{IsHeader, IsDead}
 use Rattle.f11_store.specs.declared.files.FileId.{FileId}
-use Rattle.f11_index.specs.HeaderBlock.{segment_number, link_of, blocks_named}
+use Rattle.f11_map.specs.HeaderBlock.{segment_number, link_of, blocks_named}
 use Rattle.f11_index.specs.Headers.{IsInFile}
 use Rattle.f11_index.specs.Table.{Table, IsLive, IsNext, IsHeaderOf, first, next}
 use Rattle.f11_index.proofs.ChainLemmas.{live_of-header}

@@ -1,7 +1,7 @@
 -- Headers and their files where all slots but one are as they were (Files-11 On-Disk Structure Level 1, "Index File" and "File Header").
 use Rattle.std.specs.Prelude.{◌≡◌, ◌≢◌, ◌↔◌, ℕ, true, false}
 use Rattle.f11_index.specs.ChangeLaws.{IsAsGood, StayUpTo}
-use Rattle.f11_index.specs.HeaderBlock.{link_of}
+use Rattle.f11_map.specs.HeaderBlock.{link_of}
 use Rattle.f11_index.specs.Headers.{IsInFile}
 use Rattle.f11_index.specs.Table.{Table, IsLive, IsNext, IsHeaderOf, IsWholeFile}
 use Rattle.f11_chain.specs.Laws.{StayBefore}

@@ -2,7 +2,7 @@ use Rattle.std.proofs.Common.{◌≡◌, ◌≤◌, List, ℕ, sym, ap, subst, �
 use Rattle.f11_header.specs.Fields.{map_offset, map_area, file_sequence}
 use Rattle.f11_header.specs.MapFields.{segment}
 use Rattle.f11_header.proofs.HeaderFacts.{map_within}
-use Rattle.f11_index.specs.HeaderBlock.{segment_number}
+use Rattle.f11_map.specs.HeaderBlock.{segment_number}
 use Rattle.f11_index.specs.IndexFile.{bit_of_slot}
 use Rattle.f11_store.specs.declared.files.FileId.{FileId}
 use Rattle.f11_index.proofs.walk.is_header_due.Goals as goal

@@ -4,7 +4,7 @@ use Rattle.std.proofs.lemmas.Result.{IfOk-weaker}
 use Rattle.f11_dev.specs.Disk.{Disk}
 use Rattle.f11_dev.proofs.ImageLemmas.{image_block-read}
 use Rattle.f11_dev.proofs.LookedLemmas.{looked_read}
-use Rattle.f11_index.specs.HeaderBlock.{link_of, blocks_named}
+use Rattle.f11_map.specs.HeaderBlock.{link_of, blocks_named}
 use Rattle.f11_index.specs.Walk.{AddsIf, FitFrom, IsNextDue, headers_with}
 use Rattle.f11_index.specs.declared.fault.IndexFault.TheVariants.{Misplaced}
 use Rattle.f11_index.specs.declared.walk.Due.{Due}

@@ -1,6 +1,6 @@
 use Rattle.std.proofs.Common.{◌<◌, [], ◌∷◌, ◌++◌, ℕ, length, ap, sym, subst, refl, arith}
 use Rattle.std.specs.Prelude.{All}
-use Rattle.f11_index.specs.HeaderBlock.{blocks_named}
+use Rattle.f11_map.specs.HeaderBlock.{blocks_named}
 use Rattle.f11_chain.proofs.AlongLemmas.{Along-first, Along-next}
 use Rattle.f11_vfy.proofs.FramePartLemmas.{nothing-kept, none-within, bad-block, reads-file, kept-more, within-more, kept-within, kept-few}
 use Rattle.f11_vfy.proofs.bitmap_file.read_bitmap_file.Goals as goal

@@ -1,6 +1,6 @@
 use Rattle.std.proofs.Common.{◌≤◌, length, arith, refl}
 use Rattle.f11_volume.proofs.AcceptedLemmas.{accepted-sound}
-use Rattle.f11_vfy.proofs.FreshLemmas.{fresh-sound}
+use Rattle.f11_volume.proofs.FreshLemmas.{fresh-sound}
 use Rattle.f11_vfy.proofs.fresh.init.Goals as goal
 
 pub again-requires : goal.again-requires

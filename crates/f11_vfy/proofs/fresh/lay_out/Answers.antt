@@ -1,7 +1,7 @@
 use Rattle.std.proofs.Common.{◌<◌, length, arith}
 use Rattle.f11_bytes.proofs.ResultLemmas.{OnErr-given}
 use Rattle.f11_vfy.proofs.LayLemmas.{LaysUpTo-more, LaysUpTo-failed}
-use Rattle.f11_vfy.specs.Fresh.{used_by}
+use Rattle.f11_volume.specs.Fresh.{used_by}
 use Rattle.f11_vfy.proofs.fresh.lay_out.Goals as goal
 
 pub returns-in_err-write-clause-failed : goal.returns-in_err-write-clause-failed

@@ -2,7 +2,7 @@ use Rattle.std.proofs.Common.{◌+◌, ◌*◌, ◌≤◌, ◌&&◌, ◌∙◌, 
 use Rattle.f11_bytes.specs.Words.{word}
 use Rattle.f11_header.specs.Fields.{ident_offset, ident_area, attributes}
 use Rattle.f11_header.proofs.HeaderFacts.{ident_within}
-use Rattle.f11_index.specs.HeaderBlock.{segment_number}
+use Rattle.f11_map.specs.HeaderBlock.{segment_number}
 use Rattle.f11_vfy.specs.Slot.{says_directory}
 use Rattle.f11_vfy.proofs.slot.is_directory.Goals as goal
 

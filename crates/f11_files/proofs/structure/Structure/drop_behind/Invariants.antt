@@ -1,5 +1,5 @@
 use Rattle.std.proofs.Common.{◌≡◌, ◌⊎◌, ◌<◌, ◌≤◌, IsTrue}
-use Rattle.f11_index.specs.HeaderBlock.{segment_number}
+use Rattle.f11_map.specs.HeaderBlock.{segment_number}
 use Rattle.f11_index.specs.Table.{table_of}
 use Rattle.f11_store.specs.Changes.{is_in}
 use Rattle.f11_files.specs.Drops.{headers_behind}

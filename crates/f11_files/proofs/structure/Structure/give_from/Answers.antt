@@ -1,7 +1,7 @@
 use Rattle.std.proofs.Common.{◌≡◌, ◌<◌, ◌≤◌, ℕ, List, drop, ◌∙◌, length, Some, sym, ap, arith}
 use Rattle.std.specs.List.{slice_get}
 use Rattle.f11_header.specs.Fields.{map_area}
-use Rattle.f11_index.specs.HeaderBlock.{blocks_named}
+use Rattle.f11_map.specs.HeaderBlock.{blocks_named}
 use Rattle.f11_map.specs.MapArea.{runs_of}
 use Rattle.f11_image_store.specs.FileLaws.{pointers_in}
 use Rattle.f11_files.proofs.AnswerLemmas.{handed}

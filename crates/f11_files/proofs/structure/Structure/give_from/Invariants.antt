@@ -1,6 +1,6 @@
 use Rattle.std.proofs.Common.{drop}
 use Rattle.f11_header.specs.Fields.{map_area}
-use Rattle.f11_index.specs.HeaderBlock.{blocks_named}
+use Rattle.f11_map.specs.HeaderBlock.{blocks_named}
 use Rattle.f11_map.specs.MapArea.{blocks_in, runs_of}
 use Rattle.f11_image_store.specs.Confines.{no_header}
 use Rattle.f11_files.specs.Structure.{StandsAlike, WritesParts}

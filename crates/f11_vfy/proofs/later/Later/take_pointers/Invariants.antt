@@ -1,7 +1,7 @@
 use Rattle.std.proofs.Common.{◌≡◌, ◌≤◌, ◌+◌, ◌-◌, ◌*◌, length, take}
 use Rattle.f11_dev.specs.Looked.{Looked}
 use Rattle.f11_header.specs.Fields.{map_area}
-use Rattle.f11_index.specs.HeaderBlock.{blocks_named}
+use Rattle.f11_map.specs.HeaderBlock.{blocks_named}
 use Rattle.f11_map.specs.MapArea.{runs_of, blocks_in}
 use Rattle.f11_vfy.specs.Directories.{HoldsBlocks, until, wanted}
 use Rattle.f11_vfy.specs.Later.{TakesOn}

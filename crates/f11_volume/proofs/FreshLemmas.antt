@@ -17,7 +17,7 @@ use Rattle.f11_index.specs.Headers.{headers_from, headers_of, IsInFile}
 use Rattle.f11_dev.specs.Image.{Image, IsImage, image_block}
 use Rattle.f11_home.specs.Home.{HomeFields, candidate, fields_of, IsHomeOf}
 use Rattle.f11_home.specs.HomeBlock.{IsHomeBlock}
-use Rattle.f11_index.specs.HeaderBlock.{segment_number, link_of, blocks_named}
+use Rattle.f11_map.specs.HeaderBlock.{segment_number, link_of, blocks_named}
 use Rattle.f11_index.specs.IndexFile.{Index, index_of, index_file, blocks_on, header_among, slots, slot_bit, bit_of_slot, is_in_use, header_lbn, first_header_lbn, HasNonePast}
 use Rattle.f11_index.specs.Sound.{IsPlaced, IsIndexFile}
 use Rattle.f11_index.specs.Table.{Table, table_in, table_of, IsFile, IsNext, IsHeaderOf, IsWholeFile, first, next}
@@ -34,12 +34,12 @@ use Rattle.f11_layout.specs.Places.{bit_blocks, first_header, control_lbn, direc
 use Rattle.f11_layout.specs.declared.layout.Layout.{Layout}
 use Rattle.f11_layout.proofs.HomeLemmas.{fresh-home, fresh-index_blocks, fresh-index_lbn}
 use Rattle.f11_store.specs.declared.files.FileId.{FileId}
-use Rattle.f11_vfy.specs.Fresh.{used_by, IsFreshUpTo}
+use Rattle.f11_volume.specs.Fresh.{used_by, IsFreshUpTo}
 use Rattle.f11_volume.specs.Faults.{IsFramed}
 use Rattle.f11_volume.specs.Sound.{IsSoundVolume, IsSoundImage}
 use Rattle.f11_volume.specs.Space.{bitmap_count, stated_size, bitmap_file, control_block, storage_bitmap, IsControlBlock}
 use Rattle.f11_volume.specs.Volume.{Volume, volume_of, IsCell}
-use Rattle.f11_vfy.proofs.FreshBits.{own-bit, other-bit, past-bit}
+use Rattle.f11_volume.proofs.FreshBits.{own-bit, other-bit, past-bit}
 
 zero-size : length zero_block ≡ 512
 unfolding zero_block

@@ -1,5 +1,0 @@
-use Rattle.f11_vfy.proofs.FreshLemmas.{fresh-sound}
-use Rattle.f11_vfy.proofs.laws.fresh_volumes.Goals as goal
-
-pub returns : goal.returns
-returns c = λ l old new is room fresh. fresh-sound new l is room fresh.front
