@@ -26,8 +26,8 @@ use Rattle.f11_store.specs.declared.requests.Request.TheVariants as request
 use Rattle.f11_store.specs.Rights.{may}
 use Rattle.f11_files.specs.Answers.{Reads, Writes, FailsToRead, FailsToWrite, is_among, is_cause, is_grave, is_light, faults_of}
 use Rattle.f11_files.specs.Operations.{length_causes, extend_causes, attr_of}
-use Rattle.f11_files.specs.Blocks.{ReadsBlock, StoresBlock, FailsToStore, block_work}
-use Rattle.f11_files.specs.Extend.{IsLengthAfter, ExtendsFile, FailsToExtend}
+use Rattle.f11_files.specs.Finding.Blocks.{ReadsBlock, StoresBlock, FailsToStore, block_work}
+use Rattle.f11_files.specs.Extending.Runs.{IsLengthAfter, ExtendsFile, FailsToExtend}
 use Rattle.f11_image_store.specs.StoreOf.{store_of}
 use Rattle.f11_fcp.proofs.RequestLemmas.{still}
 use Rattle.f11_fcp.specs.Accesses.{Table, Entry, access_of, accesses, held_in, mark_there, mark_kept, HasAccessed}

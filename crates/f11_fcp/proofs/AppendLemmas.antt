@@ -26,8 +26,8 @@ use Rattle.f11_entries.proofs.EnteringLemmas.{entering_at_end, entering_in_new_b
 use Rattle.f11_entries.proofs.SeenLemmas.{new_block_is_zeros}
 use Rattle.f11_entries.proofs.WritingLemmas.{entering_by_writes, entering_in_place_by_write}
 use Rattle.f11_files.specs.Answers.{Breaks, FailsToRead, IsRight, IsUnderWay, Meanwhile, Reads, Writes, faults_of, is_among, is_cause, is_grave}
-use Rattle.f11_files.specs.Blocks.{ReadsBlock}
-use Rattle.f11_files.specs.Extend.{ExtendsFile, FailsToExtend}
+use Rattle.f11_files.specs.Finding.Blocks.{ReadsBlock}
+use Rattle.f11_files.specs.Extending.Runs.{ExtendsFile, FailsToExtend}
 use Rattle.f11_files.specs.Operations.{extend_causes}
 use Rattle.f11_image_store.specs.StoreOf.{store_of}
 use Rattle.f11_files.proofs.AnswerLemmas.{reads-within}

@@ -19,7 +19,7 @@ use Rattle.f11_store.specs.declared.requests.Reply.TheVariants as reply
 use Rattle.f11_store.specs.declared.requests.Request.{Request}
 use Rattle.f11_store.specs.declared.requests.Request.TheVariants as request
 use Rattle.f11_files.specs.Answers.{Reads, FailsToRead, is_among, is_light}
-use Rattle.f11_files.specs.Fields.{Alters, FailsToAlter}
+use Rattle.f11_files.specs.Changing.Fields.{Alters, FailsToAlter}
 use Rattle.f11_files.specs.Operations.{attr_of, file_causes}
 use Rattle.f11_image_store.specs.StoreOf.{store_of}
 use Rattle.f11_files.proofs.AnswerLemmas.{reads-within}

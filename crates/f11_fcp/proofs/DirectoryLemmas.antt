@@ -21,7 +21,7 @@ use Rattle.f11_entries.specs.Costs.{look_cost, reading_cost}
 use Rattle.f11_entries.specs.Looks.{Tells, IsLastBlock}
 use Rattle.f11_files.specs.Answers.{FailsToRead, Reads, faults_of, is_among}
 use Rattle.f11_files.specs.Calls.{ReadsAttr}
-use Rattle.f11_files.specs.Length.{CountsBlocks}
+use Rattle.f11_files.specs.Finding.Length.{CountsBlocks}
 use Rattle.f11_files.specs.Operations.{attr_of, file_causes}
 use Rattle.f11_image_store.specs.StoreOf.{store_of}
 use Rattle.f11_files.proofs.AnswerLemmas.{fails-more, reads-more, reads-within, right-cause}

@@ -22,8 +22,8 @@ use Rattle.f11_entries.specs.Costs.{append_cost}
 use Rattle.f11_entries.specs.Looks.{place_of}
 use Rattle.f11_entries.specs.declared.spot.Spot.{Spot}
 use Rattle.f11_files.specs.Answers.{Breaks, Meanwhile, Writes}
-use Rattle.f11_files.specs.Blocks.{StoresBlock, block_work}
-use Rattle.f11_files.specs.Fields.{Alters}
+use Rattle.f11_files.specs.Finding.Blocks.{StoresBlock, block_work}
+use Rattle.f11_files.specs.Changing.Fields.{Alters}
 use Rattle.f11_files.specs.Operations.{file_causes, length_causes}
 use Rattle.f11_image_store.specs.StoreOf.{store_of}
 use Rattle.f11_fcp.specs.Entries.{HoldsSpot, HasBlocks, put_at, put_work, ReplacesEntry, BreaksReplacing, IsTailOf, move_at, putting, moving, Appending, Appends}

@@ -18,7 +18,7 @@ use Rattle.f11_store.specs.declared.requests.Request.{Request}
 use Rattle.f11_store.specs.declared.requests.Request.TheVariants as request
 use Rattle.f11_store.proofs.HeldLaws.{growth-held, index-grows-held}
 use Rattle.f11_files.specs.Answers.{IsRight, is_among, is_grave, is_light}
-use Rattle.f11_files.specs.GrowIndex.{GrowsIndexFile, IsSlotsAfter, FailsToGrow}
+use Rattle.f11_files.specs.GrowingIndex.Runs.{GrowsIndexFile, IsSlotsAfter, FailsToGrow}
 use Rattle.f11_files.specs.Operations.{grow_causes}
 use Rattle.f11_image_store.specs.StoreOf.{store_of}
 use Rattle.f11_fcp.specs.Accesses.{Table, accesses, held_in}

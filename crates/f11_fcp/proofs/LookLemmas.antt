@@ -14,7 +14,7 @@ use Rattle.f11_store.specs.Directory.{is_empty, record_in, record_id}
 use Rattle.f11_store.specs.Cost.{header_count}
 use Rattle.f11_dir.specs.Records.{records_in, place_of_name}
 use Rattle.f11_files.specs.Answers.{FailsToRead, Reads}
-use Rattle.f11_files.specs.Blocks.{ReadsBlock}
+use Rattle.f11_files.specs.Finding.Blocks.{ReadsBlock}
 use Rattle.f11_files.specs.Operations.{length_causes}
 use Rattle.f11_image_store.specs.StoreOf.{store_of}
 use Rattle.f11_files.proofs.AnswerLemmas.{reads-looked, reads-more, reads-within}

@@ -16,7 +16,7 @@ use Rattle.f11_store.specs.declared.requests.Request.{Request}
 use Rattle.f11_store.specs.declared.requests.Request.TheVariants as request
 use Rattle.f11_store.proofs.HeldLaws.{cut-held}
 use Rattle.f11_files.specs.Answers.{is_among, is_light}
-use Rattle.f11_files.specs.Cuts.{Cuts, FailsToCut, cut_work}
+use Rattle.f11_files.specs.Removing.Truncate.{Cuts, FailsToCut, cut_work}
 use Rattle.f11_files.specs.Operations.{length_causes}
 use Rattle.f11_image_store.specs.StoreOf.{store_of}
 use Rattle.f11_fcp.specs.Accesses.{Table, Entry, accesses, held_in}

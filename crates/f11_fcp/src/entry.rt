@@ -1,7 +1,7 @@
 //! Records of a directory that was looked through, replaced where they stand.
 ghost use Rattle.std.specs.Prelude.{◌≡◌, ◌+◌, ◌<◌, ◌≤◌, ◌^◌, false, IfErr, IfOk, OnOk};
 ghost use Rattle.f11_files.specs.Answers.{Breaks, Meanwhile};
-ghost use Rattle.f11_files.specs.Blocks.{StoresBlock, block_work};
+ghost use Rattle.f11_files.specs.Finding.Blocks.{StoresBlock, block_work};
 ghost use Rattle.f11_files.specs.Open.{disk_in, has_failed, home_in, is_honest, store_in, IsIdFrom};
 ghost use Rattle.f11_fcp.specs.Entries.{BreaksReplacing, HasBlocks, HoldsSpot, ReplacesEntry};
 ghost use Rattle.f11_store.specs.Cost.{header_count};

@@ -33,7 +33,7 @@ pub struct Volume<D: Device> {
 
 impl<D: Device> Volume<D> {
     ghost use Rattle.std.specs.Prelude.{true, IfOk, IfErr};
-    ghost use Rattle.f11_files.specs.Opened.{FailsToOpen};
+    ghost use Rattle.f11_files.specs.Opening.Opened.{FailsToOpen};
     ghost use Rattle.f11_vfy.specs.Accepted.{device_of};
     ghost use Rattle.f11_fcp.specs.Mounting.{Mounts};
     ghost use Rattle.f11_fcp.specs.Serving.{Serving, StaysAccepted, device_in, is_spent, state_in};

@@ -6,31 +6,15 @@
 #![tactic(auto)]
 
 mod answer;
-mod attributes;
-mod blocks;
-mod clear;
+mod change;
 mod create;
-mod delete;
-mod drops;
 mod extend;
-mod extension;
-mod fields;
 mod files;
-mod first;
-mod grow;
+mod find;
 mod grow_index;
-mod length;
-mod link;
-mod locate;
-mod name;
 mod open;
-mod room;
-mod slots;
+mod remove;
 mod structure;
-mod tail;
-mod take;
-mod truncate;
-mod zeros;
 
 pub use files::Files;
 pub use open::OpenFault;

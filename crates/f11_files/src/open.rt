@@ -1,6 +1,6 @@
 //! Opening an accepted volume, and giving it up.
 ghost use Rattle.std.specs.Prelude.{◌≡◌, ◌↔◌, false, IsTrue, IfErr, IfOk};
-ghost use Rattle.f11_files.specs.Opening.{AreApart, OpensStructure, fault_of, HasNoStructure};
+ghost use Rattle.f11_files.specs.Opening.Opens.{AreApart, OpensStructure, fault_of, HasNoStructure};
 ghost use Rattle.f11_volume.specs.Verdict.{IsAccepted};
 
 use crate::files::Files;
@@ -99,7 +99,7 @@ impl Structure {
 
 impl<D: Device> Files<D> {
     ghost use Rattle.f11_files.specs.Open.{device_in, has_failed, disk_in, home_in, store_in};
-    ghost use Rattle.f11_files.specs.Opened.{Opens, FailsToOpen};
+    ghost use Rattle.f11_files.specs.Opening.Opened.{Opens, FailsToOpen};
     ghost use Rattle.f11_vfy.specs.Accepted.{device_of};
 
     /// Opens an accepted volume. It reads the candidates for the home block up to the one found, the frame, for which it looks for the

@@ -1,7 +1,7 @@
 use Rattle.std.proofs.Common.{sym, subst}
 use Rattle.f11_entries.specs.Costs.{append_cost}
 use Rattle.f11_files.specs.Answers.{Breaks}
-use Rattle.f11_files.specs.Fields.{Alters, FailsToAlter}
+use Rattle.f11_files.specs.Changing.Fields.{Alters, FailsToAlter}
 use Rattle.f11_files.specs.Open.{disk_in, has_failed, home_in, store_in}
 use Rattle.f11_image_store.specs.StoreOf.{store_of}
 use Rattle.f11_home.specs.Home.{HomeFields}

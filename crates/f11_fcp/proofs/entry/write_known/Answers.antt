@@ -1,6 +1,6 @@
 use Rattle.std.proofs.Common.{◌+◌, sym, subst}
 use Rattle.f11_files.specs.Answers.{Breaks, Meanwhile}
-use Rattle.f11_files.specs.Blocks.{block_work}
+use Rattle.f11_files.specs.Finding.Blocks.{block_work}
 use Rattle.f11_files.specs.Open.{disk_in, home_in, store_in}
 use Rattle.f11_files.specs.Operations.{length_causes}
 use Rattle.f11_store.specs.Cost.{header_count}

@@ -1,5 +1,5 @@
 use Rattle.std.proofs.Common.{refl, sym, ◌∙◌, arith}
-use Rattle.f11_files.proofs.ApartLemmas.{not-apart, apart-more}
+use Rattle.f11_files.proofs.Opening.Apart.{not-apart, apart-more}
 use Rattle.f11_files.proofs.open.are_apart.Goals as goal
 
 pub loop-i-init : goal.loop-i-init

@@ -1,4 +1,4 @@
-use Rattle.f11_files.proofs.ApartLemmas.{AreApartTo}
+use Rattle.f11_files.proofs.Opening.Apart.{AreApartTo}
 use Rattle.f11_files.proofs.open.are_apart.Given as goal
 
 -- none of the first i is there twice

@@ -1,7 +1,7 @@
 use Rattle.std.proofs.Common.{[], false, ◌||◌, refl, sym, ◌∙◌, ap, subst}
 use Rattle.f11_entries.specs.Costs.{look_cost, reading_cost}
 use Rattle.f11_files.specs.Answers.{FailsToRead, is_grave}
-use Rattle.f11_files.specs.Length.{CountsBlocks}
+use Rattle.f11_files.specs.Finding.Length.{CountsBlocks}
 use Rattle.f11_files.specs.Open.{disk_in, has_failed, home_in, store_in}
 use Rattle.f11_files.specs.Operations.{file_causes}
 use Rattle.f11_image_store.specs.StoreOf.{store_of}

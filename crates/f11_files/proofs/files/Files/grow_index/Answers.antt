@@ -1,8 +1,8 @@
 use Rattle.std.proofs.Common.{arith}
-use Rattle.f11_files.proofs.FilesLemmas.{files-for}
+use Rattle.f11_files.proofs.Opening.Values.{files-for}
 use Rattle.f11_files.specs.Structure.{StaysFor}
-use Rattle.f11_files.proofs.GrowIndexLemmas.{as-grow}
-use Rattle.f11_files.proofs.OpenLemmas.{stays-opened}
+use Rattle.f11_files.proofs.GrowingIndex.GrowIndex.{as-grow}
+use Rattle.f11_files.proofs.Opening.Kept.{stays-opened}
 use Rattle.f11_files.proofs.WriteLemmas.{had-failed}
 use Rattle.f11_files.proofs.files.Files.grow_index.Goals as goal
 

@@ -1,5 +1,5 @@
-use Rattle.f11_files.proofs.FilesLemmas.{files-for}
-use Rattle.f11_files.proofs.OpenLemmas.{looked-for, answered, for-opened}
+use Rattle.f11_files.proofs.Opening.Values.{files-for}
+use Rattle.f11_files.proofs.Opening.Kept.{looked-for, answered, for-opened}
 use Rattle.f11_files.proofs.files.Files.length.Goals as goal
 
 pub length-answer-requires-clause-is_for : goal.length-answer-requires-clause-is_for

@@ -1,6 +1,6 @@
-use Rattle.f11_files.proofs.FilesLemmas.{files-for}
+use Rattle.f11_files.proofs.Opening.Values.{files-for}
 use Rattle.f11_files.specs.Structure.{StaysFor}
-use Rattle.f11_files.proofs.OpenLemmas.{stays-opened}
+use Rattle.f11_files.proofs.Opening.Kept.{stays-opened}
 use Rattle.f11_files.proofs.WriteLemmas.{had-failed}
 use Rattle.f11_files.proofs.files.Files.mark.Goals as goal
 

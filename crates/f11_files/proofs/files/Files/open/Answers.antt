@@ -1,5 +1,5 @@
 use Rattle.std.proofs.Common.{false}
-use Rattle.f11_files.proofs.OpenLemmas.{for-opened}
+use Rattle.f11_files.proofs.Opening.Kept.{for-opened}
 use Rattle.f11_files.proofs.files.Files.open.Goals as goal
 
 pub invariant_of-result : goal.invariant_of-result

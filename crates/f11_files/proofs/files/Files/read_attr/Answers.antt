@@ -1,5 +1,5 @@
-use Rattle.f11_files.proofs.FilesLemmas.{files-for}
-use Rattle.f11_files.proofs.OpenLemmas.{looked-for, answered, for-opened}
+use Rattle.f11_files.proofs.Opening.Values.{files-for}
+use Rattle.f11_files.proofs.Opening.Kept.{looked-for, answered, for-opened}
 use Rattle.f11_files.proofs.files.Files.read_attr.Goals as goal
 
 pub read_attr-answer-requires : goal.read_attr-answer-requires

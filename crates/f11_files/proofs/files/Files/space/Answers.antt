@@ -1,5 +1,5 @@
-use Rattle.f11_files.proofs.FilesLemmas.{files-for}
-use Rattle.f11_files.proofs.SpaceLemmas.{space-is}
+use Rattle.f11_files.proofs.Opening.Values.{files-for}
+use Rattle.f11_files.proofs.Opening.Space.{space-is}
 use Rattle.f11_files.proofs.files.Files.space.Goals as goal
 
 pub returns-clause-told : goal.returns-clause-told

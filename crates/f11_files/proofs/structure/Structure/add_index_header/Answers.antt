@@ -1,12 +1,12 @@
 use Rattle.std.proofs.Common.{arith}
-use Rattle.f11_files.proofs.AddIndexHeaderLemmas.{may-file, names-these, may-become, within-then, fails-link, failed-link-stays, appends-linked, linked-stays}
+use Rattle.f11_files.proofs.GrowingIndex.AddHeader.{may-file, names-these, may-become, within-then, fails-link, failed-link-stays, appends-linked, linked-stays}
 use Rattle.f11_files.proofs.AnswerLemmas.{handed}
-use Rattle.f11_files.proofs.ExtensionBlockLemmas.{segment-said}
-use Rattle.f11_files.proofs.FreeingLemmas.{stays-for}
-use Rattle.f11_files.proofs.NewHeaderLemmas.{too-many, some-free, fails-enter}
+use Rattle.f11_files.proofs.Extending.HeaderBlock.{segment-said}
+use Rattle.f11_files.proofs.Removing.Freeing.{stays-for}
+use Rattle.f11_files.proofs.Extending.NewHeader.{too-many, some-free, fails-enter}
 use Rattle.std.specs.List.{range_with_len}
-use Rattle.f11_files.proofs.PartsLemmas.{to-parts}
-use Rattle.f11_files.proofs.GrowthPartsLemmas.{grows-linked, grows-taken-behind, of-new}
+use Rattle.f11_files.proofs.Confining.Parts.{to-parts}
+use Rattle.f11_files.proofs.Extending.Parts.{grows-linked, grows-taken-behind, of-new}
 use Rattle.f11_image_store.specs.Confines.{new_header}
 use Rattle.f11_files.specs.Structure.{index_in}
 use Rattle.f11_files.proofs.structure.Structure.add_index_header.Goals as goal

@@ -1,8 +1,8 @@
-use Rattle.f11_files.proofs.AddRunLemmas.{fails-take, run-may, fails-append, adds-run}
+use Rattle.f11_files.proofs.Extending.AddRun.{fails-take, run-may, fails-append, adds-run}
 use Rattle.f11_store.proofs.PieceLemmas.{may-free}
-use Rattle.f11_files.proofs.TakenRunLemmas.{run-last}
+use Rattle.f11_files.proofs.Extending.TakenRun.{run-last}
 use Rattle.f11_files.proofs.AnswerLemmas.{handed}
-use Rattle.f11_files.proofs.GrowthPartsLemmas.{grows-marked, grows-then, growth-run, growth-marked}
+use Rattle.f11_files.proofs.Extending.Parts.{grows-marked, grows-then, growth-run, growth-marked}
 use Rattle.std.proofs.Common.{[]}
 use Rattle.f11_files.proofs.structure.Structure.add_run.Goals as goal
 

@@ -1,9 +1,9 @@
-use Rattle.f11_files.proofs.AddSlotsLemmas.{fails-take, run-may, fails-append, adds-slots}
+use Rattle.f11_files.proofs.GrowingIndex.AddSlots.{fails-take, run-may, fails-append, adds-slots}
 use Rattle.f11_store.proofs.IndexPieceLemmas.{as-file}
 use Rattle.f11_store.proofs.PieceLemmas.{may-free}
-use Rattle.f11_files.proofs.TakenRunLemmas.{run-last}
+use Rattle.f11_files.proofs.Extending.TakenRun.{run-last}
 use Rattle.f11_files.proofs.AnswerLemmas.{handed}
-use Rattle.f11_files.proofs.GrowthPartsLemmas.{grows-marked, grows-then, growth-run, run-free, growth-marked}
+use Rattle.f11_files.proofs.Extending.Parts.{grows-marked, grows-then, growth-run, run-free, growth-marked}
 use Rattle.f11_files.proofs.structure.Structure.add_slots.Goals as goal
 
 pub returns-in_err-lbn-clause-refused : goal.returns-in_err-lbn-clause-refused

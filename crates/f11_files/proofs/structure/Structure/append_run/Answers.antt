@@ -1,11 +1,11 @@
 use Rattle.std.proofs.Common.{[], refl, ap}
 use Rattle.std.proofs.lemmas.Result.{IfErr-weaker, on_ok_weaker}
 use Rattle.std.specs.List.{range_with_len}
-use Rattle.f11_files.proofs.AppendRunLemmas.{sound-moment, fails-zeros, named-stays, now-own, now-may, appends-header, fails-header, fails-named, appends-named}
-use Rattle.f11_files.proofs.GrowingLemmas.{breaks-stays}
-use Rattle.f11_files.proofs.ZeroedLemmas.{mid-for, mid-last, mid-given, now-for, now-last, now-given, now-full}
-use Rattle.f11_files.proofs.GrowthPartsLemmas.{grows-same, grows-then, growth-named, growth-then, growth-zeroed}
-use Rattle.f11_files.specs.declared.tail.Tail.{Tail}
+use Rattle.f11_files.proofs.Extending.AppendRun.{sound-moment, fails-zeros, named-stays, now-own, now-may, appends-header, fails-header, fails-named, appends-named}
+use Rattle.f11_files.proofs.Extending.Growing.{breaks-stays}
+use Rattle.f11_files.proofs.Extending.Zeroed.{mid-for, mid-last, mid-given, now-for, now-last, now-given, now-full}
+use Rattle.f11_files.proofs.Extending.Parts.{grows-same, grows-then, growth-named, growth-then, growth-zeroed}
+use Rattle.f11_files.specs.declared.extend.tail.Tail.{Tail}
 use Rattle.f11_files.proofs.structure.Structure.append_run.Goals as goal
 
 pub returns-in-Err-clause-refused : goal.returns-in-Err-clause-refused

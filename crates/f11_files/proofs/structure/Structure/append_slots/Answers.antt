@@ -1,11 +1,11 @@
 use Rattle.std.proofs.Common.{refl, ap}
 use Rattle.std.proofs.lemmas.Result.{IfErr-weaker, on_ok_weaker}
-use Rattle.f11_files.proofs.AppendSlotsLemmas.{sound-moment, fails-zeros, mid-slots, then-for, then-last, then-index, then-given, then-within, then-reserved, then-may, then-stays, appends-header, fails-header, fails-named, appends-named}
-use Rattle.f11_files.proofs.GrowingLemmas.{breaks-stays}
-use Rattle.f11_files.proofs.ZeroedLemmas.{mid-for, mid-last, mid-given, now-full}
+use Rattle.f11_files.proofs.GrowingIndex.AppendSlots.{sound-moment, fails-zeros, mid-slots, then-for, then-last, then-index, then-given, then-within, then-reserved, then-may, then-stays, appends-header, fails-header, fails-named, appends-named}
+use Rattle.f11_files.proofs.Extending.Growing.{breaks-stays}
+use Rattle.f11_files.proofs.Extending.Zeroed.{mid-for, mid-last, mid-given, now-full}
 use Rattle.std.specs.List.{range_with_len}
-use Rattle.f11_files.proofs.GrowthPartsLemmas.{grows-behind, grows-same, grows-then, growth-named, growth-then, growth-zeroed}
-use Rattle.f11_files.specs.declared.tail.Tail.{Tail}
+use Rattle.f11_files.proofs.Extending.Parts.{grows-behind, grows-same, grows-then, growth-named, growth-then, growth-zeroed}
+use Rattle.f11_files.specs.declared.extend.tail.Tail.{Tail}
 use Rattle.f11_files.proofs.structure.Structure.append_slots.Goals as goal
 
 pub returns-in-Err-clause-refused : goal.returns-in-Err-clause-refused

@@ -1,11 +1,11 @@
 use Rattle.std.proofs.Common.{false, refl}
 use Rattle.f11_index.proofs.InUseLemmas.{in_use-some, in_use-slot}
 use Rattle.f11_files.specs.Structure.{index_in}
-use Rattle.f11_files.proofs.BuryLemmas.{fails-killed, fails-bit, buries, buried-stays}
-use Rattle.f11_files.proofs.FreeingLemmas.{broken-stays}
-use Rattle.f11_files.proofs.FirstLemmas.{place-within}
-use Rattle.f11_files.proofs.PartsLemmas.{bit-alike, only-failed}
-use Rattle.f11_files.proofs.SlotPartsLemmas.{slot-buried}
+use Rattle.f11_files.proofs.Removing.Bury.{fails-killed, fails-bit, buries, buried-stays}
+use Rattle.f11_files.proofs.Removing.Freeing.{broken-stays}
+use Rattle.f11_files.proofs.Finding.First.{place-within}
+use Rattle.f11_files.proofs.Confining.Parts.{bit-alike, only-failed}
+use Rattle.f11_files.proofs.Confining.SlotParts.{slot-buried}
 use Rattle.f11_files.proofs.structure.Structure.bury.Goals as goal
 
 pub lbn_of_header-requires-clause-some : goal.lbn_of_header-requires-clause-some

@@ -1,10 +1,10 @@
 use Rattle.std.proofs.Common.{refl, sym, subst, List, ℕ}
 use Rattle.f11_index.proofs.InUseLemmas.{in_use-slot}
-use Rattle.f11_files.specs.Clear.{ClearsMark}
+use Rattle.f11_files.specs.Extending.Mark.{ClearsMark}
 use Rattle.f11_files.specs.Structure.{index_in}
-use Rattle.f11_files.proofs.ClearLemmas.{clears-none, clears-mark, fails-clear}
-use Rattle.f11_files.proofs.FirstLemmas.{place-within}
-use Rattle.f11_files.proofs.PartsLemmas.{only-failed, only-wrote}
+use Rattle.f11_files.proofs.Extending.Clear.{clears-none, clears-mark, fails-clear}
+use Rattle.f11_files.proofs.Finding.First.{place-within}
+use Rattle.f11_files.proofs.Confining.Parts.{only-failed, only-wrote}
 use Rattle.f11_files.proofs.structure.Structure.clear_mark.Goals as goal
 
 pub returns-then-not-clear_contiguous-clause-clears : goal.returns-then-not-clear_contiguous-clause-clears

@@ -4,9 +4,9 @@ use Rattle.f11_dev.proofs.LookedLemmas.{looked_none, looked_failed_read}
 use Rattle.f11_index.proofs.InUseLemmas.{header-within}
 use Rattle.f11_files.specs.Structure.{index_in}
 use Rattle.f11_files.proofs.AnswerLemmas.{right-cause, right-fault, reads-looked}
-use Rattle.f11_files.proofs.CreateLemmas.{none-free, fails-first, fails-first-stays, fails-bit, fails-bit-stays, creates, created-stays}
+use Rattle.f11_files.proofs.Creating.Create.{none-free, fails-first, fails-first-stays, fails-bit, fails-bit-stays, creates, created-stays}
 use Rattle.f11_files.proofs.WriteLemmas.{fails-unread}
-use Rattle.f11_files.proofs.SlotPartsLemmas.{slot-entered, slot-unwritten}
+use Rattle.f11_files.proofs.Confining.SlotParts.{slot-entered, slot-unwritten}
 use Rattle.f11_files.proofs.structure.Structure.create.Goals as goal
 
 pub returns-in_default-clause-refused : goal.returns-in_default-clause-refused

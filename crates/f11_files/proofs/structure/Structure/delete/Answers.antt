@@ -1,13 +1,13 @@
 use Rattle.std.proofs.lemmas.Result.{on_ok_weaker, IfErr-weaker}
 use Rattle.f11_files.proofs.AnswerLemmas.{handed}
-use Rattle.f11_files.proofs.GoneLemmas.{behind-listed, gone-first, behind-hangs, deletes-file, gone-behind}
-use Rattle.f11_files.proofs.PartsLemmas.{parts-then, to-parts}
+use Rattle.f11_files.proofs.Removing.Gone.{behind-listed, gone-first, behind-hangs, deletes-file, gone-behind}
+use Rattle.f11_files.proofs.Confining.Parts.{parts-then, to-parts}
 use Rattle.std.proofs.Common.{◌∙◌, []}
 use Rattle.f11_index.specs.Headers.{headers_of}
 use Rattle.f11_index.specs.Table.{table_of}
 use Rattle.f11_store.specs.Changes.{is_in}
 use Rattle.f11_files.specs.Structure.{home_of}
-use Rattle.f11_files.proofs.CutPartsLemmas.{first-parts}
+use Rattle.f11_files.proofs.Removing.Parts.{first-parts}
 use Rattle.f11_files.proofs.structure.Structure.delete.Goals as goal
 
 pub returns-in_err-drop_header-clause-refused : goal.returns-in_err-drop_header-clause-refused

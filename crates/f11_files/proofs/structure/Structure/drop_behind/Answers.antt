@@ -3,12 +3,12 @@ use Rattle.f11_chain.specs.Calls.{FindsLast, ReadsNext}
 use Rattle.f11_index.specs.Table.{table_of}
 use Rattle.f11_store.specs.Changes.{is_in}
 use Rattle.f11_image_store.specs.Confines.{only_header}
-use Rattle.f11_files.specs.Drops.{headers_behind}
+use Rattle.f11_files.specs.Removing.Drops.{headers_behind}
 use Rattle.f11_files.specs.Structure.{home_of, index_in}
 use Rattle.f11_files.proofs.AnswerLemmas.{handed}
-use Rattle.f11_files.proofs.FreeingLemmas.{broken-stays, handed-stays}
-use Rattle.f11_files.proofs.DroppingLemmas.{dropping-none, dropped-all, dropped-stays, no-next, read-for, may-next, next-breaks, next-listed, dropping-next}
-use Rattle.f11_files.proofs.PartsLemmas.{next-parts, of-only, parts-behind, parts-none, parts-stay, parts-then, stands-same, stands-then, to-parts}
+use Rattle.f11_files.proofs.Removing.Freeing.{broken-stays, handed-stays}
+use Rattle.f11_files.proofs.Removing.Dropping.{dropping-none, dropped-all, dropped-stays, no-next, read-for, may-next, next-breaks, next-listed, dropping-next}
+use Rattle.f11_files.proofs.Confining.Parts.{next-parts, of-only, parts-behind, parts-none, parts-stay, parts-then, stands-same, stands-then, to-parts}
 use Rattle.f11_files.proofs.structure.Structure.drop_behind.Goals as goal
 
 -- there are no more segments than headers that a file may have

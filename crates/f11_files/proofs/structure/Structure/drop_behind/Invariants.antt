@@ -2,9 +2,9 @@ use Rattle.std.proofs.Common.{◌≡◌, ◌⊎◌, ◌<◌, ◌≤◌, IsTrue}
 use Rattle.f11_map.specs.HeaderBlock.{segment_number}
 use Rattle.f11_index.specs.Table.{table_of}
 use Rattle.f11_store.specs.Changes.{is_in}
-use Rattle.f11_files.specs.Drops.{headers_behind}
+use Rattle.f11_files.specs.Removing.Drops.{headers_behind}
 use Rattle.f11_files.specs.Structure.{home_of, StandsAlike, WritesParts}
-use Rattle.f11_files.proofs.DroppingLemmas.{Dropping}
+use Rattle.f11_files.proofs.Removing.Dropping.{Dropping}
 use Rattle.f11_files.proofs.structure.Structure.drop_behind.Given as goal
 
 -- the headers up to the one in the block went, each of a segment of its own

@@ -1,6 +1,6 @@
 use Rattle.std.proofs.lemmas.Result.{on_ok_weaker, IfErr-weaker}
-use Rattle.f11_files.proofs.DropLemmas.{drops-header, drop-breaks}
-use Rattle.f11_files.proofs.PartsLemmas.{of-none, parts-then, stands-then, to-parts}
+use Rattle.f11_files.proofs.Removing.Drop.{drops-header, drop-breaks}
+use Rattle.f11_files.proofs.Confining.Parts.{of-none, parts-then, stands-then, to-parts}
 use Rattle.std.proofs.Common.{[]}
 use Rattle.f11_image_store.specs.Confines.{no_header, only_header}
 use Rattle.f11_files.proofs.structure.Structure.drop_header.Goals as goal

@@ -2,9 +2,9 @@ use Rattle.std.proofs.Common.{length, refl, ap, arith}
 use Rattle.f11_dev.specs.Disk.{Disk}
 use Rattle.f11_index.proofs.InUseLemmas.{header-within}
 use Rattle.f11_files.specs.Structure.{index_in}
-use Rattle.f11_files.proofs.EnterLemmas.{none-free, fails-read, fails-first, fails-bit, enters-header, entered-stays}
-use Rattle.f11_files.proofs.GrowingLemmas.{taking-stays}
-use Rattle.f11_files.proofs.SlotPartsLemmas.{least-new, slot-entered, slot-unwritten}
+use Rattle.f11_files.proofs.Extending.Enter.{none-free, fails-read, fails-first, fails-bit, enters-header, entered-stays}
+use Rattle.f11_files.proofs.Extending.Growing.{taking-stays}
+use Rattle.f11_files.proofs.Confining.SlotParts.{least-new, slot-entered, slot-unwritten}
 use Rattle.f11_files.proofs.structure.Structure.enter_header.Goals as goal
 
 pub returns-in_default-clause-refused : goal.returns-in_default-clause-refused

@@ -1,8 +1,8 @@
 use Rattle.f11_files.proofs.AnswerLemmas.{handed}
-use Rattle.f11_files.proofs.ClearedLemmas.{holds-last}
-use Rattle.f11_files.proofs.ExtendLemmas.{fails-clearing, stays-clearing, may-extend, fails-growing, extends-file, length-after}
+use Rattle.f11_files.proofs.Extending.Cleared.{holds-last}
+use Rattle.f11_files.proofs.Extending.Extend.{fails-clearing, stays-clearing, may-extend, fails-growing, extends-file, length-after}
 use Rattle.std.proofs.Common.{refl}
-use Rattle.f11_files.proofs.GrowthPartsLemmas.{clearing-confined, growing-confined}
+use Rattle.f11_files.proofs.Extending.Parts.{clearing-confined, growing-confined}
 use Rattle.f11_files.proofs.structure.Structure.extend.Goals as goal
 
 pub returns-in-Err-clause-refused : goal.returns-in-Err-clause-refused

@@ -1,16 +1,16 @@
 use Rattle.std.proofs.Common.{◌∙◌, arith, ◌≡◌, ℕ, false, IsTrue, ap, [], refl}
 use Rattle.f11_files.proofs.AnswerLemmas.{handed}
-use Rattle.f11_files.proofs.ExtendByLemmas.{extending-none, sound-moment, next-own, next-may, next-below, fails-run, extending-more, extending-done}
-use Rattle.f11_files.proofs.FreeingLemmas.{handed-stays, stays-for}
-use Rattle.f11_files.proofs.GrowingLemmas.{breaks-stays}
+use Rattle.f11_files.proofs.Extending.ExtendBy.{extending-none, sound-moment, next-own, next-may, next-below, fails-run, extending-more, extending-done}
+use Rattle.f11_files.proofs.Removing.Freeing.{handed-stays, stays-for}
+use Rattle.f11_files.proofs.Extending.Growing.{breaks-stays}
 use Rattle.f11_home.specs.Home.{HomeFields}
 use Rattle.f11_store.specs.Changes.{is_in}
 use Rattle.f11_volume.specs.Volume.{volume_of}
 use Rattle.f11_image_store.specs.Allocation.{free_list}
 use Rattle.f11_files.specs.Structure.{home_of}
-use Rattle.f11_files.proofs.PartsLemmas.{fewer-free, parts-none, to-parts}
-use Rattle.f11_files.proofs.GrowthPartsLemmas.{grows-then, growth-then}
-use Rattle.f11_files.specs.Tail.{growth_headers}
+use Rattle.f11_files.proofs.Confining.Parts.{fewer-free, parts-none, to-parts}
+use Rattle.f11_files.proofs.Extending.Parts.{grows-then, growth-then}
+use Rattle.f11_files.specs.Extending.Tail.{growth_headers}
 use Rattle.f11_files.proofs.structure.Structure.extend_by.Goals as goal
 
 pub loop-left-init : goal.loop-left-init

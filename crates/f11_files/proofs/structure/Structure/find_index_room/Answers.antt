@@ -1,5 +1,5 @@
 use Rattle.std.proofs.Common.{arith}
-use Rattle.f11_files.proofs.IndexRoomLemmas.{at-limit, finds-slots, lacks-slots, lacks-index}
+use Rattle.f11_files.proofs.GrowingIndex.Room.{at-limit, finds-slots, lacks-slots, lacks-index}
 use Rattle.f11_files.proofs.structure.Structure.find_index_room.Goals as goal
 
 pub returns-then-n-saturating_sub-clause-refused : goal.returns-then-n-saturating_sub-clause-refused

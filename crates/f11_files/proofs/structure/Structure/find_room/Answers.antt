@@ -7,9 +7,9 @@ use Rattle.f11_files.specs.Answers.{FailsToRead}
 use Rattle.f11_files.specs.Operations.{extend_causes}
 use Rattle.f11_files.specs.Structure.{index_in, store_on}
 use Rattle.f11_files.proofs.AnswerLemmas.{handed, fails-more}
-use Rattle.f11_files.proofs.LocateLemmas.{reads-first, fails-last}
-use Rattle.f11_files.proofs.RoomLemmas.{among-more, cause-more, finds-room, lacks-room}
-use Rattle.f11_files.proofs.SpaceLemmas.{space-is}
+use Rattle.f11_files.proofs.Finding.Locate.{reads-first, fails-last}
+use Rattle.f11_files.proofs.Extending.Room.{among-more, cause-more, finds-room, lacks-room}
+use Rattle.f11_files.proofs.Opening.Space.{space-is}
 use Rattle.f11_files.proofs.structure.Structure.find_room.Goals as goal
 
 pub returns-in-Err-clause-refused : goal.returns-in-Err-clause-refused

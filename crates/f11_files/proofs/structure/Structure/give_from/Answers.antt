@@ -5,9 +5,9 @@ use Rattle.f11_map.specs.HeaderBlock.{blocks_named}
 use Rattle.f11_map.specs.MapArea.{runs_of}
 use Rattle.f11_image_store.specs.FileLaws.{pointers_in}
 use Rattle.f11_files.proofs.AnswerLemmas.{handed}
-use Rattle.f11_files.proofs.FreeingLemmas.{broken-stays, handed-stays}
-use Rattle.f11_files.proofs.GivingLemmas.{giving-none, giving-at, giving-end, next-spare, giving-breaks, giving-next, giving-done, giving-stays}
-use Rattle.f11_files.proofs.PartsLemmas.{parts-none, parts-then, stands-same, stands-then}
+use Rattle.f11_files.proofs.Removing.Freeing.{broken-stays, handed-stays}
+use Rattle.f11_files.proofs.Removing.Giving.{giving-none, giving-at, giving-end, next-spare, giving-breaks, giving-next, giving-done, giving-stays}
+use Rattle.f11_files.proofs.Confining.Parts.{parts-none, parts-then, stands-same, stands-then}
 use Rattle.f11_image_store.specs.Confines.{no_header}
 use Rattle.f11_files.proofs.structure.Structure.give_from.Goals as goal
 

@@ -4,7 +4,7 @@ use Rattle.f11_map.specs.HeaderBlock.{blocks_named}
 use Rattle.f11_map.specs.MapArea.{blocks_in, runs_of}
 use Rattle.f11_image_store.specs.Confines.{no_header}
 use Rattle.f11_files.specs.Structure.{StandsAlike, WritesParts}
-use Rattle.f11_files.proofs.GivingLemmas.{Giving}
+use Rattle.f11_files.proofs.Removing.Giving.{Giving}
 use Rattle.f11_files.proofs.structure.Structure.give_from.Given as goal
 
 -- the blocks of the pointers so far are free, and those of the others are still to be marked

@@ -1,7 +1,7 @@
 use Rattle.std.proofs.Common.{◌≡◌, ◌<◌, ℕ, true, arith, refl}
-use Rattle.f11_files.proofs.FreeingLemmas.{no-run, outside-run, run-used, gives-run, fails-run, run-stays, broken-stays}
+use Rattle.f11_files.proofs.Removing.Freeing.{no-run, outside-run, run-used, gives-run, fails-run, run-stays, broken-stays}
 use Rattle.f11_image_store.specs.Confines.{no_header}
-use Rattle.f11_files.proofs.PartsLemmas.{marks-went}
+use Rattle.f11_files.proofs.Confining.Parts.{marks-went}
 use Rattle.f11_files.proofs.structure.Structure.give_run.Goals as goal
 
 some : (n : ℕ) → ¬ (n ≡ 0) → 0 < n

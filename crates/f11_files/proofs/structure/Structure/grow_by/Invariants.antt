@@ -2,8 +2,8 @@ use Rattle.std.proofs.Common.{IsTrue}
 use Rattle.f11_volume.specs.Volume.{volume_of}
 use Rattle.f11_image_store.specs.Allocation.{free_list}
 use Rattle.f11_files.specs.Structure.{home_of}
-use Rattle.f11_files.specs.Tail.{GrowsWithin, WritesGrowth}
-use Rattle.f11_files.proofs.GrowByLemmas.{GrowingOn}
+use Rattle.f11_files.specs.Extending.Tail.{GrowsWithin, WritesGrowth}
+use Rattle.f11_files.proofs.GrowingIndex.GrowBy.{GrowingOn}
 use Rattle.f11_files.proofs.structure.Structure.grow_by.Given as goal
 
 -- the runs so far are slots

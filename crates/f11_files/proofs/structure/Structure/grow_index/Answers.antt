@@ -1,13 +1,13 @@
 use Rattle.std.proofs.Common.{refl, arith}
 use Rattle.f11_store.specs.Store.{index_file}
-use Rattle.f11_files.specs.GrowIndex.{index_id}
+use Rattle.f11_files.specs.GrowingIndex.Runs.{index_id}
 use Rattle.f11_files.specs.Structure.{store_on}
 use Rattle.f11_files.proofs.AnswerLemmas.{handed}
-use Rattle.f11_files.proofs.ClearedLemmas.{holds-last}
-use Rattle.f11_files.proofs.FreeingLemmas.{handed-stays, stays-then}
-use Rattle.f11_files.proofs.GrowIndexLemmas.{reserved-for, reserved-finds, as-grow, no-want, read-cost, wants-memory, fails-clearing, stays-clearing, may-grow, fails-growing, grows-file, slots-after}
+use Rattle.f11_files.proofs.Extending.Cleared.{holds-last}
+use Rattle.f11_files.proofs.Removing.Freeing.{handed-stays, stays-then}
+use Rattle.f11_files.proofs.GrowingIndex.GrowIndex.{reserved-for, reserved-finds, as-grow, no-want, read-cost, wants-memory, fails-clearing, stays-clearing, may-grow, fails-growing, grows-file, slots-after}
 use Rattle.f11_files.proofs.WriteLemmas.{fails-unread}
-use Rattle.f11_files.proofs.GrowthPartsLemmas.{clearing-confined, growing-confined}
+use Rattle.f11_files.proofs.Extending.Parts.{clearing-confined, growing-confined}
 use Rattle.f11_files.proofs.structure.Structure.grow_index.Goals as goal
 
 pub returns-in_err-end-clause-refused : goal.returns-in_err-end-clause-refused

@@ -1,7 +1,7 @@
 use Rattle.std.proofs.Common.{◌≡◌, ◌+◌, ◌-◌, ℕ, Err, ap, arith}
 use Rattle.f11_chain.proofs.AlongLemmas.{along-behind, end-behind, break-behind, damage-break}
-use Rattle.f11_files.proofs.KeptLemmas.{keeps-none, keeps-some}
-use Rattle.f11_files.proofs.LocateLemmas.{reads-first, fails-walk}
+use Rattle.f11_files.proofs.Removing.Kept.{keeps-none, keeps-some}
+use Rattle.f11_files.proofs.Finding.Locate.{reads-first, fails-walk}
 use Rattle.f11_files.proofs.structure.Structure.last_kept.Goals as goal
 
 pub returns-then-to-eq0-clause-found : goal.returns-then-to-eq0-clause-found

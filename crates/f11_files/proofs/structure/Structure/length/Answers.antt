@@ -1,6 +1,6 @@
 use Rattle.std.proofs.Common.{Err, ap}
 use Rattle.f11_chain.proofs.AlongLemmas.{along-behind, break-behind, last-behind}
-use Rattle.f11_files.proofs.LocateLemmas.{reads-first, fails-last, counts-last}
+use Rattle.f11_files.proofs.Finding.Locate.{reads-first, fails-last, counts-last}
 use Rattle.f11_files.proofs.structure.Structure.length.Goals as goal
 
 pub returns-in-Ok-clause-counts : goal.returns-in-Ok-clause-counts

@@ -1,6 +1,6 @@
 use Rattle.std.proofs.Common.{◌≡◌, ◌+◌, ◌-◌, ap, Err, arith}
 use Rattle.f11_chain.proofs.AlongLemmas.{along-behind, end-behind, break-behind, damage-break, locates, damage-outside, no-block}
-use Rattle.f11_files.proofs.LocateLemmas.{reads-first, fails-walk, fails-damaged, finds-block}
+use Rattle.f11_files.proofs.Finding.Locate.{reads-first, fails-walk, fails-damaged, finds-block}
 use Rattle.f11_files.proofs.structure.Structure.locate.Goals as goal
 
 pub returns-in-Err-clause-refused : goal.returns-in-Err-clause-refused

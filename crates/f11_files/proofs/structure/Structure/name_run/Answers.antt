@@ -1,9 +1,9 @@
 use Rattle.std.proofs.Common.{refl}
 use Rattle.f11_index.proofs.InUseLemmas.{in_use-some, in_use-slot}
 use Rattle.f11_files.specs.Structure.{index_in}
-use Rattle.f11_files.proofs.NameRunLemmas.{names-run, fails-name}
-use Rattle.f11_files.proofs.FirstLemmas.{place-within}
-use Rattle.f11_files.proofs.PartsLemmas.{only-failed, only-wrote}
+use Rattle.f11_files.proofs.Extending.NameRun.{names-run, fails-name}
+use Rattle.f11_files.proofs.Finding.First.{place-within}
+use Rattle.f11_files.proofs.Confining.Parts.{only-failed, only-wrote}
 use Rattle.f11_files.proofs.structure.Structure.name_run.Goals as goal
 
 pub lbn_of_header-requires-clause-some : goal.lbn_of_header-requires-clause-some

@@ -1,6 +1,6 @@
 use Rattle.std.proofs.Common.{◌∙◌}
 use Rattle.f11_files.proofs.AnswerLemmas.{reads-looked}
-use Rattle.f11_files.proofs.NamedLemmas.{no-file-cause, attr-is}
+use Rattle.f11_files.proofs.Finding.Named.{no-file-cause, attr-is}
 use Rattle.f11_files.proofs.structure.Structure.read_attr.Goals as goal
 
 pub returns-clause-read : goal.returns-clause-read

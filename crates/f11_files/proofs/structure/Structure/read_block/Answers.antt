@@ -1,7 +1,7 @@
 use Rattle.std.proofs.Common.{◌∙◌}
 use Rattle.f11_dev.proofs.LookedLemmas.{looked_read, looked_failed_read}
 use Rattle.f11_files.proofs.AnswerLemmas.{right-fault, reads-looked, reads-more}
-use Rattle.f11_files.proofs.LocateLemmas.{block-read}
+use Rattle.f11_files.proofs.Finding.Locate.{block-read}
 use Rattle.f11_files.proofs.structure.Structure.read_block.Goals as goal
 
 pub returns-in-Ok-clause-read : goal.returns-in-Ok-clause-read

@@ -4,8 +4,8 @@ use Rattle.f11_dev.proofs.LookedLemmas.{looked_none, looked_failed_read, looked_
 use Rattle.f11_index.proofs.InUseLemmas.{in_use-some, in_use-slot, header-within}
 use Rattle.f11_files.specs.Structure.{index_in}
 use Rattle.f11_files.proofs.AnswerLemmas.{right-cause, right-fault, reads-looked}
-use Rattle.f11_files.proofs.FirstLemmas.{unused-none, FindsFile-read}
-use Rattle.f11_files.proofs.NamedLemmas.{missing-first, read-refused}
+use Rattle.f11_files.proofs.Finding.First.{unused-none, FindsFile-read}
+use Rattle.f11_files.proofs.Finding.Named.{missing-first, read-refused}
 use Rattle.f11_files.proofs.structure.Structure.read_first.Goals as goal
 
 pub returns-then-not-in_use-clause-refused : goal.returns-then-not-in_use-clause-refused

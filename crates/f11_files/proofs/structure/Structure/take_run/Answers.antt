@@ -1,6 +1,6 @@
 use Rattle.std.proofs.Common.{refl}
-use Rattle.f11_files.proofs.GrowingLemmas.{taking-stays}
-use Rattle.f11_files.proofs.TakeLemmas.{takes-run, take-stays, finds-none, fails-taking}
+use Rattle.f11_files.proofs.Extending.Growing.{taking-stays}
+use Rattle.f11_files.proofs.Extending.Take.{takes-run, take-stays, finds-none, fails-taking}
 use Rattle.f11_files.proofs.structure.Structure.take_run.Goals as goal
 
 pub returns-in-Ok-Some-clause-taken : goal.returns-in-Ok-Some-clause-taken

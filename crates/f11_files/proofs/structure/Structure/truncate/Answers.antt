@@ -3,11 +3,11 @@ use Rattle.f11_dev.specs.Image.{Image}
 use Rattle.f11_index.proofs.InUseLemmas.{in_use-some, in_use-slot}
 use Rattle.f11_files.specs.Structure.{index_in}
 use Rattle.f11_files.proofs.AnswerLemmas.{handed}
-use Rattle.f11_files.proofs.CutLemmas.{fails-written, written-for, spare-now, fails-giving, behind-hangs, fails-behind, cuts-file}
-use Rattle.f11_files.proofs.FreeingLemmas.{stays-for, stays-then}
+use Rattle.f11_files.proofs.Removing.Cut.{fails-written, written-for, spare-now, fails-giving, behind-hangs, fails-behind, cuts-file}
+use Rattle.f11_files.proofs.Removing.Freeing.{stays-for, stays-then}
 use Rattle.f11_files.proofs.WriteLemmas.{failed-stays}
-use Rattle.f11_files.proofs.FirstLemmas.{place-within}
-use Rattle.f11_files.proofs.CutPartsLemmas.{cut-dropped, cut-failed, cut-given}
+use Rattle.f11_files.proofs.Finding.First.{place-within}
+use Rattle.f11_files.proofs.Removing.Parts.{cut-dropped, cut-failed, cut-given}
 use Rattle.f11_files.proofs.structure.Structure.truncate.Goals as goal
 
 pub lbn_of_header-requires-clause-some : goal.lbn_of_header-requires-clause-some

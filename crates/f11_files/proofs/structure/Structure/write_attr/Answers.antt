@@ -3,9 +3,9 @@ use Rattle.f11_dev.specs.Image.{Image}
 use Rattle.f11_index.proofs.InUseLemmas.{in_use-slot}
 use Rattle.f11_store.specs.Changes.{with_replacement}
 use Rattle.f11_files.specs.Structure.{index_in}
-use Rattle.f11_files.proofs.AlterLemmas.{alters, altered-stays, fails-alter, fails-altered}
-use Rattle.f11_files.proofs.FirstLemmas.{place-within}
-use Rattle.f11_files.proofs.PartsLemmas.{first-failed, first-wrote}
+use Rattle.f11_files.proofs.Changing.Alter.{alters, altered-stays, fails-alter, fails-altered}
+use Rattle.f11_files.proofs.Finding.First.{place-within}
+use Rattle.f11_files.proofs.Confining.Parts.{first-failed, first-wrote}
 use Rattle.f11_files.proofs.structure.Structure.write_attr.Goals as goal
 
 pub lbn_of_header-requires-clause-slot : goal.lbn_of_header-requires-clause-slot

@@ -1,9 +1,9 @@
-use Rattle.f11_files.proofs.BlockLemmas.{stores-block, stored-stays, fails-store, fails-stays}
+use Rattle.f11_files.proofs.Changing.Block.{stores-block, stored-stays, fails-store, fails-stays}
 use Rattle.std.proofs.Common.{◌-◌}
 use Rattle.f11_chain.specs.FileHeaders.{file_blocks}
 use Rattle.f11_index.specs.Table.{table_of}
 use Rattle.f11_files.specs.Structure.{home_of}
-use Rattle.f11_files.proofs.PartsLemmas.{at-in, other-failed, other-wrote, parts-looked, stands-same, stands-within, to-parts, to-then}
+use Rattle.f11_files.proofs.Confining.Parts.{at-in, other-failed, other-wrote, parts-looked, stands-same, stands-within, to-parts, to-then}
 use Rattle.f11_image_store.specs.Confines.{no_header}
 use Rattle.f11_files.proofs.structure.Structure.write_block.Goals as goal
 

@@ -5,10 +5,10 @@ use Rattle.f11_dev.specs.Disk.{Disk}
 use Rattle.f11_image_store.specs.Confines.{no_header}
 use Rattle.f11_files.specs.Structure.{home_of, ConfinesTo}
 use Rattle.f11_files.specs.declared.structure.Structure.{Structure}
-use Rattle.f11_files.proofs.LossLemmas.{in-run}
-use Rattle.f11_files.proofs.PartsLemmas.{other-failed, other-wrote, parts-none, stands-same, stands-within, to-parts, to-then}
-use Rattle.f11_files.specs.Zeros.{Zeroes}
-use Rattle.f11_files.proofs.ZeroLemmas.{zeroes-none, zeroes-more, fails-zero}
+use Rattle.f11_files.proofs.Removing.Loss.{in-run}
+use Rattle.f11_files.proofs.Confining.Parts.{other-failed, other-wrote, parts-none, stands-same, stands-within, to-parts, to-then}
+use Rattle.f11_files.specs.Extending.Zeros.{Zeroes}
+use Rattle.f11_files.proofs.Extending.Zero.{zeroes-none, zeroes-more, fails-zero}
 use Rattle.f11_files.proofs.structure.Structure.zero_run.Goals as goal
 
 after : (s : Structure) (lbn count : ℕ) {a b c : Disk} → ConfinesTo s no_header (range_with_len lbn count) a b → ConfinesTo s no_header (range_with_len lbn count) b c → ConfinesTo s no_header (range_with_len lbn count) a c

@@ -1,7 +1,7 @@
 use Rattle.std.specs.List.{range_with_len}
 use Rattle.f11_image_store.specs.Confines.{no_header}
 use Rattle.f11_files.specs.Structure.{home_of, ConfinesTo}
-use Rattle.f11_files.specs.Zeros.{Zeroes}
+use Rattle.f11_files.specs.Extending.Zeros.{Zeroes}
 use Rattle.f11_files.proofs.structure.Structure.zero_run.Given as goal
 
 -- the blocks so far are zeros

@@ -1,0 +1,3 @@
+-- A header or a block of a file that is written.
+pub mod Block
+pub mod Alter

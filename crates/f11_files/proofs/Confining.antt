@@ -1,0 +1,4 @@
+-- Which blocks the steps of a call write.
+pub mod SlotParts
+pub mod Confines
+pub mod Parts

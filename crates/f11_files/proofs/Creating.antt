@@ -1,0 +1,3 @@
+-- A new file, and the slot that it takes.
+pub mod FreeSlot
+pub mod Create

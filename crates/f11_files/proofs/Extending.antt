@@ -1,0 +1,20 @@
+-- A file that grows, from the room for it to the header that names its new blocks.
+pub mod Room
+pub mod Zero
+pub mod NameRun
+pub mod Clear
+pub mod LinkTail
+pub mod Growing
+pub mod Parts
+pub mod Take
+pub mod HeaderBlock
+pub mod Enter
+pub mod NewHeader
+pub mod AddHeader
+pub mod Zeroed
+pub mod AppendRun
+pub mod TakenRun
+pub mod AddRun
+pub mod ExtendBy
+pub mod Cleared
+pub mod Extend

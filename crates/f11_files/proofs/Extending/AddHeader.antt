@@ -1,0 +1,165 @@
+-- A file that gets a header more: that is written and entered, and then the last one links to it.
+use Rattle.std.proofs.Common.{◌≡◌, ◌+◌, ◌<◌, ◌≤◌, ℕ, true, false, IsTrue, List, [], ◌∷◌, ◌++◌, map, inr, refl, sym, ap, subst, ◌∙◌, arith}
+use Rattle.std.specs.List.{range_with_len}
+use Rattle.f11_dev.specs.Disk.{Disk}
+use Rattle.f11_dev.specs.Image.{Image}
+use Rattle.f11_dev.specs.Went.{Went}
+use Rattle.f11_dev.proofs.WentLemmas.{went_more, went_weaker}
+use Rattle.f11_home.specs.Home.{HomeFields}
+use Rattle.f11_map.specs.HeaderBlock.{segment_number, blocks_named}
+use Rattle.f11_index.specs.Headers.{IsLastOf}
+use Rattle.f11_index.specs.Table.{Table, table_of, IsLive}
+use Rattle.f11_store.specs.Changes.{with_change, with_slots, Extends}
+use Rattle.f11_store.specs.File.{File, zero_blocks}
+use Rattle.f11_store.specs.Store.{Store}
+use Rattle.f11_store.specs.declared.callers.Uic.{Uic}
+use Rattle.f11_store.specs.declared.files.FileId.{FileId}
+use Rattle.f11_store.specs.declared.refusals.Refusal.TheVariants.{DeviceFault}
+use Rattle.f11_volume.specs.Contents.{block_or_zeros}
+use Rattle.f11_image_store.specs.Allocation.{LinksLoose, NamesMore}
+use Rattle.f11_files.specs.Answers.{Breaks}
+use Rattle.f11_store.specs.Pieces.{with_more_free, MayExtend}
+use Rattle.f11_files.specs.Extending.Header.{AppendingRun, AppendsRun, EntersHeader}
+use Rattle.f11_image_store.specs.FileLaws.{pointers_in, room_in, with_header_more}
+use Rattle.f11_files.specs.Extending.Growing.{Taking, Grew, SameFree}
+use Rattle.f11_files.specs.Extending.Link.{Linking, LinksTail}
+use Rattle.f11_image_store.specs.StoreOf.{store_of}
+use Rattle.f11_files.specs.Structure.{home_of, store_on, IsFor, StaysFor}
+use Rattle.f11_files.specs.Extending.Tail.{HasStore, HoldsLast, MayBeGiven, whose, ownership_of}
+use Rattle.f11_files.specs.declared.structure.Structure.{Structure}
+use Rattle.f11_files.specs.declared.extend.tail.Tail.{Tail}
+use Rattle.f11_image_store.proofs.AllocationLemmas.{adds-linked}
+use Rattle.f11_files.proofs.Extending.Growing.{breaks-fault, breaks-stays}
+use Rattle.f11_files.proofs.Finding.First.{table-of}
+use Rattle.f11_files.proofs.Removing.Freeing.{stays-for}
+use Rattle.f11_files.proofs.Extending.NameRun.{held-zeros}
+use Rattle.f11_files.proofs.Extending.NewHeader.{no-room, taken-moment}
+use Rattle.f11_store.proofs.PieceLemmas.{linked-extends}
+
+module _ (s : Structure) (tail : Tail) (lbn count : ℕ) (old : Disk) (for : IsFor s old) (last : HoldsLast s tail old) (own : 4 ≤ tail.file.number) (given : MayBeGiven (home_of s) lbn count old)
+    (full : room_in tail.block ≡ 0) (may : IsTrue old.honest → MayExtend (with_more_free (store_on s old) count) tail.file.number count) where
+  abbrev home : HomeFields
+  home = home_of s
+
+  abbrev st : Store
+  st = store_on s old
+
+  abbrev free : Store
+  free = with_more_free st count
+
+  abbrev k : ℕ
+  k = tail.file.number
+
+  abbrev P : Image → Type 0
+  P = AppendingRun s tail count old
+
+  moment : (image : Image) → Taking home 0 1 st old image → P image
+  moment = taken-moment (Extends free k count) s tail k lbn count old for last refl given full may
+
+  module _ (after : Structure) (id : FileId) (block : List ℕ) (mid : Disk) (enters : EntersHeader s after tail lbn count id block old mid) (stays : StaysFor false s after mid) where
+    for-mid : IsFor after mid
+    for-mid = stays-for stays
+
+    still-honest : IsTrue old.honest → IsTrue mid.honest
+    still-honest honest = enters.writes.went.honest ∙ honest
+
+    was-honest : IsTrue mid.honest → IsTrue old.honest
+    was-honest honest = sym enters.writes.went.honest ∙ honest
+
+    abbrev with_more : File → File
+    with_more f = record f { held = f.held ++ id.number ∷ []; pointers = f.pointers + 1; room = 101; blocks = f.blocks ++ zero_blocks count }
+
+    abbrev linked : Store
+    linked = with_change (with_slots st (id.number ∷ [])) k with_more
+
+    block-there : IsTrue mid.honest → block ≡ (table_of mid.image (home_of after)).header id.number
+    block-there honest = enters.holds.block_is honest ∙ ap (λ (u : Table). u.header id.number) (table-of after mid for-mid honest)
+
+    here : IsTrue old.honest → (table_of mid.image home).header id.number ≡ block
+    here honest = sym (block-there (still-honest honest) ∙ ap (λ (h : HomeFields). (table_of mid.image h).header id.number) stays.home)
+
+    more-is : IsTrue old.honest → with_header_more mid.image (table_of mid.image home) id.number ≡ with_more
+    more-is honest =
+        let pointers = ap pointers_in (here honest) ∙ enters.extension.pointer in
+        let room = ap room_in (here honest) ∙ enters.extension.room in
+        let zeros = ap (map (block_or_zeros mid.image)) (ap blocks_named (here honest) ∙ enters.extension.names) ∙ held-zeros mid.image lbn count (enters.zeros honest) in
+        λ i. λ f. record f { held = f.held ++ id.number ∷ []; pointers = f.pointers + pointers i; room = room i; blocks = f.blocks ++ zeros i }
+
+    has-store : (image : Image) → Linking after tail id mid image → IsTrue old.honest → HasStore home linked image
+    has-store image links honest =
+        let there : HasStore home (with_change (store_of mid.image home) k (with_header_more mid.image (table_of mid.image home) id.number)) image =
+        subst (λ (h : HomeFields). HasStore h (with_change (store_of mid.image h) k (with_header_more mid.image (table_of mid.image h) id.number)) image) stays.home (links (still-honest honest)) in
+        subst (λ (x : Store). HasStore home x image)
+        (ap (λ (x : Store). with_change x k (with_header_more mid.image (table_of mid.image home) id.number)) (enters.store honest)
+        ∙ ap (with_change (with_slots st (id.number ∷ [])) k) (more-is honest))
+        there
+
+    -- the file has grown then
+    extended : (image : Image) → Linking after tail id mid image → IsTrue old.honest → (e : Extends free k count (store_of image home)) × (e.added ≡ 1)
+    extended image links honest =
+        subst (λ (x : Store). (e : Extends free k count x) × (e.added ≡ 1)) (sym (has-store image links honest).store)
+        (linked-extends st k count id.number (may honest) given.some (no-room (Extends free k count) s tail k lbn count old for last refl given full may honest) (enters.slot honest))
+
+    linked-moment : (image : Image) → Linking after tail id mid image → P image
+    linked-moment image links honest = record { sound = (has-store image links honest).sound; stage = inr (extended image links honest).0 }
+
+    both-went : (new : Disk) (faults : ℕ) → Went (Linking after tail id mid) mid new 1 faults → Went P old new (enters.writes.transfers + 1) faults
+    both-went new faults went = went_more P (went_weaker (Taking home 0 1 st old) P moment enters.writes.went) (went_weaker (Linking after tail id mid) P linked-moment went)
+
+    -- the link couldn't be written
+    pub fails-link : (new : Disk) → Went (Linking after tail id mid) mid new 1 1 → Breaks P 4 DeviceFault old new
+    fails-link new went = breaks-fault (record { transfers = enters.writes.transfers + 1; went = both-went new 1 went; few = λ honest. let few = enters.writes.few honest in omega (arith, few) })
+
+    pub failed-link-stays : (new : Disk) → Went (Linking after tail id mid) mid new 1 1 → StaysFor true s after new
+    failed-link-stays new went = breaks-stays (λ image is honest. (is honest).sound) stays.home for (fails-link new went)
+
+    -- it was
+    module _ (new : Disk) (links : LinksTail after tail id mid new) where
+      adds-header : Grew P home free k count 1 old new
+      adds-header = record {
+        extends = λ honest. (extended new.image links.store honest).0;
+        transfers = enters.writes.transfers + 1;
+        went = both-went new 0 links.went;
+        few = λ honest. let few = enters.writes.few honest in let one = (extended new.image links.store honest).1 in omega (arith, few, one);
+      }
+
+      holds-added : segment_number tail.block < 255 → (file : FileId) (owner : Uic) (protection : ℕ) → (file, owner, protection) ≡ whose tail
+          → HoldsLast after (record { file = file; owner = owner; protection = protection; number = id.number; block = block }) new
+      holds-added early file owner protection same = record {
+        header = record {
+          in_use = enters.holds.in_use;
+          valid = enters.holds.valid;
+          block_is = λ honest.
+              let before = sym links.went.honest ∙ honest in
+              block-there before ∙ sym (links.header_stays before) ∙ ap (λ (u : Table). u.header id.number) (sym (table-of after new links.is_for honest));
+        };
+        no_link = enters.extension.no_link;
+        few = omega (arith, enters.extension.segment, early);
+        is_last = λ honest. subst (λ (f : FileId). IsLastOf (table_of new.image (home_of after)) f.number id.number) (sym (ap (λ (w : FileId × Uic × ℕ). w.0) same)) (links.is_last (sym links.went.honest ∙ honest));
+      }
+
+      -- the blocks that are free are as they were
+      same-free : IsTrue old.honest → SameFree home old.image new.image
+      same-free honest = subst (λ (h : HomeFields). SameFree h mid.image new.image) stays.home (links.free (still-honest honest)) ∙ enters.free honest
+
+      -- the file has the run
+      names-run : IsTrue old.honest → NamesMore k (ownership_of tail) (range_with_len lbn count) (table_of old.image home) (table_of new.image home)
+      names-run honest =
+          let there : LinksLoose k id.number (table_of mid.image home) (table_of new.image home) =
+          subst (λ (h : HomeFields). LinksLoose k id.number (table_of mid.image h) (table_of new.image h)) stays.home (links.links (still-honest honest)) in
+          let live : IsLive (table_of mid.image home) id.number = (enters.follows honest).live in
+          subst (λ (l : List ℕ). NamesMore k (ownership_of tail) l (table_of old.image home) (table_of new.image home))
+          (ap blocks_named (here honest) ∙ enters.extension.names)
+          (adds-linked k id.number (ownership_of tail) (table_of old.image home) (table_of mid.image home) (table_of new.image home) live
+          (enters.adds honest) there)
+
+      pub appends-linked : segment_number tail.block < 255 → (file : FileId) (owner : Uic) (protection : ℕ) → (file, owner, protection) ≡ whose tail
+          → AppendsRun s after tail (record { file = file; owner = owner; protection = protection; number = id.number; block = block }) lbn count 1 old new
+      appends-linked early file owner protection same = record {
+        file = same;
+        last = holds-added early file owner protection same;
+        bitmap = enters.bitmap;
+        free = same-free;
+        names = names-run;
+        grew = adds-header;
+      }

@@ -1,0 +1,171 @@
+-- A run of blocks that a file gets: it is made zeros, and its last header names it, or a new one.
+use Rattle.std.proofs.Common.{◌≡◌, ◌+◌, ◌<◌, ◌≤◌, ℕ, Bool, true, false, cond, IsTrue, inl, inr, refl, sym, ap, subst, ◌∙◌, arith}
+use Rattle.std.specs.List.{range_with_len}
+use Rattle.f11_dev.specs.Disk.{Disk}
+use Rattle.f11_dev.specs.Image.{Image}
+use Rattle.f11_dev.proofs.WentLemmas.{went_more, went_weaker}
+use Rattle.f11_header.specs.Fields.{map_area}
+use Rattle.f11_home.specs.Home.{HomeFields}
+use Rattle.f11_map.specs.MapArea.{runs_of}
+use Rattle.f11_index.specs.Table.{Table, table_of}
+use Rattle.f11_map.specs.MapWriting.{joins_last}
+use Rattle.f11_store.specs.Changes.{Extends}
+use Rattle.f11_store.specs.File.{need}
+use Rattle.f11_store.specs.Store.{Store}
+use Rattle.f11_store.specs.declared.refusals.Refusal.{Refusal}
+use Rattle.f11_store.specs.declared.refusals.Refusal.TheVariants.{DeviceFault}
+use Rattle.f11_volume.specs.Sound.{HasSoundVolume}
+use Rattle.f11_volume.specs.Volume.{volume_of}
+use Rattle.f11_writes.specs.NameLaws.{AreSpare}
+use Rattle.f11_image_store.specs.Allocation.{NamesMore}
+use Rattle.f11_files.specs.Answers.{Writes, Breaks}
+use Rattle.f11_store.specs.Pieces.{with_more_free, file_numbered, MayExtend, TakesSome, with_zeros_more}
+use Rattle.f11_files.specs.Extending.Header.{AppendingRun, AppendsRun}
+use Rattle.f11_image_store.specs.FileLaws.{room_in}
+use Rattle.f11_files.specs.Extending.Growing.{Grew, GrowingInto, SameFree}
+use Rattle.f11_image_store.specs.StoreOf.{store_of}
+use Rattle.f11_files.specs.Structure.{bitmap_in, home_of, store_on, IsFor, StaysFor}
+use Rattle.f11_files.specs.Extending.Tail.{HoldsLast, Naming, NamesRun, FailsToName, HasNoPlace, pointers_more, whose, ownership_of}
+use Rattle.f11_files.specs.Extending.Zeros.{Keeping, Zeroes, FailsToZero}
+use Rattle.f11_files.specs.declared.structure.Structure.{Structure}
+use Rattle.f11_files.specs.declared.extend.tail.Tail.{Tail}
+use Rattle.f11_files.proofs.Removing.Freeing.{breaks-behind, breaks-within}
+use Rattle.f11_files.proofs.Extending.Growing.{breaks-fault, went-writes, takes-none, room-here, into-same, grew-behind}
+use Rattle.f11_store.proofs.PieceLemmas.{named-extends}
+use Rattle.f11_files.proofs.Extending.Zeroed.{free-mid}
+
+-- what is kept of a volume where the last header names them
+pub named-stays : {s : Structure} {tail after : Tail} {lbn count : ℕ} {old new : Disk} → NamesRun s tail after lbn count old new → StaysFor false s s new
+named-stays names = record { home = refl; lies = λ _. names.is_for.lies; sound = names.is_for.sound; keeps = λ _. names.is_for.keeps }
+
+-- no run takes two pointers
+pub at-most-one : (b : Bool) → cond b 0 1 ≤ 1
+at-most-one true = omega arith
+at-most-one false = omega arith
+
+module _ (s : Structure) (tail : Tail) (lbn count : ℕ) (old : Disk) (for : IsFor s old) (last : HoldsLast s tail old) (own : 4 ≤ tail.file.number) (within : lbn + count ≤ (bitmap_in s).size) (some : 0 < count)
+    (few : count ≤ 256) (spare : IsTrue old.honest → AreSpare (volume_of old.image (home_of s)) lbn count)
+    (may : IsTrue old.honest → MayExtend (with_more_free (store_on s old) count) tail.file.number count) where
+  abbrev home : HomeFields
+  home = home_of s
+
+  abbrev k : ℕ
+  k = tail.file.number
+
+  abbrev st : Store
+  st = store_on s old
+
+  abbrev free : Store
+  free = with_more_free st count
+
+  abbrev P : Image → Type 0
+  P = AppendingRun s tail count old
+
+  zero-moment : (image : Image) → Keeping home old image → P image
+  zero-moment image is honest =
+      let here = is honest in
+      record { sound = here.volume.sound; stage = inl (subst (TakesSome 0 (need (file_numbered st k).room count) st) (sym here.store) (takes-none 0 _ st)) }
+
+  pub sound-moment : (image : Image) → P image → IsTrue old.honest → HasSoundVolume image home
+  sound-moment image is honest = (is honest).sound
+
+  pub fails-zeros : (new : Disk) → FailsToZero home count old new → Breaks P (count + 4) DeviceFault old new
+  fails-zeros new fails = breaks-fault record { transfers = count; went = went_weaker (Keeping home old) P zero-moment fails; few = λ _. omega arith }
+
+  -- the blocks are zeros
+  module _ (mid : Disk) (zeroed : Zeroes home lbn count old mid) where
+    zeros-written : Writes P count old mid 0
+    zeros-written = went-writes (went_weaker (Keeping home old) P zero-moment zeroed.went)
+
+    zeros-free : IsTrue old.honest → SameFree home old.image mid.image
+    zeros-free = free-mid s tail lbn count old mid for last within some few spare zeroed
+
+    zeros-table : IsTrue old.honest → table_of mid.image home ≡ table_of old.image home
+    zeros-table honest = (zeroed.keeps honest).volume.index_file.table
+
+    was-honest : IsTrue mid.honest → IsTrue old.honest
+    was-honest honest = sym zeroed.went.honest ∙ honest
+
+    same : IsTrue old.honest → store_on s mid ≡ st
+    same honest = (zeroed.keeps honest).store
+
+    pub mid-may : IsTrue mid.honest → MayExtend (with_more_free (store_on s mid) count) k count
+    mid-may honest = let before = was-honest honest in subst (λ (x : Store). MayExtend (with_more_free x count) k count) (sym (same before)) (may before)
+
+    -- images that stand meanwhile
+    into : (image : Image) → GrowingInto home (store_on s mid) (with_more_free (store_on s mid) count) k count mid image → P image
+    into = into-same home st (store_on s mid) k count old mid zeroed.went.honest same
+
+    -- it has no place for them, and nothing was done
+    module _ (now : Disk) (after : Tail) (full : HasNoPlace tail after lbn count mid now) where
+      pub now-own : 4 ≤ after.file.number
+      now-own = subst (λ (x : Tail). 4 ≤ x.file.number) (sym full.tail_is) own
+
+      pub now-may : IsTrue now.honest → MayExtend (with_more_free (store_on s now) count) after.file.number count
+      now-may =
+          subst (λ (d : Disk). IsTrue d.honest → MayExtend (with_more_free (store_on s d) count) after.file.number count) (sym full.disk_is)
+          (subst (λ (x : Tail). IsTrue mid.honest → MayExtend (with_more_free (store_on s mid) count) x.file.number count) (sym full.tail_is) mid-may)
+
+      -- a new header names them
+      pub appends-header : (t : Structure) (later : Tail) (new : Disk) → AppendsRun s t after later lbn count 1 now new → AppendsRun s t tail later lbn count (count + 1) old new
+      appends-header t later new given = record {
+        file = given.file ∙ ap whose full.tail_is;
+        last = given.last;
+        bitmap = given.bitmap;
+        free = λ honest. given.free (ap (λ (d : Disk). d.honest) full.disk_is ∙ zeroed.went.honest ∙ honest) ∙ ap (λ (d : Disk). (volume_of d.image home).free) full.disk_is ∙ zeros-free honest;
+        names = λ honest.
+            subst (λ (x : Tail). NamesMore x.file.number (ownership_of x) (range_with_len lbn count) (table_of old.image home) (table_of new.image home))
+            full.tail_is
+            (subst (λ (t : Table). NamesMore after.file.number (ownership_of after) (range_with_len lbn count) t (table_of new.image home))
+            (ap (λ (d : Disk). table_of d.image home) full.disk_is ∙ zeros-table honest)
+            (given.names (ap (λ (d : Disk). d.honest) full.disk_is ∙ zeroed.went.honest ∙ honest)));
+        grew = grew-behind into (λ honest. ap (λ (x : Store). with_more_free x count) (same honest)) zeros-written
+            (subst (λ (x : Tail). Grew (AppendingRun s x count mid) home (with_more_free (store_on s mid) count) x.file.number count 1 mid new) full.tail_is
+            (subst (λ (d : Disk). Grew (AppendingRun s after count d) home (with_more_free (store_on s d) count) after.file.number count 1 d new) full.disk_is given.grew));
+      }
+
+      pub fails-header : (new : Disk) (r : Refusal) → Breaks (AppendingRun s after count now) 4 r now new → Breaks P (count + 4) r old new
+      fails-header new r breaks =
+          breaks-behind into zeros-written
+          (subst (λ (x : Tail). Breaks (AppendingRun s x count mid) 4 r mid new) full.tail_is (subst (λ (d : Disk). Breaks (AppendingRun s after count d) 4 r d new) full.disk_is breaks))
+
+    -- the last header names them
+    abbrev more : ℕ
+    more = pointers_more tail.block lbn count
+
+    named : IsTrue old.honest → more ≤ room_in tail.block → (e : Extends free k count (with_zeros_more k more count st)) × (e.added ≡ 0)
+    named honest fits =
+        let room = room-here s tail old for last honest in
+        named-extends st k count more (may honest) some (at-most-one (joins_last (runs_of (map_area tail.block)) lbn count)) (omega (arith, room, fits))
+
+    naming-moment : more ≤ room_in tail.block → (image : Image) → Naming s tail lbn count mid image → P image
+    naming-moment fits image is honest =
+        let here = is (zeroed.went.honest ∙ honest) in
+        record { sound = here.sound; stage = inr (subst (Extends free k count) (sym (here.store ∙ ap (with_zeros_more k more count) (same honest))) (named honest fits).0) }
+
+    pub fails-named : (new : Disk) → FailsToName s tail lbn count mid new → Breaks P (count + 4) DeviceFault old new
+    fails-named new fails =
+        breaks-within (λ _. omega arith)
+        (breaks-behind (λ image is. is) zeros-written (breaks-fault (went-writes (went_weaker (Naming s tail lbn count mid) P (naming-moment fails.fits) fails.went))))
+
+    pub appends-named : (after : Tail) (new : Disk) → NamesRun s tail after lbn count mid new → AppendsRun s s tail after lbn count (count + 1) old new
+    appends-named after new names = record {
+      file = names.file_is;
+      last = names.holds;
+      bitmap = refl;
+      free = λ honest. names.free (zeroed.went.honest ∙ honest) ∙ zeros-free honest;
+      names = λ honest.
+          subst (λ (t : Table). NamesMore k (ownership_of tail) (range_with_len lbn count) t (table_of new.image home)) (zeros-table honest)
+          (names.names (zeroed.went.honest ∙ honest));
+      grew = record {
+        extends = λ honest. (at honest).0;
+        transfers = zeros-written.transfers + 1;
+        went = went_more P zeros-written.went (went_weaker (Naming s tail lbn count mid) P (naming-moment names.fits) names.went);
+        few = λ honest. let zeros = zeros-written.few honest in omega (arith, zeros);
+      };
+    }
+      where
+        at : IsTrue old.honest → (e : Extends free k count (store_of new.image home)) × (e.added ≡ 0)
+        at honest =
+            let here = names.store (zeroed.went.honest ∙ honest) in
+            subst (λ (x : Store). (e : Extends free k count x) × (e.added ≡ 0)) (sym (here.store ∙ ap (with_zeros_more k more count) (same honest))) (named honest names.fits)

@@ -1,0 +1,259 @@
+-- Blocks of zeros that a file's last header names.
+use Rattle.std.proofs.Common.{◌≡◌, ◌⊎◌, ◌+◌, ◌-◌, ◌/◌, ◌≤◌, ℕ, zero, suc, Bool, true, false, cond, IsTrue, List, [], ◌∷◌, ◌++◌, length, min, option_map, refl, sym, ap, subst, ◌∙◌, arith}
+use Rattle.std.specs.List.{range_with_len}
+use Rattle.std.proofs.Math.ListN.{set}
+use Rattle.f11_dev.specs.Disk.{Disk, with_transfer, with_block_at}
+use Rattle.f11_dev.specs.Image.{Image}
+use Rattle.f11_dev.specs.Went.{Went}
+use Rattle.f11_dev.proofs.WentLemmas.{went_write, went_failed_write}
+use Rattle.f11_header.specs.Fields.{HeaderFields, header_fields, file_sequence, map_area}
+use Rattle.f11_header.specs.Header.{IsHeader, holds_header}
+use Rattle.f11_header.specs.MapFields.{most_words}
+use Rattle.f11_header.proofs.HeaderFacts.{header_in-held}
+use Rattle.f11_home.specs.Home.{HomeFields}
+use Rattle.f11_map.specs.InHand.{RewritesMap, AppendsBlocks}
+use Rattle.f11_map.specs.MapArea.{runs_of}
+use Rattle.f11_map.specs.MapWriting.{joins, joins_last, with_blocks}
+use Rattle.f11_map.proofs.MapLemmas.{length-runs_of-le}
+use Rattle.f11_index.specs.Growth.{with_header, IsGoodFor}
+use Rattle.f11_map.specs.HeaderBlock.{segment_number, link_of, blocks_named}
+use Rattle.f11_index.specs.Headers.{IsLastOf}
+use Rattle.f11_index.specs.IndexFile.{Index, header_lbn}
+use Rattle.f11_index.specs.Table.{Table, table_of}
+use Rattle.f11_index.proofs.ChainLemmas.{live_of-header}
+use Rattle.f11_store.specs.Changes.{with_change}
+use Rattle.f11_store.specs.File.{zero_blocks}
+use Rattle.f11_volume.specs.Sound.{HasSoundVolume}
+use Rattle.f11_volume.specs.Volume.{Volume, volume_of}
+use Rattle.f11_writes.specs.Kept.{WritesHeader}
+use Rattle.f11_writes.specs.Volumes.{MayName, MayBecome, links_to_none}
+use Rattle.f11_writes.proofs.HeaderLemmas.{file-rewrite-keeps}
+use Rattle.f11_writes.proofs.NameLemmas.{more-names}
+use Rattle.f11_image_store.specs.Allocation.{NamesMore}
+use Rattle.f11_image_store.specs.FileLaws.{SaysAlike, HasPointersMore, NamesMoreOf, held_from, room_in}
+use Rattle.f11_store.specs.Pieces.{with_more_blocks, with_zeros_more}
+use Rattle.f11_files.specs.Extending.Growing.{SameFree}
+use Rattle.f11_files.specs.Structure.{index_in, home_of, store_on, Lies, Keeps, IsFor}
+use Rattle.f11_files.specs.Extending.Tail.{HoldsLast, MayBeGiven, HasStore, pointers_more, Naming, NamesRun, FailsToName, ownership_of}
+use Rattle.f11_files.specs.Extending.Zeros.{HoldsZeros}
+use Rattle.f11_files.specs.declared.structure.Structure.{Structure}
+use Rattle.f11_files.specs.declared.extend.tail.Tail.{Tail}
+use Rattle.f11_image_store.proofs.AllocationLemmas.{names-more}
+use Rattle.f11_files.proofs.Changing.Alter.{keeps-header}
+use Rattle.f11_image_store.proofs.FieldLemmas.{held-from}
+use Rattle.f11_image_store.proofs.FileLemmas.{as-header, of-now}
+use Rattle.f11_image_store.proofs.StepLemmas.{file-grows}
+use Rattle.f11_files.proofs.Finding.First.{table-of}
+
+-- how many pointers there are with these blocks
+runs-more : (runs : List (ℕ × ℕ)) (lbn count : ℕ) → length (with_blocks runs lbn count) ≡ length runs + cond (joins_last runs lbn count) 0 1
+runs-more [] lbn count = refl
+runs-more (run ∷ []) lbn count = go (joins run lbn count)
+  where
+    go : (b : Bool) → length (cond b ((run.0, run.1 + count) ∷ []) (run ∷ (lbn, count) ∷ [])) ≡ 1 + cond b 0 1
+    go true = refl
+    go false = refl
+runs-more (run ∷ next ∷ runs) lbn count = let rest = runs-more (next ∷ runs) lbn count in omega (arith, rest)
+
+-- blocks that hold zeros
+pub held-zeros : (image : Image) (lbn count : ℕ) → HoldsZeros image lbn count → held_from image lbn count ≡ zero_blocks count
+unfolding zero_blocks
+held-zeros image lbn zero holds = refl
+held-zeros image lbn (suc count) holds =
+    let rest = held-zeros image (lbn + 1) count (record { each = λ k low high. holds.each k (omega (arith, low)) (omega (arith, high)) }) in
+    let here = holds.each lbn (omega arith) (omega arith) in
+    λ i. here i ∷ rest i
+
+-- what is said where a map area was rewritten
+pub held-again : (was block : List ℕ) → IsTrue (holds_header was) → RewritesMap was block → IsTrue (holds_header block) × (header_fields block ≡ record (header_fields was) { map = map_area block })
+held-again was block holds rewrites =
+    held-from block (record (header_fields was) { map = map_area block }) (rewrites.fields ∙ ap (option_map (λ (h : HeaderFields). record h { map = map_area block })) (header_in-held was holds))
+
+-- a header whose map area was rewritten
+module _ (n : ℕ) (was block : List ℕ) (valid : IsHeader was n) (rewrites : RewritesMap was block) where
+  held : IsTrue (holds_header block) × (header_fields block ≡ record (header_fields was) { map = map_area block })
+  held = held-again was block valid.holds rewrites
+
+  pub valid-again : IsHeader block n
+  valid-again = record { number = ap (λ (h : HeaderFields). h.number) held.1 ∙ valid.number; holds = held.0; sum = rewrites.seals.sum }
+
+  pub sequence-again : file_sequence block ≡ file_sequence was
+  sequence-again = ap (λ (h : HeaderFields). h.sequence) held.1
+
+  pub alike-again : SaysAlike was block
+  alike-again = record {
+    owner_is = ap (λ (h : HeaderFields). h.owner) held.1;
+    protection_is = ap (λ (h : HeaderFields). h.protection) held.1;
+    characteristics_are = ap (λ (h : HeaderFields). h.characteristics) held.1;
+    ident_is = ap (λ (h : HeaderFields). h.ident) held.1;
+    attributes_are = ap (λ (h : HeaderFields). h.attributes) held.1;
+  }
+
+-- a header that names more blocks
+module _ (was block : List ℕ) (lbn count : ℕ) (appends : AppendsBlocks was block lbn count) where
+  pub segment-more : segment_number block ≡ segment_number was
+  unfolding segment_number
+  segment-more = appends.rest.segment_stays
+
+  pub link-more : link_of block ≡ link_of was
+  unfolding link_of
+  link-more = appends.rest.link_stays
+
+  pub blocks-more : blocks_named block ≡ blocks_named was ++ range_with_len lbn count
+  unfolding blocks_named
+  blocks-more = appends.blocks
+
+  pub pointers-more : HasPointersMore (pointers_more was lbn count) was block
+  pointers-more = record {
+    pointers = ap (λ (runs : List (ℕ × ℕ)). length runs) appends.pointers ∙ runs-more (runs_of (map_area was)) lbn count;
+    places_are =
+        ap (λ (m : ℕ). min m ((length (map_area block) - 10) / 2) / 2) appends.rest.most
+        ∙ ap (λ (l : ℕ). min (most_words (map_area was)) ((l - 10) / 2) / 2) appends.rest.size;
+  }
+
+  pub pointers-fit : pointers_more was lbn count ≤ room_in was
+  pointers-fit =
+      let has = pointers-more in
+      let within = length-runs_of-le (map_area block) appends.rest.valid in
+      omega (arith, has.pointers, has.places_are, within)
+
+-- it is a file's last, in hand
+module _ (s : Structure) (tail : Tail) (block : List ℕ) (lbn count : ℕ) (old : Disk) (for : IsFor s old) (last : HoldsLast s tail old)
+    (given : MayBeGiven (home_of s) lbn count old) (appends : AppendsBlocks tail.block block lbn count) where
+  abbrev home : HomeFields
+  home = home_of s
+
+  abbrev f : ℕ
+  f = tail.file.number
+
+  abbrev n : ℕ
+  n = tail.number
+
+  abbrev more : ℕ
+  more = pointers_more tail.block lbn count
+
+  abbrev t : Table
+  t = table_of old.image home
+
+  abbrev next : Image
+  next = with_header old.image home n block
+
+  valid : IsHeader block n
+  valid = valid-again n tail.block block last.header.valid appends.header
+
+  module _ (honest : IsTrue old.honest) where
+    was-is : tail.block ≡ t.header n
+    was-is = last.header.block_is honest ∙ ap (λ (u : Table). u.header n) (table-of s old for honest)
+
+    good : IsGoodFor t n block
+    good = record {
+      valid = valid;
+      sequence = sequence-again n tail.block block last.header.valid appends.header ∙ ap file_sequence was-is;
+      segment = segment-more tail.block block lbn count appends ∙ ap segment_number was-is;
+    }
+
+    no-link : (link_of block).number ≡ 0
+    no-link = ap (λ l. l.number) (link-more tail.block block lbn count appends) ∙ last.no_link
+
+    blocks-are : blocks_named block ≡ blocks_named (t.header n) ++ range_with_len lbn count
+    blocks-are = blocks-more tail.block block lbn count appends ∙ ap (λ (b : List ℕ). blocks_named b ++ range_with_len lbn count) was-is
+
+    pub becomes : MayBecome (volume_of old.image home) n block
+    unfolding volume_of
+    becomes = record {
+      valid = valid;
+      good = λ _. good;
+      names = subst (MayName (volume_of old.image home) n) (sym blocks-are)
+          (more-names (volume_of old.image home) n lbn count (for.sound honest).sound (live_of-header (last.is_last honest).of) (given.spare honest));
+      link = links_to_none no-link;
+    }
+
+    pub names : NamesMoreOf t f n block more lbn count
+    names = record {
+      stands = record {
+        of = (last.is_last honest).of;
+        few = let same = ap segment_number was-is in omega (arith, same, last.few);
+        good = good;
+        alike = subst (λ (b : List ℕ). SaysAlike b block) was-is (alike-again n tail.block block last.header.valid appends.header);
+      };
+      last = (last.is_last honest).no_link;
+      no_link = no-link;
+      pointers = subst (λ (b : List ℕ). HasPointersMore more b block) was-is (pointers-more tail.block block lbn count appends);
+      blocks = blocks-are;
+    }
+
+  -- of a file that requests reach
+  module _ (own : 4 ≤ tail.file.number) where
+    module _ (honest : IsTrue old.honest) where
+      pub wrote-tail : WritesHeader n block home old.image next
+      wrote-tail = file-rewrite-keeps old.image home (for.sound honest) n block f own (last.is_last honest).of (becomes honest)
+
+      pub store-named : HasStore home (with_zeros_more f more count (store_on s old)) next
+      store-named = record {
+        sound = wrote-tail.slot.sound;
+        store = file-grows old.image next home f n block more lbn count own wrote-tail (names honest)
+            ∙ ap (λ (bs : List (List ℕ)). with_change (store_on s old) f (with_more_blocks more bs)) (held-zeros old.image lbn count (given.zeros honest));
+      }
+
+      pub last-named : IsLastOf (table_of next home) f n
+      last-named = record {
+        of = of-now old.image next home f n block (as-header n block home old.image next wrote-tail) (names honest).stands;
+        no_link = ap (λ (b : List ℕ). (link_of b).number) wrote-tail.index_file.header ∙ no-link honest;
+      }
+
+    -- it is written
+    module _ (place : ℕ) (new : Disk) (at : place ≡ header_lbn (index_in s) n) where
+      written-is : IsTrue old.honest → set old.image place block ≡ next
+      written-is honest = ap (λ (l : ℕ). set old.image l block) (at ∙ ap (λ (x : Index). header_lbn x n) (for.keeps honest).index_is)
+
+      pub moment : Naming s tail lbn count old (set old.image place block)
+      moment honest = subst (HasStore home (with_zeros_more f more count (store_on s old))) (sym (written-is honest)) (store-named honest)
+
+      pub fails-name : (new ≡ with_transfer false old) ⊎ (new ≡ with_transfer false (with_block_at place block old)) → FailsToName s tail lbn count old new
+      fails-name is = record { fits = pointers-fit tail.block block lbn count appends; went = went_failed_write (Naming s tail lbn count old) old new place block is moment }
+
+      module _ (is : new ≡ with_transfer true (with_block_at place block old)) where
+        went : Went (Naming s tail lbn count old) old new 1 0
+        went = went_write (Naming s tail lbn count old) old new place block is moment
+
+        image : IsTrue old.honest → new.image ≡ next
+        image honest = ap (λ (d : Disk). d.image) is ∙ written-is honest
+
+        was-honest : IsTrue new.honest → IsTrue old.honest
+        was-honest honest = sym went.honest ∙ honest
+
+        for-new : IsFor s new
+        for-new = record {
+          lies = subst (λ (k : ℕ). Lies s k) (sym went.size) for.lies;
+          sound = λ honest. let before = was-honest honest in subst (λ (i : Image). HasSoundVolume i home) (sym (image before)) (store-named before).sound;
+          keeps = λ honest. let before = was-honest honest in subst (Keeps s) (sym (image before)) (keeps-header s n block old.image next (wrote-tail before) (for.keeps before));
+        }
+
+        pub names-run : NamesRun s tail (record tail { block = block }) lbn count old new
+        names-run = record {
+          file_is = refl;
+          number_is = refl;
+          pointers = pointers-more tail.block block lbn count appends;
+          fits = pointers-fit tail.block block lbn count appends;
+          holds = record {
+            header = record {
+              in_use = last.header.in_use;
+              valid = valid;
+              block_is = λ honest.
+                  let before = was-honest honest in
+                  sym (wrote-tail before).index_file.header ∙ ap (λ (i : Image). (table_of i home).header n) (sym (image before))
+                  ∙ ap (λ (u : Table). u.header n) (sym (table-of s new for-new honest));
+            };
+            no_link = ap (λ l. l.number) (link-more tail.block block lbn count appends) ∙ last.no_link;
+            few = let same = segment-more tail.block block lbn count appends in omega (arith, same, last.few);
+            is_last = λ honest. let before = was-honest honest in subst (λ (i : Image). IsLastOf (table_of i home) f n) (sym (image before)) (last-named before);
+          };
+          is_for = for-new;
+          store = λ honest. subst (HasStore home (with_zeros_more f more count (store_on s old))) (sym (image honest)) (store-named honest);
+          names = λ honest.
+              subst (λ (i : Image). NamesMore f (ownership_of tail) (range_with_len lbn count) t (table_of i home)) (sym (image honest))
+              (names-more old.image next home f n block more lbn count (as-header n block home old.image next (wrote-tail honest)) (names honest)
+              (ownership_of tail));
+          free = λ honest. subst (SameFree home old.image) (sym (image honest)) (ap (λ (v : Volume). v.free) (wrote-tail honest).slot.volume);
+          went = went;
+        }

@@ -1,0 +1,71 @@
+-- A header more for a file, or for the index file, whose last one is full: what is so before it is linked to.
+use Rattle.std.proofs.Common.{◌≡◌, ◌+◌, ◌<◌, ◌≤◌, ℕ, IsTrue, length, inl, refl, subst, arith, ◌∙◌}
+use Rattle.f11_dev.specs.Disk.{Disk}
+use Rattle.f11_dev.specs.Image.{Image}
+use Rattle.f11_home.specs.Home.{HomeFields}
+use Rattle.f11_map.specs.HeaderBlock.{segment_number}
+use Rattle.f11_store.specs.File.{File, need}
+use Rattle.f11_store.specs.Store.{Store, free_headers, free_slots}
+use Rattle.f11_store.specs.declared.refusals.Refusal.{Refusal}
+use Rattle.f11_store.specs.declared.refusals.Refusal.TheVariants.{Damaged}
+use Rattle.f11_files.specs.Answers.{Breaks}
+use Rattle.f11_store.specs.Pieces.{with_more_free, file_numbered, MayExtend}
+use Rattle.f11_image_store.specs.FileLaws.{room_in}
+use Rattle.f11_files.specs.Extending.Growing.{Taking, Growing}
+use Rattle.f11_image_store.specs.StoreOf.{store_of}
+use Rattle.f11_files.specs.Structure.{home_of, store_on, IsFor}
+use Rattle.f11_files.specs.Extending.Tail.{HoldsLast, MayBeGiven}
+use Rattle.f11_files.specs.declared.structure.Structure.{Structure}
+use Rattle.f11_files.specs.declared.extend.tail.Tail.{Tail}
+use Rattle.f11_files.proofs.Removing.Freeing.{breaks-within, writes-none}
+use Rattle.f11_files.proofs.Extending.Growing.{breaks-weaker, headers-here, room-here, takes-within}
+use Rattle.f11_store.proofs.PieceLemmas.{HasRoom, has-room}
+
+-- blocks that are free take no header
+same-headers : (s : Store) (count : ℕ) → free_headers (with_more_free s count) ≡ free_headers s
+unfolding free_slots
+same-headers s count = refl
+
+module _ (End : Store → Type 0) (s : Structure) (tail : Tail) (k lbn count : ℕ) (old : Disk) (for : IsFor s old) (last : HoldsLast s tail old) (number : tail.file.number ≡ k) (given : MayBeGiven (home_of s) lbn count old)
+    (full : room_in tail.block ≡ 0) (may : IsTrue old.honest → MayExtend (with_more_free (store_on s old) count) k count) where
+  abbrev home : HomeFields
+  home = home_of s
+
+  abbrev st : Store
+  st = store_on s old
+
+  abbrev file : File
+  file = file_numbered st k
+
+  abbrev P : Image → Type 0
+  P = Growing home 0 (need file.room count) End st old
+
+  module _ (honest : IsTrue old.honest) where
+    pub no-room : file.room ≡ 0
+    no-room = subst (λ (j : ℕ). (file_numbered st j).room ≡ room_in tail.block) number (room-here s tail old for last honest) ∙ full
+
+    headers : length file.held ≡ segment_number tail.block + 1
+    headers = subst (λ (j : ℕ). length (file_numbered st j).held ≡ segment_number tail.block + 1) number (headers-here s tail old for last honest)
+
+    has : HasRoom (with_more_free st count) file count
+    has = has-room (with_more_free st count) file count (may honest).no_cause
+
+    needed : 1 ≤ need file.room count
+    needed = omega (arith, no-room, given.some)
+
+    is-early : segment_number tail.block < 255
+    is-early = omega (arith, has.segments, headers, needed)
+
+    pub some-free : 0 < free_headers st
+    some-free = omega (arith, has.headers, needed, same-headers st count)
+
+  -- the file has as many headers as it may
+  pub too-many : segment_number tail.block ≡ 255 → Breaks P 4 Damaged old old
+  too-many is = record { grave = refl; undamaged = λ honest _. let early = is-early honest in omega (arith, early, is); writes = writes-none P 4 old }
+
+  -- a header was taken for it
+  pub taken-moment : (image : Image) → Taking home 0 1 st old image → P image
+  taken-moment image is honest = record { sound = (is honest).sound; stage = inl (takes-within 0 0 1 (need file.room count) st (store_of image home) (omega arith) (needed honest) (is honest).takes) }
+
+  pub fails-enter : (mid : Disk) (r : Refusal) → Breaks (Taking home 0 1 st old) 3 r old mid → Breaks P 4 r old mid
+  fails-enter mid r breaks = breaks-within (λ _. omega arith) (breaks-weaker taken-moment breaks)

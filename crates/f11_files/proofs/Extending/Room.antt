@@ -1,0 +1,149 @@
+-- Room for more blocks of a file.
+use Rattle.std.proofs.Common.{◌||◌, eqb, ◌≡◌, ◌≢◌, ◌-◌, ◌+◌, ◌<◌, ◌≤◌, inl, inr, ltb, ℕ, Bool, true, false, cond, IsTrue, List, [], ◌∷◌, ◌++◌, length, length-append, Some, None, refl, sym, ap, subst, ◌∙◌, arith}
+use Rattle.std.proofs.lemmas.Bool.{cases_lt, lt-ltb}
+use Rattle.std.proofs.lemmas.Option.{none-some}
+use Rattle.f11_dev.specs.Disk.{Disk}
+use Rattle.f11_dev.specs.Image.{Image}
+use Rattle.f11_header.specs.Fields.{map_area}
+use Rattle.f11_header.specs.MapFields.{places}
+use Rattle.f11_map.specs.HeaderBlock.{segment_number}
+use Rattle.f11_index.specs.Headers.{headers_of, IsLastOf}
+use Rattle.f11_index.specs.Table.{Table, table_of, first}
+use Rattle.f11_index.proofs.ChainLemmas.{file_of-header, live_of-header}
+use Rattle.f11_index.proofs.HeadersLemmas.{Comes, Comes-header, Comes-last, last-whole, live-some}
+use Rattle.f11_chain.specs.Calls.{table, ReadsLast}
+use Rattle.f11_chain.specs.declared.blocks.FileEnd.{FileEnd}
+use Rattle.f11_store.specs.Causes.{◌⇐◌, first_of, is_missing, growth_causes}
+use Rattle.f11_store.specs.Cost.{header_count}
+use Rattle.f11_store.specs.File.{File, need}
+use Rattle.f11_store.specs.Refusal.{refusal_number}
+use Rattle.f11_store.specs.Store.{Store, file_named, free_headers}
+use Rattle.f11_store.specs.declared.files.FileId.{FileId}
+use Rattle.f11_store.specs.declared.refusals.Refusal.{Refusal}
+use Rattle.f11_store.specs.declared.refusals.Refusal.TheVariants.{NoSuchFile, TooManySegments, DeviceFull, NoHeader}
+use Rattle.f11_volume.specs.Contents.{file_of, headers_reached, room_left, pointer_count}
+use Rattle.f11_volume.proofs.FileLemmas.{reached-are}
+use Rattle.f11_writes.specs.Kept.{file_in}
+use Rattle.f11_files.specs.Answers.{is_among, Reads, FailsToRead, faults_of}
+use Rattle.f11_image_store.specs.FileLaws.{room_in}
+use Rattle.f11_files.specs.Finding.First.{HoldsFile}
+use Rattle.f11_files.specs.Operations.{extend_causes, file_causes, IsSpaceOf}
+use Rattle.f11_files.specs.Extending.Room.{room_causes, FindsRoom}
+use Rattle.f11_files.specs.Structure.{index_in, home_of, store_on, IsFor}
+use Rattle.f11_files.specs.declared.structure.Structure.{Structure}
+use Rattle.f11_files.proofs.AnswerLemmas.{right-cause}
+use Rattle.f11_image_store.proofs.FileLemmas.{last-behind}
+use Rattle.f11_files.proofs.Finding.First.{table-of}
+use Rattle.f11_files.proofs.Finding.Locate.{held-are, reads-along}
+use Rattle.f11_files.proofs.Finding.Named.{held-named, is-file, found-named, seen-same}
+
+-- a cause against a request for a file is one against more blocks of it
+pub among-more : (s : Store) (f : FileId) (n : ℕ) (r : Refusal) → is_among (file_causes s f) r ≡ true → is_among (extend_causes s f n) r ≡ true
+among-more s f n r is = go (eqb 6 (refusal_number r)) _ is
+  where
+    go : (b c : Bool) → (b || false) ≡ true → (b || c) ≡ true
+    go true c is = refl
+    go false c is = absurd cc
+
+pub cause-more : (s : Store) (f : FileId) (n : ℕ) (r : Refusal) → first_of (file_causes s f) ≡ Some r → first_of (extend_causes s f n) ≡ Some r
+cause-more s f n r is = go (is_missing s f) is
+  where
+    go : (missing : Bool) → first_of ((NoSuchFile ⇐ missing) ∷ []) ≡ Some r → first_of ((NoSuchFile ⇐ missing) ∷ growth_causes s (file_named s f) n) ≡ Some r
+    go true is = is
+    go false is = absurd cc
+
+-- what is answered where there is no room: no transfer failed
+pub record IsLight (r : Refusal) : Type 0 where
+  pub not_failed : refusal_number r ≢ 1
+  pub not_damaged : refusal_number r ≢ 20
+  pub no_fault : faults_of r ≡ 0
+  pub among : (s : Store) (f : FileId) (n : ℕ) → is_among (extend_causes s f n) r ≡ true
+
+light : (a b c : Bool) (r : Refusal) → first_of ((TooManySegments ⇐ a) ∷ (DeviceFull ⇐ b) ∷ (NoHeader ⇐ c) ∷ []) ≡ Some r → IsLight r
+light true b c r is = let same : TooManySegments ≡ r = cc in subst IsLight same record { not_failed = λ no. omega (arith, no); not_damaged = λ no. omega (arith, no); no_fault = refl; among = λ s f n. refl }
+light false true c r is = let same : DeviceFull ≡ r = cc in subst IsLight same record { not_failed = λ no. omega (arith, no); not_damaged = λ no. omega (arith, no); no_fault = refl; among = λ s f n. refl }
+light false false true r is = let same : NoHeader ≡ r = cc in subst IsLight same record { not_failed = λ no. omega (arith, no); not_damaged = λ no. omega (arith, no); no_fault = refl; among = λ s f n. refl }
+light false false false r is = absurd cc
+
+-- where there is no cause, there are not too many headers
+no-more-headers : (headers : ℕ) (b c : Bool) → first_of ((TooManySegments ⇐ ltb 256 headers) ∷ (DeviceFull ⇐ b) ∷ (NoHeader ⇐ c) ∷ []) ≡ None → headers ≤ 256
+no-more-headers headers b c none = elim (cases_lt 256 headers) [
+  | inl more ↦ absurd (none-some TooManySegments (sym none ∙ ap (λ (a : Bool). cond a (Some TooManySegments) (first_of ((DeviceFull ⇐ b) ∷ (NoHeader ⇐ c) ∷ []))) (lt-ltb 256 headers more)))
+  | inr few ↦ few
+]
+
+-- the room of a file is that of its last header
+module _ (image : Image) (t : Table) (f n : ℕ) (last : IsLastOf t f n) (few : segment_number (t.header n) < 256) where
+  reached : headers_reached t f ≡ headers_of t f
+  reached = reached-are 256 t f (last-whole t f n last) (first (file_of-header last.of))
+
+  before : (behind : List ℕ) × Comes t f n (segment_number (t.header n)) behind
+  before = Comes-header last.of few
+
+  split : headers_of t f ≡ before.0 ++ n ∷ []
+  split = Comes-last t f n (segment_number (t.header n)) before.0 before.1 (live-some (live_of-header last.of)) few last.no_link
+
+  pub room-is : (file_of image t f).room ≡ room_in (t.header n)
+  unfolding file_of
+  room-is = ap (room_left t) (reached ∙ split) ∙ ap (λ (m : ℕ). places (map_area (t.header m)) - pointer_count t m) (last-behind before.0 n)
+
+  -- and it has as many headers as that one says
+  pub count-is : length (file_of image t f).held ≡ segment_number (t.header n) + 1
+  unfolding file_of
+  count-is = ap (λ (hs : List ℕ). length hs) (reached ∙ split) ∙ length-append before.0 (n ∷ []) ∙ ap (λ (c : ℕ). c + 1) before.1.count
+
+-- a file's first header in hand, and its last
+module _ (s : Structure) (f : FileId) (block : List ℕ) (old : Disk) (for : IsFor s old) (holds : HoldsFile (index_in s) f block old) (end : FileEnd) (after : List ℕ) (new : Disk)
+    (goes : ReadsLast (index_in s) f.number 0 end after old new) where
+  abbrev st : Store
+  st = store_on s old
+
+  module _ (honest : IsTrue old.honest) where
+    same : table (index_in s) old ≡ table_of old.image (home_of s)
+    same = table-of s old for honest
+
+    -- the last header is the image's
+    pub last-is : after ≡ (table_of old.image (home_of s)).header end.number
+    last-is = goes.header.block_is honest ∙ ap (λ (t : Table). t.header end.number) same
+
+    pub last-of : IsLastOf (table_of old.image (home_of s)) f.number end.number
+    last-of = subst (λ (t : Table). IsLastOf t f.number end.number) same (goes.is_last honest)
+
+    pub last-few : segment_number ((table_of old.image (home_of s)).header end.number) < 256
+    last-few = let here = ap segment_number last-is in omega (arith, here, goes.segment, goes.few)
+
+    pub room-named : (file_named st f).room ≡ room_in after
+    room-named =
+        ap (λ (g : File). g.room) (held-named s f block old for holds honest)
+        ∙ seen-same (λ (g : File). g.room) (λ g. refl) f.number (file_in (home_of s) f.number old.image)
+        ∙ room-is old.image (table_of old.image (home_of s)) f.number end.number last-of last-few ∙ ap room_in (sym last-is)
+
+    pub headers-named : length (file_named st f).held ≡ end.headers
+    headers-named =
+        ap (λ (hs : List ℕ). length hs) (held-are s f block old for holds honest) ∙ ap (λ (t : Table). length (headers_of t f.number)) (sym same) ∙ sym (goes.headers_are honest)
+
+  module _ (room free headers slots n : ℕ) (room_is : room ≡ room_in after) (space : IsTrue old.honest → IsSpaceOf st free headers slots) where
+    -- the causes against more blocks of it
+    causes-are : IsTrue old.honest → first_of (extend_causes st f n) ≡ first_of (room_causes end.headers room free headers n)
+    causes-are honest =
+        ap (λ (b : Bool). cond b (Some NoSuchFile) (first_of (room_causes (length (file_named st f).held) (file_named st f).room st.free (free_headers st) n))) (found-named s f old for honest (is-file s f block old for holds honest)).0
+        ∙ ap (λ (k : ℕ). first_of (room_causes k (file_named st f).room st.free (free_headers st) n)) (headers-named honest)
+        ∙ ap (λ (k : ℕ). first_of (room_causes end.headers k st.free (free_headers st) n)) (room-named honest ∙ sym room_is)
+        ∙ ap (λ (k : ℕ). first_of (room_causes end.headers room k (free_headers st) n)) (sym (space honest).blocks_are)
+        ∙ ap (λ (k : ℕ). first_of (room_causes end.headers room free k n)) (sym (space honest).headers_are)
+
+    pub finds-room : first_of (room_causes end.headers room free headers n) ≡ None → FindsRoom s f n end block after old new
+    finds-room none = record {
+      no_cause = λ honest. causes-are honest ∙ none;
+      holds = holds;
+      few = subst (λ (k : ℕ). end.headers + need k n ≤ 256) room_is (no-more-headers (end.headers + need room n) _ _ none);
+      ends = goes;
+    }
+
+    pub lacks-room : (r : Refusal) → first_of (room_causes end.headers room free headers n) ≡ Some r → FailsToRead false (extend_causes st f n) (header_count (file_named st f)) r old new
+    lacks-room r is =
+        let cause = light _ _ _ r is in
+        record {
+          right = right-cause _ _ r cause.not_failed cause.not_damaged (cause.among st f n) (λ honest. causes-are honest ∙ is);
+          reads = subst (Reads (header_count (file_named st f)) old new) (sym cause.no_fault) (reads-along s f block old new 0 for holds goes.looked);
+        }

@@ -1,0 +1,83 @@
+-- Blocks that were made zeros, before a file's last header names them: what is in hand stays so.
+use Rattle.std.proofs.Common.{◌≡◌, ◌+◌, ◌<◌, ◌≤◌, ◌^◌, ℕ, IsTrue, sym, ap, subst, ◌∙◌, arith}
+use Rattle.f11_bits.specs.Bitmap.{IsBitmap}
+use Rattle.f11_dev.specs.Disk.{Disk}
+use Rattle.f11_home.specs.Home.{HomeFields}
+use Rattle.f11_index.specs.Headers.{IsLastOf}
+use Rattle.f11_index.specs.Table.{Table, table_of}
+use Rattle.f11_volume.specs.Volume.{Volume, volume_of}
+use Rattle.f11_writes.specs.NameLaws.{AreSpare}
+use Rattle.f11_writes.proofs.NameLemmas.{spare-stay}
+use Rattle.f11_image_store.specs.FileLaws.{room_in}
+use Rattle.f11_files.specs.Extending.Growing.{SameFree}
+use Rattle.f11_files.specs.Structure.{bitmap_in, home_of, Lies, IsFor}
+use Rattle.f11_files.specs.Extending.Tail.{HoldsLast, MayBeGiven, HasNoPlace}
+use Rattle.f11_files.specs.Extending.Zeros.{Zeroes}
+use Rattle.f11_files.specs.declared.structure.Structure.{Structure}
+use Rattle.f11_files.specs.declared.extend.tail.Tail.{Tail}
+use Rattle.f11_files.proofs.Finding.First.{table-of}
+use Rattle.f11_files.proofs.WriteLemmas.{keeps-volume}
+
+-- a bitmap says of no more than 516,096 blocks
+low-block : (s : Structure) (lbn count : ℕ) → lbn + count ≤ (bitmap_in s).size → 0 < count → lbn < 2 ^ 24
+low-block s lbn count within some =
+    let is : IsBitmap (bitmap_in s) = s.storage.valid in
+    omega (arith, is.few, is.covered, within, some)
+
+module _ (s : Structure) (tail : Tail) (lbn count : ℕ) (old mid : Disk) (for : IsFor s old) (last : HoldsLast s tail old) (within : lbn + count ≤ (bitmap_in s).size) (some : 0 < count) (few : count ≤ 256)
+    (spare : IsTrue old.honest → AreSpare (volume_of old.image (home_of s)) lbn count) (zeroed : Zeroes (home_of s) lbn count old mid) where
+  abbrev home : HomeFields
+  home = home_of s
+
+  was-honest : IsTrue mid.honest → IsTrue old.honest
+  was-honest honest = sym zeroed.went.honest ∙ honest
+
+  pub mid-for : IsFor s mid
+  mid-for = record {
+    lies = subst (λ (n : ℕ). Lies s n) (sym zeroed.went.size) for.lies;
+    sound = λ honest. (zeroed.keeps (was-honest honest)).volume.sound;
+    keeps = λ honest. keeps-volume s old.image mid.image (zeroed.keeps (was-honest honest)).volume (for.keeps (was-honest honest));
+  }
+
+  pub free-mid : IsTrue old.honest → SameFree home old.image mid.image
+  free-mid honest = ap (λ (v : Volume). v.free) (zeroed.keeps honest).volume.volume
+
+  tables : IsTrue old.honest → table_of mid.image home ≡ table_of old.image home
+  tables honest = (zeroed.keeps honest).volume.index_file.table
+
+  pub mid-last : HoldsLast s tail mid
+  mid-last = record {
+    header = record {
+      in_use = last.header.in_use;
+      valid = last.header.valid;
+      block_is = λ honest.
+          let before = was-honest honest in
+          last.header.block_is before ∙ ap (λ (t : Table). t.header tail.number) (table-of s old for before ∙ sym (tables before) ∙ sym (table-of s mid mid-for honest));
+    };
+    no_link = last.no_link;
+    few = last.few;
+    is_last = λ honest. let before = was-honest honest in subst (λ (t : Table). IsLastOf t tail.file.number tail.number) (sym (tables before)) (last.is_last before);
+  }
+
+  pub mid-given : MayBeGiven home lbn count mid
+  mid-given = record {
+    some = some;
+    short = few;
+    low = low-block s lbn count within some;
+    spare = λ honest. let before = was-honest honest in spare-stay old.image mid.image home lbn count (zeroed.keeps before).volume (spare before);
+    zeros = λ honest. zeroed.zeros (was-honest honest);
+  }
+
+  -- no place is left for them, and nothing was done
+  module _ (now : Disk) (after : Tail) (full : HasNoPlace tail after lbn count mid now) where
+    pub now-for : IsFor s now
+    now-for = subst (IsFor s) (sym full.disk_is) mid-for
+
+    pub now-last : HoldsLast s after now
+    now-last = subst (λ (d : Disk). HoldsLast s after d) (sym full.disk_is) (subst (λ (x : Tail). HoldsLast s x mid) (sym full.tail_is) mid-last)
+
+    pub now-given : MayBeGiven home lbn count now
+    now-given = subst (MayBeGiven home lbn count) (sym full.disk_is) mid-given
+
+    pub now-full : room_in after.block ≡ 0
+    now-full = ap (λ (x : Tail). room_in x.block) full.tail_is ∙ full.room

@@ -1,0 +1,4 @@
+-- A file's first header, and where its blocks are.
+pub mod First
+pub mod Named
+pub mod Locate

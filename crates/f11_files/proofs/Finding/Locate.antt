@@ -1,0 +1,169 @@
+-- A walk along a file's headers, in the words of the store.
+use Rattle.std.proofs.Common.{◌≡◌, ◌-◌, ◌<◌, ◌≤◌, ℕ, Bool, false, cond, IsTrue, List, length, Some, None, option_map, refl, sym, ap, subst, ◌∙◌, ltb, arith}
+use Rattle.std.proofs.lemmas.Bool.{lt-ltb, le-ltb}
+use Rattle.std.proofs.lemmas.List.{length-map}
+use Rattle.std.specs.List.{slice_get}
+use Rattle.std.proofs.lemmas.Option.{slice_get_within, slice_get-map, get_or_from_slice_get}
+use Rattle.f11_bytes.specs.Block.{zero_block}
+use Rattle.f11_dev.specs.Disk.{Disk}
+use Rattle.f11_dev.specs.Image.{Image}
+use Rattle.f11_index.specs.Headers.{headers_of}
+use Rattle.f11_index.specs.IndexFile.{Index}
+use Rattle.f11_index.specs.Table.{Table, table_of, IsFile, IsWholeFile}
+use Rattle.f11_chain.specs.Calls.{table, ReadsFirst, LooksAlong, FindsEnd, FindsBreak, FindsDamage, Locates, ReadsLast}
+use Rattle.f11_chain.specs.FileHeaders.{file_blocks, block_by_vbn, IsSoundFile}
+use Rattle.f11_chain.specs.declared.blocks.FileEnd.{FileEnd}
+use Rattle.f11_chain.specs.declared.fault.ChainFault.{ChainFault}
+use Rattle.f11_chain.specs.declared.fault.ChainFault.TheVariants as chain
+use Rattle.f11_store.specs.Causes.{first_of}
+use Rattle.f11_store.specs.Cost.{header_count}
+use Rattle.f11_store.specs.File.{File, length_of}
+use Rattle.f11_store.specs.Store.{file_named}
+use Rattle.f11_store.specs.declared.files.FileId.{FileId}
+use Rattle.f11_store.specs.declared.refusals.Refusal.{Refusal}
+use Rattle.f11_store.specs.declared.refusals.Refusal.TheVariants.{NoSuchFile, EndOfFile, DeviceFault, Damaged}
+use Rattle.f11_volume.specs.Contents.{block_or_zeros}
+use Rattle.f11_volume.proofs.FileLemmas.{image-files, file-headers-are, file-blocks-are}
+use Rattle.f11_writes.specs.Kept.{file_in}
+use Rattle.f11_files.specs.Answers.{Reads, FailsToRead, refusal_for}
+use Rattle.f11_files.specs.Finding.Blocks.{FindsBlock}
+use Rattle.f11_files.specs.Finding.First.{FindsFile, HoldsFile}
+use Rattle.f11_files.specs.Finding.Length.{CountsBlocks}
+use Rattle.f11_files.specs.Operations.{file_causes, length_causes}
+use Rattle.f11_files.specs.Structure.{index_in, home_of, store_on, IsFor}
+use Rattle.f11_files.specs.declared.structure.Structure.{Structure}
+use Rattle.f11_files.proofs.AnswerLemmas.{right-cause, right-fault, right-damaged}
+use Rattle.f11_files.proofs.Finding.First.{table-of}
+use Rattle.f11_files.proofs.Finding.Named.{held-named, is-file, found-named, no-file-cause, seen-same}
+use Rattle.f11_image_store.proofs.StoreLemmas.{seen-own}
+
+-- the first header was read
+pub reads-first : (index : Index) (f : FileId) (block : List ℕ) (old new : Disk) → FindsFile index f block old new → ReadsFirst index f.number block old new
+reads-first index f block old new finds = record { header = finds.holds.header; first = finds.holds.is_first.first; looked = finds.looked }
+
+-- a file's first header in hand, on an honest disk
+module _ (s : Structure) (f : FileId) (block : List ℕ) (disk : Disk) (for : IsFor s disk) (holds : HoldsFile (index_in s) f block disk) (honest : IsTrue disk.honest) where
+  abbrev t : Table
+  t = table_of disk.image (home_of s)
+
+  abbrev named : File
+  named = file_named (store_on s disk) f
+
+  pub same : table (index_in s) disk ≡ t
+  same = table-of s disk for honest
+
+  -- the file is sound
+  pub sound-file : IsSoundFile (table (index_in s) disk) f.number (length disk.image)
+  sound-file =
+      let file = (is-file s f block disk for holds honest).file in
+      subst (λ (u : Table). IsSoundFile u f.number (length disk.image)) (sym same)
+      ((image-files disk.image (home_of s) (for.sound honest)).each f.number (subst (λ (u : Table). IsFile u f.number) same file))
+
+  pub whole : IsWholeFile t f.number
+  whole = subst (λ (u : Table). IsWholeFile u f.number) same sound-file.whole
+
+  -- the store has its headers,
+  pub held-are : named.held ≡ headers_of t f.number
+  held-are =
+      ap (λ (g : File). g.held) (held-named s f block disk for holds honest)
+      ∙ seen-same (λ (g : File). g.held) (λ g. refl) f.number (file_in (home_of s) f.number disk.image) ∙ file-headers-are disk.image t f.number whole
+
+  pub headers-counted : length (headers_of (table (index_in s) disk) f.number) ≤ header_count named
+  headers-counted =
+      let count = ap (λ (u : Table). length (headers_of u f.number)) same in
+      let held = ap (λ (hs : List ℕ). length hs) held-are in
+      omega (arith, count, held)
+
+  -- and where requests reach it, its blocks
+  pub length-named : 4 ≤ f.number → length_of named ≡ length (file_blocks (table (index_in s) disk) f.number)
+  length-named own =
+      ap length_of (held-named s f block disk for holds honest ∙ seen-own f.number (file_in (home_of s) f.number disk.image) own)
+      ∙ ap (λ (bs : List (List ℕ)). length bs) (file-blocks-are disk.image t f.number whole) ∙ length-map (file_blocks t f.number) _
+      ∙ ap (λ (u : Table). length (file_blocks u f.number)) (sym same)
+
+  -- the causes against a block of it
+  pub length-first : 4 ≤ f.number → (vbn : ℕ) → first_of (length_causes (store_on s disk) f vbn) ≡ cond (ltb (length (file_blocks (table (index_in s) disk) f.number)) vbn) (Some EndOfFile) None
+  length-first own vbn =
+      ap (λ (b : Bool). cond b (Some NoSuchFile) (cond (ltb (length_of named) vbn) (Some EndOfFile) None)) (found-named s f disk for honest (is-file s f block disk for holds honest)).0
+      ∙ ap (λ (n : ℕ). cond (ltb n vbn) (Some EndOfFile) None) (length-named own)
+
+-- headers of it were read, no more than there are
+pub reads-along : (s : Structure) (f : FileId) (block : List ℕ) (old new : Disk) (faults : ℕ) → IsFor s old → HoldsFile (index_in s) f block old → LooksAlong (index_in s) f.number 0 old new faults
+    → Reads (header_count (file_named (store_on s old) f)) old new faults
+reads-along s f block old new faults for holds looks = record {
+  reads = looks.headers;
+  looked = looks.looked;
+  few = λ honest. let once = looks.each_once honest in let count = headers-counted s f block old for holds honest in omega (arith, once, count);
+}
+
+-- a walk to a block of it failed
+module _ (s : Structure) (f : FileId) (block : List ℕ) (old new : Disk) (for : IsFor s old) (holds : HoldsFile (index_in s) f block old) (own : 4 ≤ f.number) (vbn : ℕ) where
+  abbrev Fails : Refusal → Type 0
+  Fails refusal = FailsToRead false (length_causes (store_on s old) f vbn) (header_count (file_named (store_on s old) f)) refusal old new
+
+  pub fails-end : FindsEnd (index_in s) f.number 0 vbn old new → Fails EndOfFile
+  fails-end finds = record {
+    right = right-cause _ _ _ (λ is. omega (arith, is)) (λ is. omega (arith, is)) refl
+        (λ honest. length-first s f block old for holds honest own vbn ∙ ap (λ (b : Bool). cond b (Some EndOfFile) None) (lt-ltb _ _ (finds.fewer honest)));
+    reads = reads-along s f block old new 0 for holds finds.looked;
+  }
+
+  pub fails-damaged : FindsDamage (index_in s) f.number old new → Fails Damaged
+  fails-damaged finds = record {
+    right = right-damaged _ _ (λ honest. finds.damaged honest (sound-file s f block old for holds honest));
+    reads = reads-along s f block old new 0 for holds finds.looked;
+  }
+
+  pub fails-fault : LooksAlong (index_in s) f.number 0 old new 1 → Fails DeviceFault
+  fails-fault looks = record { right = right-fault _ _; reads = reads-along s f block old new 1 for holds looks }
+
+  pub fails-walk : (fault : ChainFault) → (fault ≡ chain.EndOfFile → FindsEnd (index_in s) f.number 0 vbn old new) → (fault ≡ chain.Damaged → FindsDamage (index_in s) f.number old new)
+      → (fault ≡ chain.DeviceFault → LooksAlong (index_in s) f.number 0 old new 1) → Fails (refusal_for fault)
+  fails-walk chain.EndOfFile end damaged failed = fails-end (end refl)
+  fails-walk chain.Damaged end damaged failed = fails-damaged (damaged refl)
+  fails-walk chain.DeviceFault end damaged failed = fails-fault (failed refl)
+
+  -- it found the block
+  pub finds-block : (lbn : ℕ) → 0 < vbn → Locates (index_in s) f.number vbn lbn old new → FindsBlock (home_of s) f vbn lbn old new
+  finds-block lbn some locates = record {
+    no_cause = λ honest.
+        let within : vbn - 1 < length (file_blocks (table (index_in s) old) f.number) = slice_get_within _ _ lbn (locates.block_is honest) in
+        length-first s f block old for holds honest own vbn ∙ ap (λ (b : Bool). cond b (Some EndOfFile) None) (le-ltb _ _ (omega (arith, within, some)));
+    named = λ honest. held-named s f block old for holds honest ∙ seen-own f.number (file_in (home_of s) f.number old.image) own;
+    file = λ honest. subst (λ (u : Table). IsFile u f.number) (table-of s old for honest) (is-file s f block old for holds honest).file;
+    block_is = λ honest. subst (λ (u : Table). block_by_vbn u f.number vbn ≡ Some lbn) (table-of s old for honest) (locates.block_is honest);
+    within = locates.within;
+    reads = reads-along s f block old new 0 for holds locates.looked;
+  }
+
+-- what was read there is the file's block
+pub block-read : (s : Structure) (f : FileId) (vbn lbn : ℕ) (block : List ℕ) (old now : Disk) → IsFor s old → FindsBlock (home_of s) f vbn lbn old now → now.image ≡ old.image
+    → slice_get now.image lbn ≡ Some block → IsTrue old.honest → slice_get (file_named (store_on s old) f).blocks (vbn - 1) ≡ Some block
+block-read s f vbn lbn block old now for finds same at honest =
+    let t : Table = table_of old.image (home_of s) in
+    let here : slice_get old.image lbn ≡ Some block = ap (λ (i : Image). slice_get i lbn) (sym same) ∙ at in
+    let whole = ((image-files old.image (home_of s) (for.sound honest)).each f.number (finds.file honest)).whole in
+    ap (λ (g : File). slice_get g.blocks (vbn - 1)) (finds.named honest)
+    ∙ ap (λ (bs : List (List ℕ)). slice_get bs (vbn - 1)) (file-blocks-are old.image t f.number whole)
+    ∙ slice_get-map (block_or_zeros old.image) (file_blocks t f.number) (vbn - 1) ∙ ap (option_map (block_or_zeros old.image)) (finds.block_is honest)
+    ∙ ap Some (get_or_from_slice_get old.image lbn block zero_block here)
+
+-- a walk to its last header
+module _ (s : Structure) (f : FileId) (block : List ℕ) (old new : Disk) (for : IsFor s old) (holds : HoldsFile (index_in s) f block old) where
+  pub fails-last : (fault : ChainFault) → ¬ (fault ≡ chain.EndOfFile) → (fault ≡ chain.Damaged → FindsBreak (index_in s) f.number 0 old new)
+      → (fault ≡ chain.DeviceFault → LooksAlong (index_in s) f.number 0 old new 1)
+      → FailsToRead false (file_causes (store_on s old) f) (header_count (file_named (store_on s old) f)) (refusal_for fault) old new
+  fails-last chain.EndOfFile never damaged failed = absurd (never refl)
+  fails-last chain.Damaged never damaged failed = record {
+    right = right-damaged _ _ (λ honest. (damaged refl).broken honest (sound-file s f block old for holds honest).whole);
+    reads = reads-along s f block old new 0 for holds (damaged refl).looked;
+  }
+  fails-last chain.DeviceFault never damaged failed = record { right = right-fault _ _; reads = reads-along s f block old new 1 for holds (failed refl) }
+
+  pub counts-last : 4 ≤ f.number → (last : FileEnd) (after : List ℕ) → ReadsLast (index_in s) f.number 0 last after old new → CountsBlocks (home_of s) f last.blocks old new
+  counts-last own last after goes = record {
+    no_cause = λ honest. no-file-cause s f block old for holds honest;
+    length_is = λ honest. goes.blocks_are honest ∙ sym (length-named s f block old for holds honest own);
+    few = let headers = goes.few in let blocks = goes.few_blocks in omega (arith, headers, blocks);
+    reads = reads-along s f block old new 0 for holds goes.looked;
+  }

@@ -1,0 +1,119 @@
+-- The lowest run of free blocks, which become slots.
+use Rattle.std.proofs.Common.{◌+◌, ◌*◌, ◌≤◌, ◌⊎◌, ℕ, false, IsTrue, inl, inr, sym, ap, subst, ◌∙◌, arith}
+use Rattle.f11_bits.specs.Transfers.{blocks_from, blocks_to, blocks_touched}
+use Rattle.f11_dev.specs.Disk.{Disk}
+use Rattle.f11_dev.specs.Image.{Image}
+use Rattle.f11_dev.proofs.WentLemmas.{went_weaker}
+use Rattle.f11_home.specs.Home.{HomeFields}
+use Rattle.f11_store.specs.Changes.{GrowsIndex}
+use Rattle.f11_store.specs.File.{need}
+use Rattle.f11_store.specs.Store.{Store, index_file}
+use Rattle.f11_store.specs.declared.refusals.Refusal.{Refusal}
+use Rattle.f11_volume.specs.Sound.{HasSoundVolume}
+use Rattle.f11_files.specs.Answers.{Writes, Breaks}
+use Rattle.f11_store.specs.Pieces.{with_more_free, TakesSome}
+use Rattle.f11_files.specs.GrowingIndex.Runs.{AddsSlots, AppendingSlots, AppendsSlots, GrewIndex, GrowingIndexBy, GrowsSome}
+use Rattle.f11_files.specs.Extending.Growing.{Taking, IsGrowing}
+use Rattle.f11_store.specs.IndexPieces.{MayGrowIndex}
+use Rattle.f11_image_store.specs.StoreOf.{store_of}
+use Rattle.f11_files.specs.Structure.{bitmap_in, home_of, store_on, IsFor, StaysFor}
+use Rattle.f11_files.specs.Extending.Tail.{HoldsLast, ownership_of}
+use Rattle.f11_files.specs.Extending.Take.{TakesRun}
+use Rattle.f11_files.specs.declared.structure.Structure.{Structure}
+use Rattle.f11_files.specs.declared.extend.tail.Tail.{Tail}
+use Rattle.f11_files.proofs.Removing.Freeing.{breaks-behind, breaks-within, writes-none, writes-then, writes-within}
+use Rattle.f11_files.proofs.Extending.Growing.{takes-within}
+use Rattle.f11_files.proofs.GrowingIndex.Growing.{index-behind, index-within}
+use Rattle.f11_store.proofs.IndexPieceLemmas.{as-file, fewer-grow}
+use Rattle.f11_store.proofs.PieceLemmas.{may-free, taking-adds}
+use Rattle.f11_files.proofs.Extending.Take.{takes-blocks}
+use Rattle.f11_files.proofs.Extending.TakenRun.{run-cost, break-cost, store-mid, store-free, none-left, run-gained, slots-gained}
+
+-- what stands while a run is taken
+taking-grows : (s : Structure) (most : ℕ) (old : Disk) (image : Image) → Taking (home_of s) most 0 (store_on s old) old image → GrowingIndexBy (home_of s) (store_on s old) most old image
+taking-grows s most old image is honest =
+    let here = is honest in
+    let headers = need (index_file (store_on s old)).room most in
+    record { sound = here.sound; stage = inl (takes-within most most 0 headers (store_on s old) (store_of image (home_of s)) (omega arith) (omega arith) here.takes) }
+
+-- no run could be taken
+pub fails-take : (s : Structure) (from most : ℕ) (old new : Disk) (r : Refusal) → Breaks (Taking (home_of s) most 0 (store_on s old) old) (blocks_from (bitmap_in s) from + 2) r old new
+    → Breaks (GrowingIndexBy (home_of s) (store_on s old) most old) (blocks_from (bitmap_in s) from + 5 * most + 3) r old new
+fails-take s from most old new r breaks = record {
+  grave = breaks.grave;
+  undamaged = breaks.undamaged;
+  writes = writes-within (λ _. omega arith) (writes-then (taking-grows s most old) (writes-none _ 0 old) breaks.writes);
+}
+
+module _ (s t : Structure) (tail : Tail) (from most lbn count : ℕ) (old mid : Disk) (for : IsFor s old) (last : HoldsLast s tail old)
+    (may : IsTrue old.honest → MayGrowIndex (store_on s old) most) (takes : TakesRun s t from most lbn count old mid) (stays : StaysFor false s t mid) where
+  abbrev home : HomeFields
+  home = home_of s
+
+  abbrev st : Store
+  st = store_on s old
+
+  abbrev P : Image → Type 0
+  P = GrowingIndexBy home st most old
+
+  abbrev now : Store
+  now = store_on t mid
+
+  was-honest : IsTrue mid.honest → IsTrue old.honest
+  was-honest honest = sym takes.writes.went.honest ∙ honest
+
+  few : count ≤ most
+  few = takes.within.asked
+
+  enough : IsTrue old.honest → most ≤ st.free
+  enough honest = may-free st 1 most (as-file st most (may honest))
+
+  pub run-may : IsTrue mid.honest → MayGrowIndex (with_more_free now count) count
+  run-may honest = let before = was-honest honest in subst (λ (x : Store). MayGrowIndex x count) (sym (store-free s t tail from most lbn count old mid for last enough takes stays before)) (fewer-grow st most count (may before) few)
+
+  -- images that stand meanwhile
+  abbrev headers : ℕ
+  headers = need (index_file st).room most
+
+  pub sound-moment : (image : Image) → P image → IsTrue old.honest → HasSoundVolume image home
+  sound-moment image is honest = (is honest).sound
+
+  taken : Writes P (blocks_to (bitmap_in s) from (lbn + count) + blocks_touched lbn count) old mid 0
+  taken = record { transfers = takes.writes.transfers; went = went_weaker (Taking home most 0 st old) P (taking-grows s most old) takes.writes.went; few = takes.writes.few }
+
+  appending-moment : (image : Image) → AppendingSlots t count mid image → P image
+  appending-moment image is honest =
+      let here = subst (λ (h : HomeFields). IsGrowing h 0 (need (index_file now).room count) (GrowsIndex (with_more_free now count) count) now image) stays.home (is (takes.writes.went.honest ∙ honest)) in
+      record { sound = here.sound; stage = stages honest (store_of image home) here.stage }
+    where
+      stages : IsTrue old.honest → (u : Store) → TakesSome 0 (need (index_file now).room count) now u ⊎ GrowsIndex (with_more_free now count) count u → TakesSome most headers st u ⊎ GrowsSome st most u
+      stages honest u (inl some) =
+          let both = taking-adds st now u count 0 (need (index_file now).room count) (subst (TakesSome count 0 st) (sym (store-mid s t tail from most lbn count old mid for last enough takes stays honest)) (takes-blocks st count count (omega arith))) some in
+          let room = ap (λ (x : Store). (index_file x).room) (store-mid s t tail from most lbn count old mid for last enough takes stays honest) in
+          inl (takes-within (count + 0) most (need (index_file now).room count) headers st u (omega (arith, few)) (omega (arith, few, room)) both)
+      stages honest u (inr grew) = inr (count, few, subst (λ (x : Store). GrowsIndex x count u) (store-free s t tail from most lbn count old mid for last enough takes stays honest) grew)
+
+  pub fails-append : (new : Disk) (r : Refusal) → Breaks (AppendingSlots t count mid) (count + 4) r mid new → Breaks P (blocks_from (bitmap_in s) from + 5 * most + 3) r old new
+  fails-append new r breaks =
+      breaks-within (λ _. break-cost (bitmap_in s) from most lbn count takes.within.above takes.within.some takes.within.short few) (breaks-behind appending-moment taken breaks)
+
+  pub adds-slots : (u : Structure) (later : Tail) (new : Disk) → AppendsSlots t u tail later lbn count (count + 1) mid new → StaysFor false t u new → AddsSlots s u tail later from most (lbn + count) count old new
+  adds-slots u later new given kept = record {
+    file = given.file;
+    last = given.last;
+    bitmap = given.bitmap ∙ takes.bitmap;
+    left = let one = given.left in let two = takes.left in omega (arith, one, two);
+    some = takes.within.some;
+    asked = few;
+    above = let above = takes.within.above in omega (arith, above);
+    within = takes.within.within;
+    none_below = none-left s t tail from most lbn count old mid for last enough takes stays u new given.bitmap given.grew.went.honest given.free kept;
+    gains = λ honest. record {
+      blocks =
+          run-gained s t tail from most lbn count old mid for last enough takes stays u new 1 (ownership_of tail) given.bitmap given.grew.went.honest
+          given.free given.names kept honest;
+      slots = slots-gained s t tail from most lbn count old mid for last enough takes stays new given.slots honest;
+    };
+    grew = index-within (λ _. run-cost (bitmap_in s) from lbn count takes.within.above takes.within.some takes.within.short)
+        (index-behind appending-moment (store-free s t tail from most lbn count old mid for last enough takes stays) taken (subst (λ (h : HomeFields). GrewIndex (AppendingSlots t count mid) h (with_more_free now count) count (count + 1) mid new) stays.home given.grew));
+  }

@@ -1,0 +1,191 @@
+-- A run of blocks that become slots: it is made zeros, and the index file's last header names it, or a new one.
+use Rattle.std.proofs.Common.{◌≡◌, ◌+◌, ◌<◌, ◌≤◌, ℕ, Bool, IsTrue, inl, inr, sym, ap, subst, ◌∙◌, arith}
+use Rattle.std.specs.List.{range_with_len}
+use Rattle.f11_dev.specs.Disk.{Disk}
+use Rattle.f11_dev.specs.Image.{Image}
+use Rattle.f11_dev.proofs.WentLemmas.{went_more, went_weaker}
+use Rattle.f11_header.specs.Fields.{map_area}
+use Rattle.f11_home.specs.Home.{HomeFields}
+use Rattle.f11_index.specs.Kept.{room}
+use Rattle.f11_index.specs.Table.{Table, table_of}
+use Rattle.f11_map.specs.MapArea.{runs_of}
+use Rattle.f11_map.specs.MapWriting.{joins_last}
+use Rattle.f11_store.specs.Changes.{GrowsIndex}
+use Rattle.f11_store.specs.File.{need}
+use Rattle.f11_store.specs.Store.{Store, index_file}
+use Rattle.f11_store.specs.declared.refusals.Refusal.{Refusal}
+use Rattle.f11_store.specs.declared.refusals.Refusal.TheVariants.{DeviceFault}
+use Rattle.f11_volume.specs.Sound.{HasSoundVolume}
+use Rattle.f11_volume.specs.Volume.{volume_of}
+use Rattle.f11_writes.specs.NameLaws.{AreSpare}
+use Rattle.f11_image_store.specs.Allocation.{AddsZeroSlots, NamesMore}
+use Rattle.f11_files.specs.Answers.{Writes, Breaks}
+use Rattle.f11_store.specs.Pieces.{with_more_free, file_numbered, TakesSome, with_slots_named}
+use Rattle.f11_image_store.specs.FileLaws.{room_in}
+use Rattle.f11_files.specs.GrowingIndex.Runs.{AppendingSlots, AppendsSlots, GrewIndex}
+use Rattle.f11_files.specs.Extending.Growing.{SameFree}
+use Rattle.f11_files.specs.GrowingIndex.Slots.{MayBecomeSlots, NamesSlots, NamingSlots, FailsToNameSlots}
+use Rattle.f11_store.specs.IndexPieces.{MayGrowIndex}
+use Rattle.f11_image_store.specs.StoreOf.{store_of}
+use Rattle.f11_files.specs.Structure.{bitmap_in, home_of, store_on, IsFor, StaysFor}
+use Rattle.f11_files.specs.Extending.Tail.{HoldsLast, HasNoPlace, MayBeGiven, pointers_more, whose, ownership_of}
+use Rattle.f11_files.specs.Extending.Zeros.{Keeping, Zeroes, FailsToZero}
+use Rattle.f11_files.specs.declared.structure.Structure.{Structure}
+use Rattle.f11_files.specs.declared.extend.tail.Tail.{Tail}
+use Rattle.f11_files.proofs.Extending.AppendRun.{at-most-one}
+use Rattle.f11_files.proofs.Removing.Freeing.{breaks-behind, breaks-within}
+use Rattle.f11_files.proofs.Extending.Growing.{breaks-fault, went-writes, takes-none, room-here}
+use Rattle.f11_files.proofs.GrowingIndex.Growing.{slots-same, index-behind}
+use Rattle.f11_store.proofs.IndexPieceLemmas.{slots-named}
+use Rattle.f11_files.proofs.Extending.Zeroed.{free-mid, now-for, now-last, now-given}
+
+module _ (s : Structure) (tail : Tail) (lbn count : ℕ) (old : Disk) (for : IsFor s old) (last : HoldsLast s tail old) (index : tail.file.number ≡ 1) (within : lbn + count ≤ (bitmap_in s).size) (some : 0 < count)
+    (few : count ≤ 256) (spare : IsTrue old.honest → AreSpare (volume_of old.image (home_of s)) lbn count) (reserved : count ≤ room s.index)
+    (may : IsTrue old.honest → MayGrowIndex (with_more_free (store_on s old) count) count) where
+  abbrev home : HomeFields
+  home = home_of s
+
+  abbrev st : Store
+  st = store_on s old
+
+  abbrev free : Store
+  free = with_more_free st count
+
+  abbrev P : Image → Type 0
+  P = AppendingSlots s count old
+
+  zero-moment : (image : Image) → Keeping home old image → P image
+  zero-moment image is honest =
+      let here = is honest in
+      record { sound = here.volume.sound; stage = inl (subst (TakesSome 0 (need (index_file st).room count) st) (sym here.store) (takes-none 0 _ st)) }
+
+  pub sound-moment : (image : Image) → P image → IsTrue old.honest → HasSoundVolume image home
+  sound-moment image is honest = (is honest).sound
+
+  pub fails-zeros : (new : Disk) → FailsToZero home count old new → Breaks P (count + 4) DeviceFault old new
+  fails-zeros new fails = breaks-fault record { transfers = count; went = went_weaker (Keeping home old) P zero-moment fails; few = λ _. omega arith }
+
+  -- the blocks are zeros
+  module _ (mid : Disk) (zeroed : Zeroes home lbn count old mid) where
+    zeros-written : Writes P count old mid 0
+    zeros-written = went-writes (went_weaker (Keeping home old) P zero-moment zeroed.went)
+
+    zeros-free : IsTrue old.honest → SameFree home old.image mid.image
+    zeros-free = free-mid s tail lbn count old mid for last within some few spare zeroed
+
+    zeros-table : IsTrue old.honest → table_of mid.image home ≡ table_of old.image home
+    zeros-table honest = (zeroed.keeps honest).volume.index_file.table
+
+    was-honest : IsTrue mid.honest → IsTrue old.honest
+    was-honest honest = sym zeroed.went.honest ∙ honest
+
+    same : IsTrue old.honest → store_on s mid ≡ st
+    same honest = (zeroed.keeps honest).store
+
+    mid-may : IsTrue mid.honest → MayGrowIndex (with_more_free (store_on s mid) count) count
+    mid-may honest = let before = was-honest honest in subst (λ (x : Store). MayGrowIndex (with_more_free x count) count) (sym (same before)) (may before)
+
+    pub mid-slots : MayBecomeSlots s count mid
+    mid-slots = record { reserved = reserved; limit = λ honest. (mid-may honest).within }
+
+    -- images that stand meanwhile
+    into : (image : Image) → AppendingSlots s count mid image → P image
+    into = slots-same home st (store_on s mid) count old mid zeroed.went.honest same
+
+    -- it has no place for them, and nothing was done
+    module _ (now : Disk) (after : Tail) (full : HasNoPlace tail after lbn count mid now) (u : Structure) (same_is : u ≡ s) where
+      pub then-for : IsFor u now
+      then-for = subst (λ (x : Structure). IsFor x now) (sym same_is) (now-for s tail lbn count old mid for last within some few spare zeroed now after full)
+
+      pub then-last : HoldsLast u after now
+      then-last = subst (λ (x : Structure). HoldsLast x after now) (sym same_is) (now-last s tail lbn count old mid for last within some few spare zeroed now after full)
+
+      pub then-index : after.file.number ≡ 1
+      then-index = ap (λ (x : Tail). x.file.number) full.tail_is ∙ index
+
+      pub then-given : MayBeGiven (home_of u) lbn count now
+      then-given = subst (λ (x : Structure). MayBeGiven (home_of x) lbn count now) (sym same_is) (now-given s tail lbn count old mid for last within some few spare zeroed now after full)
+
+      pub then-within : lbn + count ≤ (bitmap_in u).size
+      then-within = subst (λ (x : Structure). lbn + count ≤ (bitmap_in x).size) (sym same_is) within
+
+      pub then-reserved : count ≤ room u.index
+      then-reserved = subst (λ (x : Structure). count ≤ room x.index) (sym same_is) reserved
+
+      pub then-may : IsTrue now.honest → MayGrowIndex (with_more_free (store_on u now) count) count
+      then-may =
+          subst (λ (x : Structure). IsTrue now.honest → MayGrowIndex (with_more_free (store_on x now) count) count) (sym same_is)
+          (subst (λ (d : Disk). IsTrue d.honest → MayGrowIndex (with_more_free (store_on s d) count) count) (sym full.disk_is) mid-may)
+
+      -- a new header names them
+      pub appends-header : (t : Structure) (later : Tail) (new : Disk) → AppendsSlots u t after later lbn count 1 now new → AppendsSlots s t tail later lbn count (count + 1) old new
+      appends-header t later new appends =
+          let given = subst (λ (x : Structure). AppendsSlots x t after later lbn count 1 now new) same_is appends in
+          record {
+            file = given.file ∙ ap whose full.tail_is;
+            last = given.last;
+            bitmap = given.bitmap;
+            left = given.left;
+            free = λ honest. given.free (ap (λ (d : Disk). d.honest) full.disk_is ∙ zeroed.went.honest ∙ honest) ∙ ap (λ (d : Disk). (volume_of d.image home).free) full.disk_is ∙ zeros-free honest;
+            names = λ honest.
+                subst (λ (t : Table). NamesMore 1 (ownership_of tail) (range_with_len lbn count) t (table_of new.image home))
+                (ap (λ (d : Disk). table_of d.image home) full.disk_is ∙ zeros-table honest)
+                (subst (λ (x : Tail). NamesMore 1 (ownership_of x) (range_with_len lbn count) (table_of now.image home) (table_of new.image home)) full.tail_is
+                (given.names (ap (λ (d : Disk). d.honest) full.disk_is ∙ zeroed.went.honest ∙ honest)));
+            slots = λ honest.
+                subst (λ (t : Table). AddsZeroSlots t (table_of new.image home)) (ap (λ (d : Disk). table_of d.image home) full.disk_is ∙ zeros-table honest)
+                (given.slots (ap (λ (d : Disk). d.honest) full.disk_is ∙ zeroed.went.honest ∙ honest));
+            grew = index-behind into (λ honest. ap (λ (x : Store). with_more_free x count) (same honest)) zeros-written
+                (subst (λ (d : Disk). GrewIndex (AppendingSlots s count d) home (with_more_free (store_on s d) count) count 1 d new) full.disk_is given.grew);
+          }
+
+      pub fails-header : (new : Disk) (r : Refusal) → Breaks (AppendingSlots u count now) 4 r now new → Breaks P (count + 4) r old new
+      fails-header new r breaks =
+          breaks-behind into zeros-written
+          (subst (λ (d : Disk). Breaks (AppendingSlots s count d) 4 r d new) full.disk_is (subst (λ (x : Structure). Breaks (AppendingSlots x count now) 4 r now new) same_is breaks))
+
+      pub then-stays : {failed : Bool} {t : Structure} {disk : Disk} → StaysFor failed u t disk → StaysFor failed s t disk
+      then-stays {failed = failed} {t = t} {disk = disk} stays = subst (λ (x : Structure). StaysFor failed x t disk) same_is stays
+
+    -- the last header names them
+    abbrev more : ℕ
+    more = pointers_more tail.block lbn count
+
+    named : IsTrue old.honest → more ≤ room_in tail.block → (e : GrowsIndex free count (with_slots_named more count st)) × (e.grows.added ≡ 0)
+    named honest fits =
+        let left : (index_file st).room ≡ room_in tail.block = subst (λ (j : ℕ). (file_numbered st j).room ≡ room_in tail.block) index (room-here s tail old for last honest) in
+        slots-named st count more (may honest) some (at-most-one (joins_last (runs_of (map_area tail.block)) lbn count)) (omega (arith, left, fits))
+
+    naming-moment : more ≤ room_in tail.block → (image : Image) → NamingSlots s tail lbn count mid image → P image
+    naming-moment fits image is honest =
+        let here = is (zeroed.went.honest ∙ honest) in
+        record { sound = here.sound; stage = inr (subst (GrowsIndex free count) (sym (here.store ∙ ap (with_slots_named more count) (same honest))) (named honest fits).0) }
+
+    pub fails-named : (new : Disk) → FailsToNameSlots s tail lbn count mid new → Breaks P (count + 4) DeviceFault old new
+    fails-named new fails =
+        breaks-within (λ _. omega arith)
+        (breaks-behind (λ image is. is) zeros-written (breaks-fault (went-writes (went_weaker (NamingSlots s tail lbn count mid) P (naming-moment fails.fits) fails.went))))
+
+    pub appends-named : (t : Structure) (after : Tail) (new : Disk) → NamesSlots s t tail after lbn count mid new → AppendsSlots s t tail after lbn count (count + 1) old new
+    appends-named t after new names = record {
+      file = names.file_is;
+      last = names.holds;
+      bitmap = names.bitmap;
+      left = names.left;
+      free = λ honest. names.free (zeroed.went.honest ∙ honest) ∙ zeros-free honest;
+      names = λ honest.
+          subst (λ (t : Table). NamesMore 1 (ownership_of tail) (range_with_len lbn count) t (table_of new.image home)) (zeros-table honest)
+          (names.names (zeroed.went.honest ∙ honest));
+      slots = λ honest. subst (λ (t : Table). AddsZeroSlots t (table_of new.image home)) (zeros-table honest) (names.slots (zeroed.went.honest ∙ honest));
+      grew = record {
+        grows = λ honest. (at honest).0;
+        transfers = zeros-written.transfers + 1;
+        went = went_more P zeros-written.went (went_weaker (NamingSlots s tail lbn count mid) P (naming-moment names.fits) names.went);
+        few = λ honest. let zeros = zeros-written.few honest in omega (arith, zeros);
+      };
+    }
+      where
+        at : IsTrue old.honest → (e : GrowsIndex free count (store_of new.image home)) × (e.grows.added ≡ 0)
+        at honest =
+            let here = names.store (zeroed.went.honest ∙ honest) in
+            subst (λ (x : Store). (e : GrowsIndex free count x) × (e.grows.added ≡ 0)) (sym (here.store ∙ ap (with_slots_named more count) (same honest))) (named honest names.fits)

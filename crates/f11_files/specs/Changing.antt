@@ -1,0 +1,2 @@
+-- What a file's first header says, and changes of it.
+pub mod Fields

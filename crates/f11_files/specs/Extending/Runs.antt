@@ -1,0 +1,78 @@
+-- What extending a file does (profile: blocks of zeros, the lowest free ones, a run of 256 at most after another).
+use Rattle.std.specs.Prelude.{◌≡◌, ◌≢◌, ℕ, ◌+◌, ◌-◌, ◌*◌, ◌/◌, ◌<◌, ◌≤◌, Bool, IsTrue, List}
+use Rattle.f11_dev.specs.Disk.{Disk}
+use Rattle.f11_dev.specs.Image.{Image}
+use Rattle.f11_header.specs.Fields.{owner, protection}
+use Rattle.f11_home.specs.Home.{HomeFields}
+use Rattle.f11_map.specs.HeaderBlock.{link_of}
+use Rattle.f11_store.specs.Changes.{Extends}
+use Rattle.f11_store.specs.Cost.{growth_cost}
+use Rattle.f11_store.specs.File.{length_of}
+use Rattle.f11_store.specs.Lags.{extend_work}
+use Rattle.f11_store.specs.Store.{file_named}
+use Rattle.f11_store.specs.declared.callers.Uic.{Uic}
+use Rattle.f11_store.specs.declared.files.FileId.{FileId}
+use Rattle.f11_store.specs.declared.refusals.Refusal.{Refusal}
+use Rattle.f11_volume.specs.Volume.{volume_of}
+use Rattle.f11_image_store.specs.Allocation.{GainsBlocks, GainsBlocksAs}
+use Rattle.f11_files.specs.Answers.{Meanwhile, Does, FailsToWrite}
+use Rattle.f11_files.specs.Extending.Growing.{Grew, GrowingBy}
+use Rattle.f11_files.specs.Operations.{extend_causes}
+use Rattle.f11_store.specs.Pieces.{file_numbered}
+use Rattle.f11_image_store.specs.StoreOf.{store_of}
+use Rattle.f11_files.specs.Structure.{bitmap_in, home_of, store_on}
+use Rattle.f11_files.specs.Extending.Tail.{HoldsLast, ownership_of, whose}
+use Rattle.f11_files.specs.Extending.Take.{NoneBelow}
+use Rattle.f11_files.specs.declared.structure.Structure.{Structure}
+use Rattle.f11_files.specs.declared.extend.tail.Tail.{Tail}
+
+-- A file's last header is in hand: its first, where that links to none, or else this one.
+pub record IsTailOf (f : FileId) (first : List ℕ) (number : ℕ) (last : List ℕ) (tail : Tail) : Type 0 where
+  pub file_is : tail.file ≡ f
+  pub owner_is : tail.owner ≡ owner first
+  pub protection_is : tail.protection ≡ protection first
+  pub alone : (link_of first).number ≡ 0 → (tail.number ≡ f.number) × (tail.block ≡ first)
+  pub other : (link_of first).number ≢ 0 → (tail.number ≡ number) × (tail.block ≡ last)
+
+-- A file has a run of blocks more: no block below `end` is free then, and its last header is in hand.
+pub record AddsRun (s after : Structure) (tail later : Tail) (from most end count : ℕ) (old new : Disk) : Type 0 where
+  pub file : whose later ≡ whose tail
+  pub last : HoldsLast after later new
+  pub bitmap : bitmap_in after ≡ bitmap_in s
+  pub some : 0 < count
+  pub asked : count ≤ most
+  pub above : from + count ≤ end
+  pub within : end ≤ (bitmap_in s).size
+  pub none_below : IsTrue old.honest → NoneBelow new.image (bitmap_in s) end
+  pub gains :
+      IsTrue old.honest → GainsBlocksAs tail.file.number (ownership_of tail) count (volume_of old.image (home_of s)) (volume_of new.image (home_of s))
+  pub grew :
+      Grew (GrowingBy (home_of s) (store_on s old) tail.file.number most old) (home_of s) (store_on s old) tail.file.number count
+      (end / 4096 - from / 4096 + 5 * count) old new
+
+-- what stands while file k is extended by n blocks
+abbrev pub ExtendingBy : Structure → ℕ → ℕ → Disk → Image → Type 0
+ExtendingBy s k n old = Meanwhile (extend_work k (file_numbered (store_on s old) k).room n) (home_of s) old
+
+-- It was extended by them: headers that were added say this ownership.
+pub record ExtendsBy (s : Structure) (k : ℕ) (ownership : Uic × ℕ) (n : ℕ) (old new : Disk) : Type 0 where
+  pub gains : IsTrue old.honest → GainsBlocksAs k ownership n (volume_of old.image (home_of s)) (volume_of new.image (home_of s))
+  pub grew : Grew (ExtendingBy s k n old) (home_of s) (store_on s old) k n ((bitmap_in s).size / 4096 + 5 * n) old new
+
+-- A file was extended by n blocks of zeros, the lowest free ones: one transfer less than the cost, which counts a look at its right. A header that
+-- was added says the owner and the protection of the file's first one.
+abbrev pub ExtendsFile : HomeFields → FileId → ℕ → Disk → Disk → Type 0
+ExtendsFile home f n old new =
+    let s = store_of old.image home in
+    Does (extend_causes s f n) (extend_work f.number (file_named s f).room n) (growth_cost s (file_named s f) n - 1) (Extends s f.number n)
+    (GainsBlocks f.number n) home old new
+
+-- and this is its length then
+abbrev pub IsLengthAfter : HomeFields → FileId → ℕ → Disk → ℕ → Type 0
+IsLengthAfter home f n old blocks = IsTrue old.honest → blocks ≡ length_of (file_named (store_of old.image home) f) + n
+
+-- It was not, or not by all of them.
+abbrev pub FailsToExtend : Bool → HomeFields → FileId → ℕ → Refusal → Disk → Disk → Type 0
+FailsToExtend failed home f n refusal old new =
+    let s = store_of old.image home in
+    FailsToWrite failed (extend_causes s f n) (growth_cost s (file_named s f) n - 1) (extend_work f.number (file_named s f).room n) home refusal old new

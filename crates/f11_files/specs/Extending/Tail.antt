@@ -1,0 +1,105 @@
+-- A file's last header in hand, and the blocks that it is to name (Files-11 On-Disk Structure Level 1, "File Header" and "Map Area").
+use Rattle.std.specs.Prelude.{◌≡◌, ℕ, ◌^◌, ◌<◌, ◌≤◌, Bool, false, IsTrue, List, if◌then◌else◌}
+use Rattle.std.specs.List.{range_with_len}
+use Rattle.f11_dev.specs.Disk.{Disk}
+use Rattle.f11_dev.specs.Image.{Image}
+use Rattle.f11_dev.specs.Went.{Went}
+use Rattle.f11_header.specs.Fields.{map_area}
+use Rattle.f11_home.specs.Home.{HomeFields}
+use Rattle.f11_map.specs.MapArea.{runs_of}
+use Rattle.f11_map.specs.MapWriting.{joins_last}
+use Rattle.f11_map.specs.HeaderBlock.{segment_number, link_of}
+use Rattle.f11_index.specs.Headers.{IsLastOf}
+use Rattle.f11_index.specs.Table.{table_of}
+use Rattle.f11_chain.specs.Calls.{HoldsHeader}
+use Rattle.f11_store.specs.Store.{Store}
+use Rattle.f11_store.specs.declared.callers.Uic.{Uic}
+use Rattle.f11_store.specs.declared.files.FileId.{FileId}
+use Rattle.f11_volume.specs.Sound.{HasSoundVolume}
+use Rattle.f11_volume.specs.Volume.{volume_of}
+use Rattle.f11_writes.specs.NameLaws.{AreSpare}
+use Rattle.f11_image_store.specs.Allocation.{NamesMore}
+use Rattle.f11_image_store.specs.FileLaws.{HasPointersMore, room_in}
+use Rattle.f11_store.specs.Pieces.{with_zeros_more}
+use Rattle.f11_files.specs.Extending.Growing.{SameFree}
+use Rattle.f11_image_store.specs.StoreOf.{store_of}
+use Rattle.f11_image_store.specs.Confines.{only_header, new_header, either}
+use Rattle.f11_files.specs.Structure.{index_in, home_of, store_on, ConfinesTo, IsFor, StandsWithin}
+use Rattle.f11_files.specs.Extending.Zeros.{HoldsZeros}
+use Rattle.f11_files.specs.declared.structure.Structure.{Structure}
+use Rattle.f11_files.specs.declared.extend.tail.Tail.{Tail}
+
+-- the file that a header in hand is of, and what each header that it gets says of it
+abbrev pub whose : Tail → FileId × Uic × ℕ
+whose tail = (tail.file, tail.owner, tail.protection)
+
+abbrev pub ownership_of : Tail → Uic × ℕ
+ownership_of tail = (tail.owner, tail.protection)
+
+-- the headers that may be changed where it gets blocks: its last one, and new ones
+abbrev pub growth_headers : Structure → Tail → ℕ → Bool
+growth_headers s tail = either (only_header tail.number) (new_header (index_in s))
+
+-- No block was changed but those headers, the bitmaps, and these.
+abbrev pub WritesGrowth : Structure → Tail → List ℕ → Disk → Disk → Type 0
+WritesGrowth s tail others old new = ConfinesTo s (growth_headers s tail) others old new
+
+-- A block that is neither of those headers, of the bitmaps nor one of these is none of those headers, nor of the bitmaps, afterwards.
+abbrev pub GrowsWithin : Structure → Tail → List ℕ → Structure → Tail → Type 0
+GrowsWithin s tail others after later = StandsWithin s (growth_headers s tail) others after (growth_headers after later)
+
+-- The block is a valid header in use, which links to none; it is the last of the file where the disk is honest.
+pub record HoldsLast (s : Structure) (tail : Tail) (disk : Disk) : Type 0 where
+  pub header : HoldsHeader (index_in s) tail.number tail.block disk
+  pub no_link : (link_of tail.block).number ≡ 0
+  pub few : segment_number tail.block < 256
+  pub is_last : IsTrue disk.honest → IsLastOf (table_of disk.image (home_of s)) tail.file.number tail.number
+
+-- A header may name so many blocks from `lbn` on: no other does, they are in use, and they hold zeros.
+pub record MayBeGiven (home : HomeFields) (lbn count : ℕ) (disk : Disk) : Type 0 where
+  pub some : 0 < count
+  pub short : count ≤ 256
+  pub low : lbn < 2 ^ 24
+  pub spare : IsTrue disk.honest → AreSpare (volume_of disk.image home) lbn count
+  pub zeros : IsTrue disk.honest → HoldsZeros disk.image lbn count
+
+-- An image's volume is sound, and its store is this one.
+pub record HasStore (home : HomeFields) (s : Store) (image : Image) : Type 0 where
+  pub sound : HasSoundVolume image home
+  pub store : store_of image home ≡ s
+
+-- how many retrieval pointers more a header has that names these blocks too
+abbrev pub pointers_more : List ℕ → ℕ → ℕ → ℕ
+pointers_more block lbn count = if joins_last (runs_of (map_area block)) lbn count then 0 else 1
+
+-- where the disk is honest, in an image that stands meanwhile the header names the blocks
+abbrev pub Naming : Structure → Tail → ℕ → ℕ → Disk → Image → Type 0
+Naming s tail lbn count old image =
+    IsTrue old.honest → HasStore (home_of s) (with_zeros_more tail.file.number (pointers_more tail.block lbn count) count (store_on s old)) image
+
+-- The header names these blocks too, and was written.
+pub record NamesRun (s : Structure) (tail after : Tail) (lbn count : ℕ) (old new : Disk) : Type 0 where
+  pub file_is : whose after ≡ whose tail
+  pub number_is : after.number ≡ tail.number
+  pub pointers : HasPointersMore (pointers_more tail.block lbn count) tail.block after.block
+  pub fits : pointers_more tail.block lbn count ≤ room_in tail.block
+  pub holds : HoldsLast s after new
+  pub is_for : IsFor s new
+  pub names :
+      IsTrue old.honest →
+      NamesMore tail.file.number (ownership_of tail) (range_with_len lbn count) (table_of old.image (home_of s)) (table_of new.image (home_of s))
+  pub store : Naming s tail lbn count old new.image
+  pub free : IsTrue old.honest → SameFree (home_of s) old.image new.image
+  pub went : Went (Naming s tail lbn count old) old new 1 0
+
+-- The transfer failed.
+pub record FailsToName (s : Structure) (tail : Tail) (lbn count : ℕ) (old new : Disk) : Type 0 where
+  pub fits : pointers_more tail.block lbn count ≤ room_in tail.block
+  pub went : Went (Naming s tail lbn count old) old new 1 1
+
+-- The header has no place for these blocks, and they join no pointer of it: nothing was done.
+pub record HasNoPlace (tail after : Tail) (lbn count : ℕ) (old new : Disk) : Type 0 where
+  pub tail_is : after ≡ tail
+  pub disk_is : new ≡ old
+  pub room : room_in tail.block ≡ 0
+  pub apart : joins_last (runs_of (map_area tail.block)) lbn count ≡ false

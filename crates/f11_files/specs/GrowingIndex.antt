@@ -1,0 +1,3 @@
+-- The index file, which grows: its new blocks are slots.
+pub mod Slots
+pub mod Runs

@@ -1,0 +1,187 @@
+//! What a file's first header says of it.
+ghost use Rattle.std.specs.Prelude.{◌≡◌, ◌≤◌, false, IfOk, IfErr, OnOk};
+ghost use Rattle.f11_files.specs.Answers.{FailsToRead, is_grave, is_refused, WritesFirstOf};
+ghost use Rattle.f11_files.specs.Calls.{ReadsAttr};
+ghost use Rattle.f11_image_store.specs.Confines.{only_header};
+ghost use Rattle.f11_files.specs.Changing.Fields.{Alters, FailsToAlter};
+ghost use Rattle.f11_files.specs.Finding.First.{IsFirstOf};
+ghost use Rattle.f11_files.specs.Operations.{attr_in, file_causes};
+ghost use Rattle.f11_files.specs.Structure.{home_of, store_on, IsFor, StaysFor, WritesParts};
+ghost use Rattle.f11_store.specs.Changes.{with_replacement, with_delete_mark};
+
+use crate::answer::is_grave;
+use crate::change::fields::{replace, set_mark};
+use crate::files::Files;
+use crate::structure::Structure;
+use f11_bytes::{BLOCK_SIZE, Block};
+use f11_dev::Device;
+use f11_header::Header;
+use f11_store::{Attr, Change, FileId, Refusal};
+
+/// What a first header says of its file.
+fn attr_of(block: &Block, f: FileId) -> Attr
+    requires { IsFirstOf f block.now }
+    ensures { result ≡ attr_in block.now }
+{
+    let header = Header::new(block);
+    let mut ident = [0; 46];
+    ident.copy_from_slice(header.ident());
+    Attr {
+        owner: header.owner(),
+        protection: header.protection(),
+        characteristics: header.characteristics(),
+        ident,
+        attr: header.attributes(),
+    }
+}
+
+impl Structure {
+    /// Reads what a file's header says of it: one transfer at most.
+    ///
+    /// # Errors
+    ///
+    /// Those of [`Structure::read_first`].
+    pub(crate) fn read_attr<D: Device>(&self, device: &mut D, f: FileId) -> Result<Attr, Refusal>
+        requires is_for { IsFor self.now (D.disk device.old) }
+        ensures read { IfOk result (λ attr. ReadsAttr (home_of self.now) f attr
+            (D.disk device.old) (D.disk device.new)) }
+        ensures refused { IfErr result (λ refusal. FailsToRead false
+            (file_causes (store_on self.now (D.disk device.old)) f) 1 refusal
+            (D.disk device.old) (D.disk device.new)) }
+    {
+        let mut block = [0; BLOCK_SIZE];
+        self.read_first(device, f, &mut block)?;
+        Ok(attr_of(&block, f))
+    }
+
+    /// Makes a change of a file's attributes: one read and one write at most.
+    ///
+    /// # Errors
+    ///
+    /// Those of [`Structure::read_first`].
+    pub(crate) fn write_attr<D: Device>(
+        &self,
+        device: &mut D,
+        f: FileId,
+        change: &Change,
+    ) -> Result<(), Refusal>
+        requires is_for { IsFor self.now (D.disk device.old) }
+        requires own { 4 ≤ f.number }
+        ensures altered { OnOk result (Alters (with_replacement change.now) (home_of self.now) f
+            (D.disk device.old) (D.disk device.new)) }
+        ensures refused { IfErr result (λ refusal. FailsToAlter false (with_replacement change.now)
+            (home_of self.now) f refusal (D.disk device.old) (D.disk device.new)) }
+        ensures stays { StaysFor (is_refused is_grave result) self.now self.now
+            (D.disk device.new) }
+        ensures confined { WritesParts self.now (only_header f.number) (D.disk device.old)
+            (D.disk device.new) }
+    {
+        let mut block = [0; BLOCK_SIZE];
+        self.read_first(device, f, &mut block)?;
+        replace(&mut block, f, change);
+        match device.write(self.index.lbn_of_header(f.number), &block) {
+            Ok(()) => Ok(()),
+            Err(_) => Err(Refusal::DeviceFault),
+        }
+    }
+
+    /// Marks a file for delete: one read and one write at most.
+    ///
+    /// # Errors
+    ///
+    /// Those of [`Structure::read_first`].
+    pub(crate) fn mark<D: Device>(&self, device: &mut D, f: FileId) -> Result<(), Refusal>
+        requires is_for { IsFor self.now (D.disk device.old) }
+        requires own { 4 ≤ f.number }
+        ensures altered { OnOk result (Alters with_delete_mark (home_of self.now) f
+            (D.disk device.old) (D.disk device.new)) }
+        ensures refused { IfErr result (λ refusal. FailsToAlter false with_delete_mark
+            (home_of self.now) f refusal (D.disk device.old) (D.disk device.new)) }
+        ensures stays { StaysFor (is_refused is_grave result) self.now self.now
+            (D.disk device.new) }
+        ensures confined { WritesParts self.now (only_header f.number) (D.disk device.old)
+            (D.disk device.new) }
+    {
+        let mut block = [0; BLOCK_SIZE];
+        self.read_first(device, f, &mut block)?;
+        set_mark(&mut block, f);
+        match device.write(self.index.lbn_of_header(f.number), &block) {
+            Ok(()) => Ok(()),
+            Err(_) => Err(Refusal::DeviceFault),
+        }
+    }
+}
+
+impl<D: Device> Files<D> {
+    ghost use Rattle.f11_files.specs.Open.{counts_in, disk_in, has_failed, home_in, store_in, Answers, IsIdFrom};
+
+    /// What a file's header says of it, of one that is marked for delete too, and of the volume's own files. One transfer at most.
+    ///
+    /// # Errors
+    ///
+    /// `VolumeFailed` where an earlier call answered `DeviceFault` or `Damaged`, `NoSuchFile` where no file has this identification,
+    /// `DeviceFault` where the transfer failed, `Damaged` where the header is neither valid nor dead.
+    pub fn read_attr(&mut self, f: FileId) -> Result<Attr, Refusal>
+        requires id { IsIdFrom 1 f }
+        ensures answers { Answers result self.old self.new }
+        ensures told { counts_in self.new ≡ counts_in self.old }
+        ensures read { IfOk result (λ attr.
+            ReadsAttr (home_in self.old) f attr (disk_in self.old) (disk_in self.new)) }
+        ensures refused { IfErr result (λ refusal. FailsToRead (has_failed self.old)
+            (file_causes (store_in self.old) f) 1 refusal (disk_in self.old) (disk_in self.new)) }
+    {
+        if self.failed {
+            return Err(Refusal::VolumeFailed);
+        }
+        let answer = self.structure.read_attr(&mut self.device, f);
+        self.failed = is_grave(&answer);
+        answer
+    }
+
+    /// Replaces a part of a file's attributes: the user attributes, the ident area or the protection word. One read and one write at
+    /// most; where it is refused, but for `DeviceFault` and `Damaged`, nothing is written.
+    ///
+    /// # Errors
+    ///
+    /// Those of [`Files::read_attr`].
+    pub fn write_attr(&mut self, f: FileId, change: &Change) -> Result<(), Refusal>
+        requires id { IsIdFrom 4 f }
+        ensures answers { Answers result self.old self.new }
+        ensures altered { OnOk result (Alters (with_replacement change.now) (home_in self.old) f
+            (disk_in self.old) (disk_in self.new)) }
+        ensures refused { IfErr result (λ refusal. FailsToAlter (has_failed self.old)
+            (with_replacement change.now) (home_in self.old) f refusal
+            (disk_in self.old) (disk_in self.new)) }
+        ensures confined { WritesFirstOf f (home_in self.old) (disk_in self.old) (disk_in self.new) }
+    {
+        if self.failed {
+            return Err(Refusal::VolumeFailed);
+        }
+        let answer = self.structure.write_attr(&mut self.device, f, change);
+        self.failed = is_grave(&answer);
+        answer
+    }
+
+    /// Marks a file for delete (SC.MDL). One read and one write at most; where it is refused, but for `DeviceFault` and `Damaged`, nothing
+    /// is written.
+    ///
+    /// # Errors
+    ///
+    /// Those of [`Files::read_attr`].
+    pub fn mark(&mut self, f: FileId) -> Result<(), Refusal>
+        requires id { IsIdFrom 6 f }
+        ensures answers { Answers result self.old self.new }
+        ensures altered { OnOk result (Alters with_delete_mark (home_in self.old) f
+            (disk_in self.old) (disk_in self.new)) }
+        ensures refused { IfErr result (λ refusal. FailsToAlter (has_failed self.old)
+            with_delete_mark (home_in self.old) f refusal (disk_in self.old) (disk_in self.new)) }
+        ensures confined { WritesFirstOf f (home_in self.old) (disk_in self.old) (disk_in self.new) }
+    {
+        if self.failed {
+            return Err(Refusal::VolumeFailed);
+        }
+        let answer = self.structure.mark(&mut self.device, f);
+        self.failed = is_grave(&answer);
+        answer
+    }
+}

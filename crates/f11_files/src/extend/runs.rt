@@ -1,0 +1,252 @@
+//! A file that is extended: it gets more blocks, run by run, which are zeros.
+ghost use Rattle.std.specs.Prelude.{◌≡◌, ◌+◌, ◌-◌, ◌*◌, ◌/◌, ◌<◌, ◌≤◌, false, IfErr, IfOk, IsTrue, OnOk, [], true};
+ghost use Rattle.f11_bits.specs.Transfers.{blocks_from};
+ghost use Rattle.std.specs.List.{range_with_len};
+ghost use Rattle.f11_image_store.specs.Allocation.{free_list};
+ghost use Rattle.f11_files.specs.Answers.{is_grave, is_light, is_refused, Breaks, WritesMoreOf};
+ghost use Rattle.f11_image_store.specs.Confines.{either, new_header};
+ghost use Rattle.f11_store.specs.Pieces.{with_more_free, file_numbered, MayExtend};
+ghost use Rattle.f11_files.specs.Extending.Runs.{AddsRun, ExtendingBy, ExtendsBy, ExtendsFile, FailsToExtend, IsLengthAfter, IsTailOf};
+ghost use Rattle.f11_files.specs.Extending.Header.{AppendingRun, AppendsRun};
+ghost use Rattle.f11_files.specs.Extending.Growing.{GrowingBy};
+ghost use Rattle.f11_files.specs.Structure.{counts_of, bitmap_in, home_of, store_on, index_in, IsFor, StaysFor, ConfinesTo};
+ghost use Rattle.f11_files.specs.Extending.Tail.{GrowsWithin, HoldsLast, WritesGrowth, ownership_of};
+ghost use Rattle.f11_files.specs.Extending.Take.{NoneBelow};
+ghost use Rattle.f11_header.specs.Header.{holds_header};
+ghost use Rattle.f11_index.specs.Headers.{headers_of};
+ghost use Rattle.f11_index.specs.Table.{table_of};
+ghost use Rattle.f11_store.specs.Changes.{is_in};
+ghost use Rattle.f11_store.specs.File.{need};
+ghost use Rattle.f11_volume.specs.Volume.{volume_of};
+ghost use Rattle.f11_writes.specs.NameLaws.{AreSpare};
+
+use crate::answer::is_grave;
+use crate::extend::tail::Tail;
+use crate::files::Files;
+use crate::structure::Structure;
+use f11_bytes::{BLOCK_SIZE, Block};
+use f11_dev::Device;
+use f11_header::Header;
+use f11_map::in_hand::link;
+use f11_store::{FileId, Refusal};
+
+/// A file's last header in hand: the first, where that links to none, or else this one.
+pub(crate) fn tail_of(file: FileId, first: &Block, number: u16, last: &Block) -> Tail
+    requires { IsTrue (holds_header first.now) }
+    ensures tail { IsTailOf file first.now number last.now result }
+{
+    let header = Header::new(first);
+    let alone = link(first).number == 0;
+    Tail {
+        file,
+        owner: header.owner(),
+        protection: header.protection(),
+        number: if alone { file.number } else { number },
+        block: if alone { *first } else { *last },
+    }
+}
+
+impl Structure {
+    /// Gives a file `count` blocks from `lbn` on, which are in use and named by no header: they are made zeros, and its last header names
+    /// them, or a new one that it links to then.
+    ///
+    /// # Errors
+    ///
+    /// `DeviceFault` where a transfer failed, `Damaged` where no header is free, or the file has 256, though there should be room.
+    fn append_run<D: Device>(
+        &mut self,
+        device: &mut D,
+        tail: &mut Tail,
+        lbn: u32,
+        count: u32,
+    ) -> Result<(), Refusal>
+        requires is_for { IsFor self.old (D.disk device.old) }
+        requires last { HoldsLast self.old tail.old (D.disk device.old) }
+        requires own { 4 ≤ tail.old.file.number }
+        requires within { lbn + count ≤ (bitmap_in self.old).size }
+        requires few { (0 < count) × (count ≤ 256) }
+        requires spare { IsTrue (D.disk device.old).honest
+            → AreSpare (volume_of (D.disk device.old).image (home_of self.old)) lbn count }
+        requires may { let free = with_more_free (store_on self.old (D.disk device.old)) count in
+            IsTrue (D.disk device.old).honest → MayExtend free tail.old.file.number count }
+        ensures appended { OnOk result (AppendsRun self.old self.new tail.old tail.new lbn count
+            (count + 1) (D.disk device.old) (D.disk device.new)) }
+        ensures refused { IfErr result (λ refusal. Breaks
+            (AppendingRun self.old tail.old count (D.disk device.old)) (count + 4) refusal
+            (D.disk device.old) (D.disk device.new)) }
+        ensures stays { StaysFor (is_refused is_grave result) self.old self.new
+            (D.disk device.new) }
+        ensures confined { WritesGrowth self.old tail.old (range_with_len lbn count)
+            (D.disk device.old) (D.disk device.new) }
+        ensures places { OnOk result (GrowsWithin self.old tail.old [] self.new tail.new) }
+    {
+        match self.zero_run(device, lbn, count) {
+            Ok(()) => {}
+            Err(_) => return Err(Refusal::DeviceFault),
+        }
+        let named = match self.name_run(device, tail, lbn, count) {
+            Ok(named) => named,
+            Err(_) => return Err(Refusal::DeviceFault),
+        };
+        if named {
+            return Ok(());
+        }
+        self.add_header(device, tail, lbn, count)
+    }
+
+    /// Gives a file the lowest run of free blocks, 256 at most and `most` at most: they are marked used, made zeros, and named. None below
+    /// `from` is free. Gives the number of the block behind the run, and how many blocks it has.
+    ///
+    /// # Errors
+    ///
+    /// `DeviceFault` where a transfer failed, `Damaged` where no block or no header is free, though there should be room.
+    fn add_run<D: Device>(
+        &mut self,
+        device: &mut D,
+        tail: &mut Tail,
+        from: u32,
+        most: u32,
+    ) -> Result<(u32, u32), Refusal>
+        requires is_for { IsFor self.old (D.disk device.old) }
+        requires last { HoldsLast self.old tail.old (D.disk device.old) }
+        requires own { 4 ≤ tail.old.file.number }
+        requires some { 0 < most }
+        requires may { IsTrue (D.disk device.old).honest
+            → MayExtend (store_on self.old (D.disk device.old)) tail.old.file.number most }
+        requires none_below { IsTrue (D.disk device.old).honest
+            → NoneBelow (D.disk device.old).image (bitmap_in self.old) from }
+        ensures added { IfOk result (λ run. AddsRun self.old self.new tail.old tail.new from most
+            run.0 run.1 (D.disk device.old) (D.disk device.new)) }
+        ensures refused { let s = store_on self.old (D.disk device.old) in
+            IfErr result (λ refusal. Breaks
+            (GrowingBy (home_of self.old) s tail.old.file.number most (D.disk device.old))
+            (blocks_from (bitmap_in self.old) from + 5 * most + 3) refusal
+            (D.disk device.old) (D.disk device.new)) }
+        ensures stays { StaysFor (is_refused is_grave result) self.old self.new
+            (D.disk device.new) }
+        ensures confined { IsTrue (D.disk device.old).honest → WritesGrowth self.old tail.old
+            (free_list (volume_of (D.disk device.old).image (home_of self.old)))
+            (D.disk device.old) (D.disk device.new) }
+        ensures places { OnOk result (GrowsWithin self.old tail.old [] self.new tail.new) }
+    {
+        let (lbn, count) = self.take_run(device, from, most)?;
+        self.append_run(device, tail, lbn, count)?;
+        Ok((lbn + count, count))
+    }
+
+    /// Gives a file `n` blocks of zeros more, the lowest that are free, where there is room for them and it has no contiguous mark.
+    ///
+    /// # Errors
+    ///
+    /// Those of [`Structure::add_run`].
+    fn extend_by<D: Device>(
+        &mut self,
+        device: &mut D,
+        tail: &mut Tail,
+        n: u32,
+    ) -> Result<(), Refusal>
+        requires is_for { IsFor self.old (D.disk device.old) }
+        requires last { HoldsLast self.old tail.old (D.disk device.old) }
+        requires own { 4 ≤ tail.old.file.number }
+        requires may { IsTrue (D.disk device.old).honest
+            → MayExtend (store_on self.old (D.disk device.old)) tail.old.file.number n }
+        ensures extended { OnOk result
+            (ExtendsBy self.old tail.old.file.number (ownership_of tail.old) n (D.disk device.old)
+            (D.disk device.new)) }
+        ensures refused { let s = store_on self.old (D.disk device.old) in
+            let k = tail.old.file.number in
+            IfErr result (λ refusal. Breaks
+            (ExtendingBy self.old k n (D.disk device.old))
+            (s.bitmap_blocks + 5 * n + 3 * need (file_numbered s k).room n + 3) refusal
+            (D.disk device.old) (D.disk device.new)) }
+        ensures stays { StaysFor (is_refused is_grave result) self.old self.new
+            (D.disk device.new) }
+        ensures confined { IsTrue (D.disk device.old).honest → WritesGrowth self.old tail.old
+            (free_list (volume_of (D.disk device.old).image (home_of self.old)))
+            (D.disk device.old) (D.disk device.new) }
+    {
+        let mut from = 0;
+        let mut left = n;
+        while left > 0 {
+            let (end, count) = self.add_run(device, tail, from, left)?;
+            from = end;
+            left -= count;
+        }
+        Ok(())
+    }
+
+    /// Extends a file by `n` blocks of zeros.
+    ///
+    /// # Errors
+    ///
+    /// Those of [`Structure::find_room`], and those of [`Structure::extend_by`].
+    pub(crate) fn extend<D: Device>(
+        &mut self,
+        device: &mut D,
+        f: FileId,
+        n: u32,
+    ) -> Result<u32, Refusal>
+        requires is_for { IsFor self.old (D.disk device.old) }
+        requires own { 4 ≤ f.number }
+        ensures extended { IfOk result (λ blocks. IsLengthAfter (home_of self.old) f n
+            (D.disk device.old) blocks
+            × ExtendsFile (home_of self.old) f n (D.disk device.old) (D.disk device.new)) }
+        ensures refused { IfErr result (λ refusal. FailsToExtend false (home_of self.old) f n
+            refusal (D.disk device.old) (D.disk device.new)) }
+        ensures stays { StaysFor (is_refused is_grave result) self.old self.new
+            (D.disk device.new) }
+        ensures counts { is_refused is_light result ≡ true → counts_of self.new ≡ counts_of
+            self.old }
+        ensures confined { let t = table_of (D.disk device.old).image (home_of self.old) in
+            IsTrue (D.disk device.old).honest → ConfinesTo self.old
+            (either (is_in (headers_of t f.number)) (new_header (index_in self.old)))
+            (free_list (volume_of (D.disk device.old).image (home_of self.old)))
+            (D.disk device.old) (D.disk device.new) }
+    {
+        let mut first = [0; BLOCK_SIZE];
+        let mut last = [0; BLOCK_SIZE];
+        let end = self.find_room(device, f, n, &mut first, &mut last)?;
+        match self.clear_mark(device, f, &mut first) {
+            Ok(()) => {}
+            Err(_) => return Err(Refusal::DeviceFault),
+        }
+        let mut tail = tail_of(f, &first, end.number, &last);
+        self.extend_by(device, &mut tail, n)?;
+        Ok(end.blocks + n)
+    }
+}
+
+impl<D: Device> Files<D> {
+    ghost use Rattle.f11_files.specs.Open.{disk_in, has_failed, home_in, Answers, IsIdFrom};
+
+    /// Extends a file by `n` blocks of zeros, and answers how many it has then. First the contiguous mark is cleared where it is set. Then the
+    /// lowest free blocks are taken, a run of 256 at most after another: each is marked used, made zeros, and named by the file's last
+    /// header; where that has no place, by a new header in the least free slot, which is written before its bit, and that before the
+    /// link to it. Where it is refused, but for `DeviceFault` and `Damaged`, nothing is written.
+    ///
+    /// # Errors
+    ///
+    /// `VolumeFailed` where an earlier call answered `DeviceFault` or `Damaged`, `NoSuchFile` where no file has this identification,
+    /// `TooManySegments` where it would have over 256 headers, `DeviceFull` where fewer blocks are free, `NoHeader` where fewer headers
+    /// are free than it may need, `DeviceFault` where a transfer failed, `Damaged` where a header or a link isn't as it should be, or no
+    /// block or header is found free though one should be: on no honest device.
+    pub fn extend(&mut self, f: FileId, n: u32) -> Result<u32, Refusal>
+        requires id { IsIdFrom 4 f }
+        requires some { 0 < n }
+        ensures answers { Answers result self.old self.new }
+        ensures extended { IfOk result (λ blocks. IsLengthAfter (home_in self.old) f n
+            (disk_in self.old) blocks
+            × ExtendsFile (home_in self.old) f n (disk_in self.old) (disk_in self.new)) }
+        ensures refused { IfErr result (λ refusal. FailsToExtend (has_failed self.old)
+            (home_in self.old) f n refusal (disk_in self.old) (disk_in self.new)) }
+        ensures confined { WritesMoreOf f.number (home_in self.old) (disk_in self.old)
+            (disk_in self.new) }
+    {
+        if self.failed {
+            return Err(Refusal::VolumeFailed);
+        }
+        let answer = self.structure.extend(&mut self.device, f, n);
+        self.failed = is_grave(&answer);
+        answer
+    }
+}

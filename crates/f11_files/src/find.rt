@@ -1,0 +1,6 @@
+//! What is found of a file: its first header, its length, where its blocks are, and what they hold.
+
+pub(crate) mod blocks;
+pub(crate) mod first;
+pub(crate) mod length;
+pub(crate) mod locate;

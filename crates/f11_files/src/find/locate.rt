@@ -1,0 +1,56 @@
+//! Where a block of a file is.
+ghost use Rattle.std.specs.Prelude.{◌<◌, ◌≤◌, false, IfOk, IfErr};
+ghost use Rattle.f11_files.specs.Answers.{FailsToRead};
+ghost use Rattle.f11_files.specs.Finding.Blocks.{FindsBlock};
+ghost use Rattle.f11_files.specs.Operations.{length_causes};
+ghost use Rattle.f11_files.specs.Structure.{home_of, store_on, IsFor};
+ghost use Rattle.f11_store.specs.Cost.{header_count};
+ghost use Rattle.f11_store.specs.Store.{file_named};
+
+use crate::answer::refusal_for;
+use crate::structure::Structure;
+use f11_bytes::BLOCK_SIZE;
+use f11_chain::seek;
+use f11_dev::Device;
+use f11_map::in_hand::lbn_of;
+use f11_store::{FileId, Refusal};
+
+impl Structure {
+    /// Where block `vbn` of a file is, from 1. It reads the file's headers up to the one that names the block, each once.
+    ///
+    /// # Errors
+    ///
+    /// `NoSuchFile` where no file has this identification, `EndOfFile` where it has fewer blocks, `DeviceFault` where a transfer failed,
+    /// `Damaged` where a header, a link or the place isn't as it should be.
+    pub(crate) fn locate<D: Device>(
+        &self,
+        device: &mut D,
+        f: FileId,
+        vbn: u32,
+    ) -> Result<u32, Refusal>
+        requires is_for { IsFor self.now (D.disk device.old) }
+        requires own { 4 ≤ f.number }
+        requires some { 0 < vbn }
+        ensures found { IfOk result (λ lbn. FindsBlock (home_of self.now) f vbn lbn
+            (D.disk device.old) (D.disk device.new)) }
+        ensures refused { IfErr result (λ refusal. FailsToRead false
+            (length_causes (store_on self.now (D.disk device.old)) f vbn)
+            (header_count (file_named (store_on self.now (D.disk device.old)) f)) refusal
+            (D.disk device.old) (D.disk device.new)) }
+    {
+        let mut block = [0; BLOCK_SIZE];
+        self.read_first(device, f, &mut block)?;
+        let place = match seek(device, &self.index, f.number, vbn - 1, &mut block) {
+            Ok(place) => place,
+            Err(fault) => return Err(refusal_for(fault)),
+        };
+        let Some(lbn) = lbn_of(&block, place.left) else {
+            return Err(Refusal::Damaged);
+        };
+        if lbn < device.blocks() {
+            Ok(lbn)
+        } else {
+            Err(Refusal::Damaged)
+        }
+    }
+}
