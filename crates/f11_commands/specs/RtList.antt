@@ -7,7 +7,7 @@ use Rattle.f11_dev.specs.Looked.{Looked}
 use Rattle.rt11_volume.specs.Listing.{ListsAreas}
 use Rattle.rt11_volume.specs.RtName.{rt_name_text}
 use Rattle.rt11_volume.specs.Store.{rt_store_of}
-use Rattle.rt11_volume.specs.Verdict.{IsRtAccepted}
+use Rattle.rt11_volume.specs.Verifying.Verdict.{IsRtAccepted}
 use Rattle.rt11_volume.specs.declared.area.RtArea.{RtArea}
 use Rattle.rt11_volume.specs.declared.area.RtKind.{RtKind}
 use Rattle.rt11_volume.specs.declared.area.RtKind.TheVariants.{Tentative, Empty, Permanent}

@@ -8,7 +8,7 @@ use Rattle.std.specs.Io.KnownBytes.{Keeps}
 use Rattle.rt11_volume.specs.Calls.{Accepts, Rejects}
 use Rattle.rt11_volume.specs.Fresh.{HasRoom, WritesFresh, FailsToWriteFresh}
 use Rattle.f11_findings.specs.declared.finding.Finding.{Finding}
-use Rattle.rt11_volume.specs.Verdict.{IsRtAccepted}
+use Rattle.rt11_volume.specs.Verifying.Verdict.{IsRtAccepted}
 use Rattle.f11_commands.specs.InitCommand.{done_line, refusal_line}
 use Rattle.f11_commands.specs.Output.{Takes}
 use Rattle.f11_commands.specs.declared.outcome.Failure.{Failure}

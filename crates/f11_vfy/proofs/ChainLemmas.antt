@@ -6,18 +6,18 @@ use Rattle.std.proofs.Math.Seq.{get_or-append_seam}
 use Rattle.f11_map.specs.HeaderBlock.{segment_number, link_of}
 use Rattle.f11_index.specs.Table.{Table, IsLive, IsFile, IsNext, IsHeaderOf, first, next}
 use Rattle.f11_store.specs.declared.files.FileId.{FileId}
-use Rattle.f11_vfy.specs.declared.bits.Bits.{Bits}
+use Rattle.f11_vfy.specs.declared.survey.bits.Bits.{Bits}
 use Rattle.f11_vfy.specs.declared.chains.Chains.{Chains}
-use Rattle.f11_vfy.specs.declared.slot.Slot.{Slot}
-use Rattle.f11_vfy.specs.declared.slot.State.TheVariants.{Live}
-use Rattle.f11_vfy.specs.Bits.{has}
+use Rattle.f11_vfy.specs.declared.survey.slot.Slot.{Slot}
+use Rattle.f11_vfy.specs.declared.survey.slot.State.TheVariants.{Live}
+use Rattle.f11_vfy.specs.Surveying.Bits.{has}
 use Rattle.f11_vfy.specs.Chain.{IsFit, KeepsTable, NextsTo, IsClosed, points_at, IsLinkedTwice, ShowsChains}
-use Rattle.f11_vfy.specs.Count.{within, sum_to, Shows}
-use Rattle.f11_vfy.specs.Slot.{KeepsSlot, KeepsHeader}
+use Rattle.f11_vfy.specs.Surveying.Count.{within, sum_to, Shows}
+use Rattle.f11_vfy.specs.Surveying.Slot.{KeepsSlot, KeepsHeader}
 use Rattle.f11_index.specs.Headers.{IsInFile}
-use Rattle.f11_vfy.proofs.SlotLemmas.{live-from, live-to}
-use Rattle.f11_vfy.proofs.SumLemmas.{sum_to-more, two_terms, pair_of_terms, Pair}
-use Rattle.f11_vfy.proofs.TallyLemmas.{within-in, within-below, within-above}
+use Rattle.f11_vfy.proofs.Surveying.Slots.{live-from, live-to}
+use Rattle.f11_vfy.proofs.Surveying.Sums.{sum_to-more, two_terms, pair_of_terms, Pair}
+use Rattle.f11_vfy.proofs.Surveying.Tally.{within-in, within-below, within-above}
 
 -- a header kept is the next of another that links to its number
 abbrev pub Follows : Slot → Slot → Type 0

@@ -3,13 +3,13 @@
 use Rattle.std.specs.Prelude.{◌≡◌, ◌≢◌, ◌≤◌, ◌<◌, ◌+◌, ◌&&◌, ◌==◌, ◌↔◌, ℕ, true, not, if◌then◌else◌, List, length, slice_index}
 use Rattle.f11_map.specs.HeaderBlock.{segment_number}
 use Rattle.f11_index.specs.Table.{Table, IsNext}
-use Rattle.f11_vfy.specs.Bits.{has, limit_of}
-use Rattle.f11_vfy.specs.Count.{within}
-use Rattle.f11_vfy.specs.Slot.{KeepsSlots}
+use Rattle.f11_vfy.specs.Surveying.Bits.{has, limit_of}
+use Rattle.f11_vfy.specs.Surveying.Count.{within}
+use Rattle.f11_vfy.specs.Surveying.Slot.{KeepsSlots}
 use Rattle.f11_index.specs.Headers.{IsInFile}
-use Rattle.f11_vfy.specs.declared.bits.Bits.{Bits}
+use Rattle.f11_vfy.specs.declared.survey.bits.Bits.{Bits}
 use Rattle.f11_vfy.specs.declared.chains.Chains.{Chains}
-use Rattle.f11_vfy.specs.declared.slot.Slot.{Slot}
+use Rattle.f11_vfy.specs.declared.survey.slot.Slot.{Slot}
 
 -- A table as the format has them: slots in use are numbered from 1 on, by words, and a segment number is a byte.
 pub record IsFit (t : Table) : Type 0 where

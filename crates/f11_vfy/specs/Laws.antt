@@ -6,8 +6,8 @@ use Rattle.f11_index.specs.IndexFile.{index_of}
 use Rattle.f11_index.specs.Table.{Table}
 use Rattle.f11_store.specs.Directory.{is_directory}
 use Rattle.f11_volume.specs.Contents.{file_of}
-use Rattle.f11_vfy.specs.Reading.{volume_in}
-use Rattle.f11_vfy.specs.Slot.{says_directory}
+use Rattle.f11_vfy.specs.Scanning.Reading.{volume_in}
+use Rattle.f11_vfy.specs.Surveying.Slot.{says_directory}
 use Rattle.f11_volume.specs.Space.{storage_bitmap}
 use Rattle.f11_volume.specs.Volume.{volume_of}
 

@@ -11,10 +11,10 @@ use Rattle.f11_home.specs.Home.{HomeFields}
 use Rattle.f11_index.specs.IndexFile.{Index, index_of}
 use Rattle.f11_index.specs.Table.{table_in, table_of}
 use Rattle.f11_vfy.specs.Accepted.{device_of}
-use Rattle.f11_vfy.specs.DirectoryNotes.{directory_reads}
+use Rattle.f11_vfy.specs.Directory.Notes.{directory_reads}
 use Rattle.f11_volume.specs.Faults.{IsFramed, IsFrameFault, IsVolumeFault}
-use Rattle.f11_vfy.specs.Framing.{frame_reads}
-use Rattle.f11_vfy.specs.Reading.{most_read, volume_in}
+use Rattle.f11_vfy.specs.Frames.Frame.{frame_reads}
+use Rattle.f11_vfy.specs.Scanning.Reading.{most_read, volume_in}
 use Rattle.f11_volume.specs.Notes.{IsVolumeNote}
 use Rattle.f11_volume.specs.Space.{storage_bitmap}
 use Rattle.f11_volume.specs.Verdict.{IsFault, IsNote}

@@ -1,14 +1,14 @@
 //! Which headers are headers of files, and which are the next of which, by what is kept of them.
 ghost use Rattle.std.specs.Prelude.{◌≡◌, ◌≢◌, ◌≤◌, ◌<◌, ◌+◌, ◌&&◌, ◌==◌, ◌↔◌, ℕ, true, not, length, slice_index, vec_len, IfOk, IsTrue};
 ghost use Rattle.f11_index.specs.Table.{Table, IsNext, IsFile};
-ghost use Rattle.f11_vfy.specs.Bits.{has, limit_of};
+ghost use Rattle.f11_vfy.specs.Surveying.Bits.{has, limit_of};
 ghost use Rattle.f11_vfy.specs.Chain.{IsFit, KeepsTable, NextsTo, IsClosed, points_at, IsSized, ShowsChains};
-ghost use Rattle.f11_vfy.specs.Count.{Shows, sum_to};
+ghost use Rattle.f11_vfy.specs.Surveying.Count.{Shows, sum_to};
 ghost use Rattle.f11_index.specs.Headers.{IsInFile};
 
-use crate::bits::Bits;
-use crate::slot::{Slot, State};
-use crate::tally::Tally;
+use crate::survey::bits::Bits;
+use crate::survey::slot::{Slot, State};
+use crate::survey::tally::Tally;
 use f11_bytes::NoMemory;
 use std::alloc::Global;
 

@@ -14,35 +14,20 @@
 #![tactic(auto)]
 
 mod accepted;
-mod bitmap_file;
-pub mod bits;
 pub mod chains;
-mod contents;
-mod control;
 mod directories;
-mod earlier;
 pub mod fault;
-mod flaws;
+pub mod findings;
 mod frame;
-mod framing;
 mod fresh;
-mod later;
 pub mod laws;
-mod own_files;
-mod pointers;
-pub mod reading;
-mod scans;
-pub mod slot;
-pub mod space;
 pub mod survey;
-pub mod tally;
 mod verifier;
-mod walk;
 
 pub use accepted::Accepted;
 pub use f11_findings::Finding;
 pub use f11_layout::{InitParams, MOST_BLOCKS};
-pub use frame::read_frame;
-pub use framing::{Frame, Framing};
+pub use frame::framing::{Frame, Framing};
+pub use frame::read::read_frame;
 pub use fresh::{InitError, init};
 pub use verifier::{Faults, Notes, Report, VfyError, verify};

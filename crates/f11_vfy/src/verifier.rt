@@ -1,15 +1,15 @@
 //! The verifier: all faults and all notes of an image.
 ghost use Rattle.std.specs.Prelude.{◌≡◌, ◌∷◌, [], length, IfOk, IfErr, IsErrOf};
 ghost use Rattle.f11_findings.specs.Finding.{finding, Adds};
-ghost use Rattle.f11_vfy.specs.Frame.{frame_index, frame_bitmap};
-ghost use Rattle.f11_vfy.specs.Framing.{LieOn};
+ghost use Rattle.f11_vfy.specs.Frames.Read.{frame_index, frame_bitmap};
+ghost use Rattle.f11_vfy.specs.Frames.Frame.{LieOn};
 ghost use Rattle.f11_vfy.specs.Verify.{Examines, ExaminesVolume, LooksOver, LooksOverVolume, IsReport, HasNoReport};
 
 use crate::accepted::Accepted;
 use crate::fault::ReadFault;
-use crate::frame::read_frame;
-use crate::framing::{Frame, Framing};
-use crate::reading::Reading;
+use crate::findings::reading::Reading;
+use crate::frame::framing::{Frame, Framing};
+use crate::frame::read::read_frame;
 use f11_bytes::NoMemory;
 use f11_dev::Device;
 use f11_findings::{Finding, Findings};

@@ -12,14 +12,14 @@ use Rattle.f11_dev.proofs.ImageLemmas.{image_block-written, image_block-other, i
 use Rattle.rt11_volume.specs.Directory.{segment_of, visited, data_start, count_of}
 use Rattle.rt11_volume.specs.Entry.{area_length}
 use Rattle.rt11_volume.specs.Files.{HasFile, file_area, IsBlockAt, HasBlock, HasBlockWritten, WritesBlock}
-use Rattle.rt11_volume.specs.Looking.{IsSoundDisk}
+use Rattle.rt11_volume.specs.Searching.Looking.{IsSoundDisk}
 use Rattle.rt11_volume.specs.Operations.{with_block}
 use Rattle.rt11_volume.specs.Segment.{Segment, segment_words, segment_with, words_of, area_start}
 use Rattle.rt11_volume.specs.Store.{RtStore, rt_store_of, area_at}
-use Rattle.rt11_volume.proofs.FileLemmas.{segments-at, area-begins, area-ends}
-use Rattle.rt11_volume.proofs.KeepLemmas.{KeepsLinks, visited-same, visited-low, sound-kept, keeps-words}
-use Rattle.rt11_volume.proofs.LookingLemmas.{length-segments}
-use Rattle.rt11_volume.proofs.SoundLemmas.{IsSoundImage, accepted_from, sound_from}
+use Rattle.rt11_volume.proofs.Searching.File.{segments-at, area-begins, area-ends}
+use Rattle.rt11_volume.proofs.Verifying.Keep.{KeepsLinks, visited-same, visited-low, sound-kept, keeps-words}
+use Rattle.rt11_volume.proofs.Searching.Looking.{length-segments}
+use Rattle.rt11_volume.proofs.Verifying.Sound.{IsSoundImage, accepted_from, sound_from}
 
 -- Where the area of a file is.
 record IsPlaced (image : Image) (start length_is : ℕ) : Type 0 where

@@ -8,21 +8,21 @@ use Rattle.std.proofs.lemmas.Option.{slice_get-get_or}
 use Rattle.std.proofs.lemmas.Slice.{between_from_start}
 use Rattle.f11_dev.specs.Image.{Image}
 use Rattle.rt11_volume.specs.Directory.{segment_of, extra_of}
-use Rattle.rt11_volume.specs.Draft.{IsRewritten}
+use Rattle.rt11_volume.specs.Rewriting.Draft.{IsRewritten}
 use Rattle.rt11_volume.specs.Entry.{status, is_one_kind, is_empty, area_length, is_file_named, entry_size}
 use Rattle.rt11_volume.specs.Files.{HasArea, CreatesFile}
 use Rattle.rt11_volume.specs.InHand.{KeepsOthers}
-use Rattle.rt11_volume.specs.Looking.{segments_of, found_segment, IsFirstFound}
+use Rattle.rt11_volume.specs.Searching.Looking.{segments_of, found_segment, IsFirstFound}
 use Rattle.rt11_volume.specs.Operations.{entry_at, most_entries, needs_split, segments_with_file, with_entries, with_file, with_new_file}
-use Rattle.rt11_volume.specs.Search.{HasNone, is_empty_for}
+use Rattle.rt11_volume.specs.Searching.Search.{HasNone, is_empty_for}
 use Rattle.rt11_volume.specs.Segment.{Segment, segment_words, segment_with, entries, extra_bytes, entry_place, entry_room}
 use Rattle.rt11_volume.specs.Store.{RtStore, rt_store_of}
-use Rattle.rt11_volume.specs.declared.search.Found.{Found}
+use Rattle.rt11_volume.specs.declared.lookup.entry.Found.{Found}
 use Rattle.rt11_volume.proofs.DeleteLemmas.{extra-first}
-use Rattle.rt11_volume.proofs.EditLemmas.{with-sum, with-kinds}
-use Rattle.rt11_volume.proofs.FileLemmas.{first-found, no-file-found}
-use Rattle.rt11_volume.proofs.RewriteLemmas.{Rewrites, IsAsLong, rewritten-sound, rewritten-store}
-use Rattle.rt11_volume.proofs.SoundLemmas.{IsSoundImage, accepted_from}
+use Rattle.rt11_volume.proofs.Rewriting.Edit.{with-sum, with-kinds}
+use Rattle.rt11_volume.proofs.Searching.File.{first-found, no-file-found}
+use Rattle.rt11_volume.proofs.Rewriting.Rewrite.{Rewrites, IsAsLong, rewritten-sound, rewritten-store}
+use Rattle.rt11_volume.proofs.Verifying.Sound.{IsSoundImage, accepted_from}
 
 -- the area that was found
 unfoldable pub area-found : (blocks : ℕ) (image : Image) (found : Found) → IsFirstFound (is_empty_for blocks) image found → HasArea blocks (rt_store_of image)

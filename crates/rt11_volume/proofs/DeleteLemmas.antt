@@ -5,20 +5,20 @@ use Rattle.std.proofs.lemmas.Bool.{or_parts, eqb-true, not-false}
 use Rattle.std.proofs.lemmas.Option.{slice_get-get_or}
 use Rattle.f11_dev.specs.Image.{Image}
 use Rattle.rt11_volume.specs.Directory.{segment_of, count_of, extra_of, is_extra_wrong}
-use Rattle.rt11_volume.specs.Draft.{IsRewritten}
+use Rattle.rt11_volume.specs.Rewriting.Draft.{IsRewritten}
 use Rattle.rt11_volume.specs.Entry.{status, is_one_kind, is_protected, is_file_named}
 use Rattle.rt11_volume.specs.Files.{file_area, DeletesFile, IsProtectedFile}
 use Rattle.rt11_volume.specs.Fresh.{KeepsData}
 use Rattle.rt11_volume.specs.InHand.{KeepsOthers}
-use Rattle.rt11_volume.specs.Looking.{found_entry, IsFirstFound}
+use Rattle.rt11_volume.specs.Searching.Looking.{found_entry, IsFirstFound}
 use Rattle.rt11_volume.specs.Operations.{with_entries, with_area_emptied, without_file}
 use Rattle.rt11_volume.specs.Segment.{Segment, segment_words, segment_with, areas_end, entries, extra_bytes, HasEnd}
 use Rattle.rt11_volume.specs.Store.{rt_store_of, area_at}
-use Rattle.rt11_volume.specs.declared.search.Found.{Found}
-use Rattle.rt11_volume.proofs.EditLemmas.{without-sum, without-kinds}
-use Rattle.rt11_volume.proofs.FileLemmas.{found-segment, file-found}
-use Rattle.rt11_volume.proofs.RewriteLemmas.{Rewrites, IsAsLong, areas-end-low, rewritten-sound, rewritten-store}
-use Rattle.rt11_volume.proofs.SoundLemmas.{IsSoundImage, accepted_from}
+use Rattle.rt11_volume.specs.declared.lookup.entry.Found.{Found}
+use Rattle.rt11_volume.proofs.Rewriting.Edit.{without-sum, without-kinds}
+use Rattle.rt11_volume.proofs.Searching.File.{found-segment, file-found}
+use Rattle.rt11_volume.proofs.Rewriting.Rewrite.{Rewrites, IsAsLong, areas-end-low, rewritten-sound, rewritten-store}
+use Rattle.rt11_volume.proofs.Verifying.Sound.{IsSoundImage, accepted_from}
 
 -- whether the file in hand is protected
 file-protected : (name : List ℕ) (image : Image) (found : Found) (is : IsFirstFound (is_file_named name) image found)

@@ -13,16 +13,16 @@ use Rattle.f11_dev.specs.Image.{Image, image_block}
 use Rattle.f11_dev.proofs.ImageLemmas.{image_block-written, image_block-other}
 use Rattle.rt11_volume.specs.Directory.{count_of, next_of, visited, segment_of, is_extra_wrong, are_extra_wrong, end_before}
 use Rattle.rt11_volume.specs.Entry.{status, area_length, is_end, is_one_kind, empty_entry}
-use Rattle.rt11_volume.specs.Faults.{IsDirectoryFault, IsHighestBelow, IsHighestAbove}
-use Rattle.rt11_volume.specs.Faults.IsDirectoryFault.{links_outside, links_back, extra_wrong, no_end, status_wrong, area_outside, begins_early, highest_wrong}
+use Rattle.rt11_volume.specs.Verifying.Faults.{IsDirectoryFault, IsHighestBelow, IsHighestAbove}
+use Rattle.rt11_volume.specs.Verifying.Faults.IsDirectoryFault.{links_outside, links_back, extra_wrong, no_end, status_wrong, area_outside, begins_early, highest_wrong}
 use Rattle.rt11_volume.specs.Fresh.{HasRoom, start_of, space_of, fresh_block, IsFreshUpTo, KeepsData, IsFreshStore}
 use Rattle.rt11_volume.specs.Segment.{segment_words, words_of, extra_bytes, entry_place, entry_words, entries, HasEnd, area_start}
 use Rattle.rt11_volume.specs.Store.{rt_store_of}
-use Rattle.rt11_volume.specs.Verdict.{IsRtFault, IsRtAccepted}
-use Rattle.rt11_volume.specs.Verdict.IsRtFault.{size_wrong, of_directory}
-use Rattle.rt11_volume.proofs.EntryLemmas.{entries-count, entries-at, entry_words-at, area_start-more}
-use Rattle.rt11_volume.proofs.VisitLemmas.{visited-one}
-use Rattle.rt11_volume.proofs.WordLemmas.{words_of-low}
+use Rattle.rt11_volume.specs.Verifying.Verdict.{IsRtFault, IsRtAccepted}
+use Rattle.rt11_volume.specs.Verifying.Verdict.IsRtFault.{size_wrong, of_directory}
+use Rattle.rt11_volume.proofs.Rewriting.Entries.{entries-count, entries-at, entry_words-at, area_start-more}
+use Rattle.rt11_volume.proofs.Walking.Visit.{visited-one}
+use Rattle.rt11_volume.proofs.Rewriting.Words.{words_of-low}
 
 -- no block was written yet but the first
 pub IsFreshUpTo-first : (n : ℕ) (old now : Image) → 6 < length old → now ≡ slice_set old 6 (fresh_block n (length old)) → IsFreshUpTo n 7 old now

@@ -11,15 +11,15 @@ use Rattle.rt11_volume.specs.Directory.{segment_of, visited}
 use Rattle.rt11_volume.specs.Entry.{kind_of, is_protected}
 use Rattle.rt11_volume.specs.InHand.{SaysEntry}
 use Rattle.rt11_volume.specs.Listing.{shown_name, shown_area, shown_entry, shown_words, shown_segment, ListsAreas}
-use Rattle.rt11_volume.specs.Looking.{segments_of}
+use Rattle.rt11_volume.specs.Searching.Looking.{segments_of}
 use Rattle.rt11_volume.specs.Segment.{Segment, area_start, segment_words, segment_with}
 use Rattle.rt11_volume.specs.Store.{RtStore, rt_store_of, area_at, areas_of}
 use Rattle.rt11_volume.specs.declared.area.RtArea.{RtArea}
 use Rattle.rt11_volume.specs.declared.entry.Entry.{Entry}
 use Rattle.rt11_volume.proofs.BlockLemmas.{map-agree}
-use Rattle.rt11_volume.proofs.FileLemmas.{area-ends}
-use Rattle.rt11_volume.proofs.LookingLemmas.{length-segments}
-use Rattle.rt11_volume.proofs.SoundLemmas.{IsSoundImage}
+use Rattle.rt11_volume.proofs.Searching.File.{area-ends}
+use Rattle.rt11_volume.proofs.Searching.Looking.{length-segments}
+use Rattle.rt11_volume.proofs.Verifying.Sound.{IsSoundImage}
 
 -- what is shown of an entry in hand is what is shown of its words
 pub shown-says : (e : Entry) (words : List ℕ) (start at : ℕ) → SaysEntry e words → start ≡ at → shown_entry e start ≡ shown_words words at

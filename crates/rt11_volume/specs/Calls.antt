@@ -5,14 +5,14 @@ use Rattle.f11_dev.specs.Looked.{Looked}
 use Rattle.f11_dev.specs.declared.device.Device.{Ghosts}
 use Rattle.f11_findings.specs.Finding.{IsExactly}
 use Rattle.f11_findings.specs.declared.finding.Finding.{Finding}
-use Rattle.rt11_volume.specs.Verdict.{IsRtFault, IsRtNote, IsRtAccepted}
+use Rattle.rt11_volume.specs.Verifying.Verdict.{IsRtFault, IsRtNote, IsRtAccepted}
 use Rattle.rt11_volume.specs.declared.directory.LookFault.{LookFault}
 use Rattle.rt11_volume.specs.declared.directory.LookFault.TheVariants.{DeviceFault, NoMemory}
 use Rattle.rt11_volume.specs.declared.volume.RtAccepted.{RtAccepted}
-use Rattle.rt11_volume.specs.declared.verifier.RtReport.{RtReport}
-use Rattle.rt11_volume.specs.declared.verifier.RtReport.TheVariants.{Accepted, Faulty}
-use Rattle.rt11_volume.specs.declared.verifier.RtVfyError.{RtVfyError}
-use Rattle.rt11_volume.specs.declared.verifier.RtVfyError.TheVariants.{DeviceFault as VfyDeviceFault, NoMemory as VfyNoMemory}
+use Rattle.rt11_volume.specs.declared.verifier.verdict.RtReport.{RtReport}
+use Rattle.rt11_volume.specs.declared.verifier.verdict.RtReport.TheVariants.{Accepted, Faulty}
+use Rattle.rt11_volume.specs.declared.verifier.verdict.RtVfyError.{RtVfyError}
+use Rattle.rt11_volume.specs.declared.verifier.verdict.RtVfyError.TheVariants.{DeviceFault as VfyDeviceFault, NoMemory as VfyNoMemory}
 
 -- each block of the directory is read once at most, 31 segments of two
 abbrev pub most_transfers : ℕ

@@ -6,14 +6,14 @@ use Rattle.f11_dev.specs.Image.{Image}
 use Rattle.f11_dev.specs.declared.device.Device.{Ghosts}
 use Rattle.rt11_volume.specs.Calls.{volume_device, has_failed}
 use Rattle.rt11_volume.specs.Entry.{is_file_named}
-use Rattle.rt11_volume.specs.Looking.{IsSoundDisk}
+use Rattle.rt11_volume.specs.Searching.Looking.{IsSoundDisk}
 use Rattle.rt11_volume.specs.Directory.{count_of}
 use Rattle.rt11_volume.specs.Fresh.{KeepsData}
 use Rattle.rt11_volume.specs.Operations.{needs_split, with_area_emptied, with_block, with_new_file}
-use Rattle.rt11_volume.specs.Search.{IsFirst, HasNone, is_empty_for}
+use Rattle.rt11_volume.specs.Searching.Search.{IsFirst, HasNone, is_empty_for}
 use Rattle.rt11_volume.specs.Segment.{Segment}
 use Rattle.rt11_volume.specs.Store.{RtStore, rt_store_of, Area, area_at}
-use Rattle.rt11_volume.specs.Verdict.{IsRtAccepted}
+use Rattle.rt11_volume.specs.Verifying.Verdict.{IsRtAccepted}
 use Rattle.rt11_volume.specs.declared.refusal.RtRefusal.{RtRefusal}
 use Rattle.rt11_volume.specs.declared.refusal.RtRefusal.TheVariants.{Failed, NoSuchFile, EndOfFile, Protected, DuplicateName, NoSpace, DirectoryFull, NoMemory, DeviceFault}
 use Rattle.rt11_volume.specs.declared.volume.RtAccepted.{RtAccepted}

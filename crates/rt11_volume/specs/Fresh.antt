@@ -9,7 +9,7 @@ use Rattle.f11_dev.specs.declared.device.Device.{Ghosts}
 use Rattle.rt11_volume.specs.Calls.{volume_device, has_failed}
 use Rattle.rt11_volume.specs.Entry.{empty_entry}
 use Rattle.rt11_volume.specs.Store.{RtStore, rt_store_of}
-use Rattle.rt11_volume.specs.Verdict.{IsRtAccepted}
+use Rattle.rt11_volume.specs.Verifying.Verdict.{IsRtAccepted}
 use Rattle.rt11_volume.specs.declared.fresh.RtInitError.{RtInitError}
 use Rattle.rt11_volume.specs.declared.fresh.RtInitError.TheVariants.{BadParameter, DeviceFault}
 use Rattle.rt11_volume.specs.declared.volume.RtAccepted.{RtAccepted}

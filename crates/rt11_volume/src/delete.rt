@@ -3,11 +3,11 @@ ghost use Rattle.std.specs.Prelude.{◌≡◌, false, IfErr, IsErrOf, OnErr, OnO
 ghost use Rattle.f11_dev.specs.Looked.{Looked};
 ghost use Rattle.f11_dev.specs.Went.{Went};
 ghost use Rattle.rt11_volume.specs.Files.{is_device_fault, faults_in, DeletesFile, FailsToDelete, KeepsFiles};
-ghost use Rattle.rt11_volume.specs.Looking.{IsSoundDisk};
+ghost use Rattle.rt11_volume.specs.Searching.Looking.{IsSoundDisk};
 
-use crate::edit::without_file;
-use crate::lookup::find_file;
+use crate::lookup::file::find_file;
 use crate::refusal::RtRefusal;
+use crate::rewrite::edit::without_file;
 use f11_dev::Device;
 
 /// Deletes the file of a name: its segment alone is written.

@@ -8,25 +8,18 @@
 #![tactic(auto)]
 
 mod area;
-mod assembly;
 mod create;
 mod delete;
 mod directory;
-mod draft;
-mod edit;
 mod entry;
-mod faults;
 mod files;
 mod fresh;
 mod list;
 mod lookup;
 mod name;
-mod notes;
 mod refusal;
-mod room;
-mod search;
+mod rewrite;
 mod segment;
-mod split;
 mod verifier;
 mod volume;
 
@@ -36,5 +29,5 @@ pub use f11_rad50::BadName;
 pub use fresh::{RtInitError, init};
 pub use name::RtName;
 pub use refusal::RtRefusal;
-pub use verifier::{Faults, Notes, RtReport, RtVfyError, verify};
+pub use verifier::verdict::{Faults, Notes, RtReport, RtVfyError, verify};
 pub use volume::RtAccepted;

@@ -4,16 +4,16 @@ ghost use Rattle.f11_dev.specs.Looked.{Looked};
 ghost use Rattle.rt11_volume.specs.Files.{faults_in};
 ghost use Rattle.rt11_volume.specs.InHand.{SaysEntry};
 ghost use Rattle.rt11_volume.specs.Listing.{shown_name, shown_entry, shown_segment, ListsAreas, FailsToList};
-ghost use Rattle.rt11_volume.specs.Looking.{IsSoundDisk};
+ghost use Rattle.rt11_volume.specs.Searching.Looking.{IsSoundDisk};
 ghost use Rattle.rt11_volume.specs.Segment.{segment_with};
 ghost use Rattle.rt11_volume.specs.Store.{rt_store_of};
 
 use crate::area::{RtArea, RtKind};
 use crate::directory::MOST_SEGMENTS;
 use crate::entry::Entry;
+use crate::lookup::entry::visit;
 use crate::name::RtName;
 use crate::refusal::RtRefusal;
-use crate::search::visit;
 use crate::segment::Segment;
 use f11_bytes::NoMemory;
 use f11_dev::Device;

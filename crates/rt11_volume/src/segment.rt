@@ -174,7 +174,7 @@ impl Segment {
     }
 
     /// Where entry `i` stands, or would.
-    #[tactic(auto, using(crate::proofs::EntryLemmas::product_small))]
+    #[tactic(auto, using(crate::proofs::Rewriting::Entries::product_small))]
     pub(crate) fn entry_place(&self, i: usize) -> usize
         requires { i ≤ 73 }
         ensures place { result ≡ entry_place (extra_bytes self.now) i }

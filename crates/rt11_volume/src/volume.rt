@@ -1,6 +1,6 @@
 //! A volume that was accepted.
 ghost use Rattle.std.specs.Prelude.{◌≡◌, false, IsTrue};
-ghost use Rattle.rt11_volume.specs.Verdict.{IsRtAccepted};
+ghost use Rattle.rt11_volume.specs.Verifying.Verdict.{IsRtAccepted};
 
 use f11_dev::Device;
 

@@ -12,7 +12,7 @@ use Rattle.f11_home.proofs.HomeLemmas.{home-some, home-unique}
 use Rattle.f11_index.specs.IndexFile.{Index, index_of}
 use Rattle.f11_index.specs.Kept.{LiesWithin}
 use Rattle.f11_volume.specs.Faults.{IsFrameFault}
-use Rattle.f11_vfy.specs.Framing.{AreOf, ReadsFrame, FindsFrameFault, FailsToReadFrame, LacksFrameMemory, frame_reads}
+use Rattle.f11_vfy.specs.Frames.Frame.{AreOf, ReadsFrame, FindsFrameFault, FailsToReadFrame, LacksFrameMemory, frame_reads}
 use Rattle.f11_vfy.specs.declared.fault.ReadFault.{ReadFault}
 use Rattle.f11_vfy.specs.declared.fault.ReadFault.TheVariants as read
 use Rattle.f11_volume.specs.Sound.{HasSoundVolume}

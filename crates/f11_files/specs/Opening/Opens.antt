@@ -2,7 +2,7 @@
 use Rattle.std.specs.Prelude.{◌≡◌, ℕ, ◌+◌, ◌/◌, ◌<◌, IsTrue, List, length, slice_index}
 use Rattle.f11_dev.specs.Disk.{Disk}
 use Rattle.f11_dev.specs.Looked.{Looked}
-use Rattle.f11_vfy.specs.Framing.{frame_reads}
+use Rattle.f11_vfy.specs.Frames.Frame.{frame_reads}
 use Rattle.f11_vfy.specs.declared.fault.ReadFault.{ReadFault}
 use Rattle.f11_vfy.specs.declared.fault.ReadFault.TheVariants as read
 use Rattle.f11_files.specs.Structure.{IsFor}

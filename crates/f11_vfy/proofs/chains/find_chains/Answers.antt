@@ -1,6 +1,6 @@
 use Rattle.std.proofs.Common.{◌≡◌, sym, subst, length, arith, List, ℕ}
 use Rattle.f11_vfy.specs.Chain.{NextsTo, points_at}
-use Rattle.f11_vfy.specs.Count.{Shows, sum_to}
+use Rattle.f11_vfy.specs.Surveying.Count.{Shows, sum_to}
 use Rattle.f11_vfy.proofs.ChainLemmas.{shows-chains}
 use Rattle.f11_vfy.proofs.chains.find_chains.Goals as goal
 

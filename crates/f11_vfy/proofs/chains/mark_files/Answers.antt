@@ -1,10 +1,10 @@
 use Rattle.std.proofs.Common.{◌+◌, ◌∙◌, inl, inr, false, ap, sym, subst, arith}
 use Rattle.std.proofs.lemmas.Bool.{cases_lt, both_ways}
 use Rattle.f11_index.specs.Table.{IsFile}
-use Rattle.f11_vfy.specs.Bits.{has, limit_of}
+use Rattle.f11_vfy.specs.Surveying.Bits.{has, limit_of}
 use Rattle.f11_vfy.specs.Chain.{IsClosed}
-use Rattle.f11_vfy.specs.declared.slot.Slot.{Slot}
-use Rattle.f11_vfy.specs.declared.slot.State.TheVariants.{Unused}
+use Rattle.f11_vfy.specs.declared.survey.slot.Slot.{Slot}
+use Rattle.f11_vfy.specs.declared.survey.slot.State.TheVariants.{Unused}
 use Rattle.f11_vfy.proofs.ChainLemmas.{held_marked, first_is, is_first}
 use Rattle.f11_vfy.proofs.chains.mark_files.Goals as goal
 use Rattle.f11_vfy.proofs.chains.mark_files.Goals.{then-is_file, else-is_file}

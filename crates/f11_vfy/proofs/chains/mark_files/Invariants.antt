@@ -1,6 +1,6 @@
 use Rattle.std.proofs.Common.{◌≡◌, ◌≤◌, ◌+◌, ℕ, true, length}
 use Rattle.f11_index.specs.Table.{Table, IsFile}
-use Rattle.f11_vfy.specs.Bits.{has, limit_of}
+use Rattle.f11_vfy.specs.Surveying.Bits.{has, limit_of}
 use Rattle.f11_vfy.specs.Chain.{KeepsTable, NextsTo, IsClosed}
 use Rattle.f11_vfy.proofs.chains.mark_files.Given as goal
 

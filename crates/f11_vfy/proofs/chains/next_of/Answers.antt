@@ -1,6 +1,6 @@
 use Rattle.std.proofs.Common.{◌-◌, false, subst, get_or, arith}
-use Rattle.f11_vfy.specs.declared.slot.Slot.{Slot}
-use Rattle.f11_vfy.specs.declared.slot.State.TheVariants.{Unused}
+use Rattle.f11_vfy.specs.declared.survey.slot.Slot.{Slot}
+use Rattle.f11_vfy.specs.declared.survey.slot.State.TheVariants.{Unused}
 use Rattle.f11_vfy.proofs.ChainLemmas.{Follows, is_next}
 use Rattle.f11_vfy.proofs.chains.next_of.Goals as goal
 

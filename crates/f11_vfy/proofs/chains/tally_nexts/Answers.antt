@@ -1,9 +1,9 @@
 use Rattle.std.proofs.Common.{◌+◌, ◌∙◌, ap, sym, subst, arith}
-use Rattle.f11_vfy.specs.Bits.{limit_of}
+use Rattle.f11_vfy.specs.Surveying.Bits.{limit_of}
 use Rattle.f11_vfy.specs.Chain.{points_at}
-use Rattle.f11_vfy.specs.Count.{Shows, sum_to, within}
-use Rattle.f11_vfy.proofs.SumLemmas.{sum_to-none}
-use Rattle.f11_vfy.proofs.TallyLemmas.{shows_same}
+use Rattle.f11_vfy.specs.Surveying.Count.{Shows, sum_to, within}
+use Rattle.f11_vfy.proofs.Surveying.Sums.{sum_to-none}
+use Rattle.f11_vfy.proofs.Surveying.Tally.{shows_same}
 use Rattle.f11_vfy.proofs.ChainLemmas.{counted_yes, counted_no}
 use Rattle.f11_vfy.proofs.chains.tally_nexts.Goals as goal
 use Rattle.f11_vfy.proofs.chains.tally_nexts.Goals.{then-links, else-links}

@@ -1,7 +1,7 @@
 use Rattle.std.proofs.Common.{◌≡◌, ◌+◌, length}
-use Rattle.f11_vfy.specs.Bits.{limit_of}
+use Rattle.f11_vfy.specs.Surveying.Bits.{limit_of}
 use Rattle.f11_vfy.specs.Chain.{points_at}
-use Rattle.f11_vfy.specs.Count.{Shows, sum_to}
+use Rattle.f11_vfy.specs.Surveying.Count.{Shows, sum_to}
 use Rattle.f11_vfy.proofs.chains.tally_nexts.Given as goal
 
 abbrev pub invariant-loop-k : goal.invariant-loop-k

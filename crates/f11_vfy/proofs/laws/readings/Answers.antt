@@ -1,4 +1,4 @@
-use Rattle.f11_vfy.proofs.ReadingLemmas.{directory-said, volume-read}
+use Rattle.f11_vfy.proofs.Scanning.Reading.{directory-said, volume-read}
 use Rattle.f11_vfy.proofs.laws.readings.Goals as goal
 
 pub returns-clause-directory : goal.returns-clause-directory

@@ -1,5 +1,5 @@
 use Rattle.std.proofs.lemmas.Result.{IfOk-weaker}
-use Rattle.f11_vfy.proofs.OverLemmas.{over-volume, examines-volume, examines-frame}
+use Rattle.f11_vfy.proofs.Surveying.Over.{over-volume, examines-volume, examines-frame}
 use Rattle.f11_vfy.proofs.verifier.examine.Goals as goal
 
 pub returns-in-Framed-clause-examines : goal.returns-in-Framed-clause-examines

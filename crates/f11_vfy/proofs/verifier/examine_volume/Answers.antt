@@ -1,6 +1,6 @@
 use Rattle.std.proofs.Common.{rules}
-use Rattle.f11_vfy.proofs.OverLemmas.{over-directories, finds-stays}
-use Rattle.f11_vfy.proofs.VerifyLemmas.{volume-notes}
+use Rattle.f11_vfy.proofs.Surveying.Over.{over-directories, finds-stays}
+use Rattle.f11_vfy.proofs.Scanning.Verdict.{volume-notes}
 use Rattle.f11_vfy.proofs.verifier.examine_volume.Goals as goal
 
 pub returns-in_err-add_directory_notes-clause-failed : goal.returns-in_err-add_directory_notes-clause-failed

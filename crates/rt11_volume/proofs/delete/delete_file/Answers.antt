@@ -8,8 +8,8 @@ use Rattle.rt11_volume.specs.InHand.{KeepsOthers}
 use Rattle.rt11_volume.specs.declared.refusal.RtRefusal.TheVariants.{DeviceFault}
 use Rattle.rt11_volume.proofs.AnswerLemmas.{faults-handed_on}
 use Rattle.rt11_volume.proofs.DeleteLemmas.{protected-found, found-ends, others-data, deleted}
-use Rattle.rt11_volume.proofs.KeepLemmas.{visited-low}
-use Rattle.rt11_volume.proofs.SoundLemmas.{sound_from}
+use Rattle.rt11_volume.proofs.Verifying.Keep.{visited-low}
+use Rattle.rt11_volume.proofs.Verifying.Sound.{sound_from}
 use Rattle.rt11_volume.proofs.delete.delete_file.Goals as goal
 
 pub returns-then-is_protected-clause-refused : goal.returns-then-is_protected-clause-refused

@@ -1,6 +1,6 @@
 use Rattle.std.proofs.Common.{arith, map, ◌∙◌}
 use Rattle.rt11_volume.specs.declared.directory.Visited.{Visited}
-use Rattle.rt11_volume.proofs.VisitLemmas.{has_number-any, link-here}
+use Rattle.rt11_volume.proofs.Walking.Visit.{has_number-any, link-here}
 use Rattle.rt11_volume.proofs.directory.is_link_on.Goals as goal
 
 pub returns-then-next-count : goal.returns-then-next-count

@@ -5,7 +5,7 @@ use Rattle.std.proofs.lemmas.List.{length-append}
 use Rattle.rt11_volume.specs.Segment.{segment_words, segment_count}
 use Rattle.rt11_volume.specs.InHand.{visit_at, link_from}
 use Rattle.rt11_volume.specs.declared.directory.Visited.{Visited}
-use Rattle.rt11_volume.proofs.VisitLemmas.{IsWalked-first, IsWalked-more, IsWalked-ends, IsWalked-all, link_from-within, visit_at-push}
+use Rattle.rt11_volume.proofs.Walking.Visit.{IsWalked-first, IsWalked-more, IsWalked-ends, IsWalked-all, link_from-within, visit_at-push}
 use Rattle.rt11_volume.proofs.directory.visit_all.Goals as goal
 
 pub loop-init : goal.loop-init

@@ -2,7 +2,7 @@ use Rattle.std.proofs.Common.{◌≡◌, ◌<◌, ◌*◌, ◌-◌, length, IsTr
 use Rattle.f11_dev.specs.Looked.{Looked}
 use Rattle.rt11_volume.specs.InHand.{visit_at}
 use Rattle.rt11_volume.specs.Segment.{segment_words}
-use Rattle.rt11_volume.proofs.VisitLemmas.{IsWalked}
+use Rattle.rt11_volume.proofs.Walking.Visit.{IsWalked}
 use Rattle.rt11_volume.proofs.directory.visit_all.Given as goal
 
 -- those visited so far, and what is to come

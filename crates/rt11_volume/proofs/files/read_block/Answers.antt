@@ -1,5 +1,5 @@
 use Rattle.std.proofs.Common.{◌∙◌}
-use Rattle.rt11_volume.proofs.SoundLemmas.{sound_from}
+use Rattle.rt11_volume.proofs.Verifying.Sound.{sound_from}
 use Rattle.rt11_volume.proofs.BlockLemmas.{block-read}
 use Rattle.rt11_volume.proofs.files.read_block.Goals as goal
 

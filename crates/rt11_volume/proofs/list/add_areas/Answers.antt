@@ -1,6 +1,6 @@
 use Rattle.std.proofs.Common.{◌∙◌, get_or, [], arith}
 use Rattle.rt11_volume.specs.Segment.{segment_with}
-use Rattle.rt11_volume.proofs.EntryLemmas.{area_start-more}
+use Rattle.rt11_volume.proofs.Rewriting.Entries.{area_start-more}
 use Rattle.rt11_volume.proofs.ListLemmas.{shown-says, shown-more}
 use Rattle.rt11_volume.proofs.list.add_areas.Goals as goal
 

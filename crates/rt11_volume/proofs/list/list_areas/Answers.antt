@@ -2,11 +2,11 @@ use Rattle.std.proofs.Common.{◌≡◌, ◌∙◌, ◌+◌, length, ap, sym, su
 use Rattle.f11_dev.specs.Image.{Image}
 use Rattle.f11_dev.proofs.LookedLemmas.{looked_none, looked_more, looked_within}
 use Rattle.rt11_volume.specs.InHand.{ReadsSegment}
-use Rattle.rt11_volume.specs.Looking.{Visits, IsSoundDisk, IsOnDevice}
+use Rattle.rt11_volume.specs.Searching.Looking.{Visits, IsSoundDisk, IsOnDevice}
 use Rattle.rt11_volume.specs.Segment.{segment_words}
-use Rattle.rt11_volume.proofs.SoundLemmas.{sound_from}
-use Rattle.rt11_volume.proofs.WalkLemmas.{IsNext, IsNext-first, visited-few}
-use Rattle.rt11_volume.proofs.LookingLemmas.{on_read, next_read, ends_unread}
+use Rattle.rt11_volume.proofs.Verifying.Sound.{sound_from}
+use Rattle.rt11_volume.proofs.Walking.Walk.{IsNext, IsNext-first, visited-few}
+use Rattle.rt11_volume.proofs.Searching.Looking.{on_read, next_read, ends_unread}
 use Rattle.rt11_volume.proofs.ListLemmas.{listed-more, listed-all}
 use Rattle.rt11_volume.proofs.list.list_areas.Goals as goal
 

@@ -1,6 +1,6 @@
 use Rattle.std.proofs.Common.{Err, refl, sym, ap, subst}
 use Rattle.std.proofs.lemmas.Bool.{both_ways}
-use Rattle.f11_vfy.specs.Frame.{frame_index, frame_bitmap}
+use Rattle.f11_vfy.specs.Frames.Read.{frame_index, frame_bitmap}
 use Rattle.f11_files.specs.Opening.Opens.{AreApart}
 use Rattle.f11_files.proofs.Opening.Opens.{no-home, frame-faulty, frame-fails, not-apart-damage, opens}
 use Rattle.f11_files.proofs.structure.Structure.read.Goals as goal

@@ -1,6 +1,6 @@
 use Rattle.std.proofs.Common.{arith}
 use Rattle.rt11_volume.specs.Segment.{extra_bytes}
-use Rattle.rt11_volume.proofs.EntryLemmas.{entries-few, entry_room-few}
+use Rattle.rt11_volume.proofs.Rewriting.Entries.{entries-few, entry_room-few}
 use Rattle.rt11_volume.proofs.segment.Segment.area_start.Goals as goal
 
 pub overflow_add-start : goal.overflow_add-start

@@ -1,6 +1,6 @@
 use Rattle.std.proofs.Common.{◌≡◌, ◌+◌, [], ◌∷◌, slice_index, ap, ◌∙◌, arith}
 use Rattle.rt11_volume.specs.Segment.{extra_bytes}
-use Rattle.rt11_volume.proofs.EntryLemmas.{entries-few, entry-read, entry_room-few}
+use Rattle.rt11_volume.proofs.Rewriting.Entries.{entries-few, entry-read, entry_room-few}
 use Rattle.rt11_volume.proofs.segment.Segment.entry.Goals as goal
 
 pub entry_place-at-requires : goal.entry_place-at-requires

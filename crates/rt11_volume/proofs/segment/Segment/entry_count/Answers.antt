@@ -1,7 +1,7 @@
 use Rattle.std.proofs.Common.{slice_index, sym, ap, ◌∙◌, arith}
 use Rattle.rt11_volume.specs.Entry.{is_end}
 use Rattle.rt11_volume.specs.Segment.{extra_bytes}
-use Rattle.rt11_volume.proofs.EntryLemmas.{entries-count}
+use Rattle.rt11_volume.proofs.Rewriting.Entries.{entries-count}
 use Rattle.rt11_volume.proofs.segment.Segment.entry_count.Goals as goal
 
 pub returns-then-has_bit-clause-count : goal.returns-then-has_bit-clause-count

@@ -1,6 +1,6 @@
 use Rattle.std.proofs.Common.{◌∙◌}
 use Rattle.f11_dev.proofs.LookedLemmas.{looked_read, looked_more}
-use Rattle.rt11_volume.proofs.WordLemmas.{segment_words-read}
+use Rattle.rt11_volume.proofs.Rewriting.Words.{segment_words-read}
 use Rattle.rt11_volume.proofs.segment.Segment.read.Goals as goal
 
 pub returns-clause-reads : goal.returns-clause-reads

@@ -1,7 +1,7 @@
 use Rattle.std.proofs.Common.{◌∙◌, ◌++◌, ap, rules, List, ℕ}
 use Rattle.std.specs.Prelude.{slice_set}
 use Rattle.rt11_volume.specs.Segment.{words_of}
-use Rattle.rt11_volume.proofs.WordLemmas.{words_of-set_low, words_of-set_high}
+use Rattle.rt11_volume.proofs.Rewriting.Words.{words_of-set_low, words_of-set_high}
 use Rattle.rt11_volume.proofs.segment.Segment.set_word.Goals as goal
 
 pub returns-then-i-lt-BLOCK_WORDS : goal.returns-then-i-lt-BLOCK_WORDS

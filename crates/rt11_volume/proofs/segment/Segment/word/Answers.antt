@@ -1,5 +1,5 @@
 use Rattle.std.proofs.Common.{slice_index, sym, ap, ◌∙◌, ◌++◌, arith, List, ℕ}
-use Rattle.rt11_volume.proofs.WordLemmas.{words_of-low, words_of-high, words_of-past}
+use Rattle.rt11_volume.proofs.Rewriting.Words.{words_of-low, words_of-high, words_of-past}
 use Rattle.rt11_volume.proofs.segment.Segment.word.Goals as goal
 
 pub returns-then-i-lt-BLOCK_WORDS : goal.returns-then-i-lt-BLOCK_WORDS

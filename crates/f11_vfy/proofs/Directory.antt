@@ -1,0 +1,9 @@
+-- The directories of a volume: what is read and what is noted of them.
+pub mod Walk
+pub mod Course
+pub mod Taking
+pub mod Flaws
+pub mod Repeats
+pub mod Records
+pub mod Later
+pub mod Judging

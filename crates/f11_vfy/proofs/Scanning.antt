@@ -1,0 +1,6 @@
+-- What is found of a volume that was read, all of it and nothing else.
+pub mod Found
+pub mod Lost
+pub mod Exact
+pub mod Reading
+pub mod Verdict

@@ -1,9 +1,0 @@
-use Rattle.std.proofs.Common.{arith}
-use Rattle.f11_vfy.proofs.TakeLemmas.{block-more}
-use Rattle.f11_vfy.proofs.later.Later.take_block.Goals as goal
-
-pub loop-k-preserved : goal.loop-k-preserved
-loop-k-preserved c =
-    let below = c.loop-k-test.true in
-    block-more c.args.slots.now c.args.dir c.args.at c.loop-k.k c.args.block.now c.record_at-record.result c.args.self.now c.loop-k.self c.take_record.new.self
-    (omega (arith, below, c.min-k-end.ensures, c.saturating_sub.ensures, c.from.ensures)) (omega (arith, below, c.min-k-end.ensures)) c.loop-k.invariant c.record_at-record.ensures c.in_ok-take_record.ensures

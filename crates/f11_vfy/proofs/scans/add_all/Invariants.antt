@@ -1,7 +1,0 @@
-use Rattle.std.proofs.Common.{get_or}
-use Rattle.f11_findings.specs.Finding.{finding}
-use Rattle.f11_vfy.specs.Found.{Finds, FoundAmong}
-use Rattle.f11_vfy.proofs.scans.add_all.Given as goal
-
-abbrev pub invariant-loop-i : goal.invariant-loop-i
-invariant-loop-i l = Finds (FoundAmong (λ _. Unit) (λ i. get_or l.fn.more i (finding 0 0 0)) l.i) l.initial.found l.found

@@ -1,0 +1,111 @@
+-- What is read of a directory (Files-11 On-Disk Structure Level 1, "Directories").
+use Rattle.std.specs.Prelude.{◌≡◌, ℕ, ◌+◌, ◌-◌, ◌*◌, ◌/◌, ◌<◌, ◌≤◌, zero, suc, min, IsTrue, List, [], length, drop, slice_index, slice_index_or, Option, Some, None}
+use Rattle.f11_chain.specs.FileHeaders.{blocks_by}
+use Rattle.f11_dev.specs.Disk.{Disk}
+use Rattle.f11_dev.specs.Image.{Image}
+use Rattle.f11_dev.specs.Looked.{Looked}
+use Rattle.f11_map.specs.HeaderBlock.{blocks_named}
+use Rattle.f11_index.specs.IndexFile.{Index}
+use Rattle.f11_index.specs.Table.{Table, table_in, IsLive}
+use Rattle.f11_store.specs.Directory.{entry_count}
+use Rattle.f11_store.specs.File.{File}
+use Rattle.f11_vfy.specs.Surveying.Bits.{limit_of}
+use Rattle.f11_vfy.specs.Chain.{IsFit, KeepsTable, NextsTo}
+use Rattle.f11_volume.specs.Contents.{following, headers_reached, block_or_zeros, file_of}
+use Rattle.f11_vfy.specs.Directory.Later.{TakesOn, TakesRecords}
+use Rattle.f11_vfy.specs.declared.directories.contents.Directory.{Directory}
+use Rattle.f11_vfy.specs.declared.directories.later.Later.{Later}
+use Rattle.f11_vfy.specs.declared.survey.slot.Slot.{Slot}
+
+-- what is kept of the next headers of a table's slots
+pub record KnowsNexts (t : Table) (kept : List ℕ) : Type 0 where
+  pub fit : IsFit t
+  pub count : length kept ≡ t.slots
+  pub nexts : NextsTo t kept t.slots
+
+-- how many records before an end there are in the first so many blocks
+abbrev pub until : ℕ → ℕ → ℕ
+until end blocks = min end (32 * blocks)
+
+-- how many of so many blocks, from block `at` on, hold a record before an end
+abbrev pub wanted : ℕ → ℕ → ℕ → ℕ
+wanted end at count = min count ((end + 31) / 32 - at)
+
+-- the blocks at these LBNs are a directory's from its block `at` on
+abbrev pub HasBlocks : Image → List ℕ → ℕ → List (List ℕ) → Type 0
+HasBlocks image lbns at blocks = (k : ℕ) → k < length lbns → slice_index_or blocks (at + k) [] ≡ block_or_zeros image (slice_index lbns k)
+
+-- the same, of an honest disk
+abbrev pub HoldsBlocks : Disk → List ℕ → ℕ → List (List ℕ) → Type 0
+HoldsBlocks disk lbns at blocks = IsTrue disk.honest × HasBlocks disk.image lbns at blocks
+
+-- The blocks at these LBNs, which are a directory's from block `at` on, were taken, and read where they hold a record before its end.
+pub record TakesBlocks (slots : List Slot) (dir : Directory) (at : ℕ) (lbns : List ℕ) (before after : Later) (old new : Disk) : Type 0 where
+  pub takes : TakesOn slots dir.d (HoldsBlocks old lbns at) (until dir.end at) (until dir.end (at + length lbns)) before after
+  pub looked : Looked old new (wanted dir.end at (length lbns)) 0
+
+-- Header n of a directory was read, and blocks that it names; so many transfers failed.
+pub record LooksAtHeader (index : Index) (end at n : ℕ) (old new : Disk) (faults : ℕ) : Type 0 where
+  pub count : ℕ
+  pub looked : Looked old new (1 + wanted end at count) faults
+  pub few : IsTrue old.honest → IsLive (table_in old.image index) n → count ≤ length (blocks_named ((table_in old.image index).header n))
+
+-- the blocks that header n names are a directory's from its block `at` on
+pub record HoldsHeader (index : Index) (n at : ℕ) (disk : Disk) (blocks : List (List ℕ)) : Type 0 where
+  pub live : IsLive (table_in disk.image index) n
+  pub holds : HoldsBlocks disk (blocks_named ((table_in disk.image index).header n)) at blocks
+
+-- Header n of a directory was read, and its blocks, so many, were taken.
+pub record TakesHeader (index : Index) (slots : List Slot) (dir : Directory) (at n count : ℕ) (before after : Later) (old new : Disk) : Type 0 where
+  pub takes : TakesOn slots dir.d (HoldsHeader index n at old) (until dir.end at) (until dir.end (at + count)) before after
+  pub count_is : IsTrue old.honest → IsLive (table_in old.image index) n → count ≡ length (blocks_named ((table_in old.image index).header n))
+  pub few : count ≤ 32512
+  pub looked : Looked old new (1 + wanted dir.end at count) 0
+
+-- the header with this number; number 0 is none
+abbrev pub numbered : ℕ → Option ℕ
+numbered zero = None
+numbered (suc n) = Some (suc n)
+
+-- Of the blocks of file d those from block `at` on are those of header n, 0 for none, and of those behind it, so many at most.
+pub record ComesTo (t : Table) (d at n most : ℕ) : Type 0 where
+  pub within : at ≤ length (blocks_by t (headers_reached t d))
+  pub rest : drop at (blocks_by t (headers_reached t d)) ≡ blocks_by t (following most t (numbered n))
+  pub live : 1 ≤ n → IsLive t n
+
+-- A directory's headers from its second one on were looked at, and their blocks; so many transfers failed.
+pub record LooksAtHeaders (index : Index) (nexts : List ℕ) (dir : Directory) (at n most : ℕ) (old new : Disk) (faults : ℕ) : Type 0 where
+  pub reads : ℕ
+  pub looked : Looked old new reads faults
+  pub few : IsTrue old.honest → KnowsNexts (table_in old.image index) nexts → ComesTo (table_in old.image index) dir.d at n most
+      → wanted dir.end 0 at + reads ≤ most + wanted dir.end 0 (length (blocks_by (table_in old.image index) (headers_reached (table_in old.image index) dir.d)))
+
+-- They were taken.
+pub record TakesHeaders (index : Index) (slots : List Slot) (nexts : List ℕ) (dir : Directory) (at n most : ℕ) (before after : Later) (old new : Disk) : Type 0 where
+  pub limit : limit_of after.entered ≡ limit_of before.entered
+  pub takes : (first : Later) → IsTrue old.honest → KnowsNexts (table_in old.image index) nexts → KeepsTable (table_in old.image index) slots → ComesTo (table_in old.image index) dir.d at n most
+      → TakesRecords (table_in old.image index) dir.d (file_of old.image (table_in old.image index) dir.d).blocks (until dir.end at) first before
+      → TakesRecords (table_in old.image index) dir.d (file_of old.image (table_in old.image index) dir.d).blocks
+      (until dir.end (length (file_of old.image (table_in old.image index) dir.d).blocks)) first after
+  pub looked : LooksAtHeaders index nexts dir at n most old new 0
+
+-- how many blocks hold records below the end
+abbrev pub record_blocks : File → ℕ
+record_blocks f = (entry_count f + 31) / 32
+
+-- At most 256 headers of a directory are read, and the blocks that hold records below the end.
+abbrev pub most_reads : Image → Table → ℕ → ℕ
+most_reads image t d = 256 + record_blocks (file_of image t d)
+
+-- A directory was looked at; so many transfers failed.
+pub record LooksFor (index : Index) (nexts : List ℕ) (d : ℕ) (old new : Disk) (faults : ℕ) : Type 0 where
+  pub reads : ℕ
+  pub looked : Looked old new reads faults
+  pub few : IsTrue old.honest → KnowsNexts (table_in old.image index) nexts → IsLive (table_in old.image index) d → reads ≤ most_reads old.image (table_in old.image index) d
+
+-- A directory's records were taken.
+pub record TakesDirectory (index : Index) (slots : List Slot) (nexts : List ℕ) (d : ℕ) (before after : Later) (old new : Disk) : Type 0 where
+  pub limit : limit_of after.entered ≡ limit_of before.entered
+  pub takes : IsTrue old.honest → KnowsNexts (table_in old.image index) nexts → KeepsTable (table_in old.image index) slots → IsLive (table_in old.image index) d
+      → TakesRecords (table_in old.image index) d (file_of old.image (table_in old.image index) d).blocks (entry_count (file_of old.image (table_in old.image index) d)) before after
+  pub looked : LooksFor index nexts d old new 0

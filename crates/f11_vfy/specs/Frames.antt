@@ -1,0 +1,5 @@
+-- The frame of a volume: what was read of it, and how it is judged.
+pub mod Frame
+pub mod Earlier
+pub mod Parts
+pub mod Read

@@ -1,0 +1,5 @@
+-- What is found of a volume that was read.
+pub mod Found
+pub mod Scans
+pub mod Parts
+pub mod Reading

@@ -1,0 +1,4 @@
+//! What is found of a volume that was read: a scan for each code, and all of them together.
+
+pub mod reading;
+pub(crate) mod scans;

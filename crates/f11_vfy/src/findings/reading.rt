@@ -1,0 +1,137 @@
+//! What is read of a volume, and what is found of it without another transfer: all faults, and the notes of blocks and headers.
+ghost use Rattle.std.specs.Prelude.{◌≡◌, ◌<◌, ◌≤◌, ◌*◌, length, IfOk, IsErrOf};
+ghost use Rattle.f11_bits.specs.Bitmap.{LiesWithin as BitmapLiesWithin};
+ghost use Rattle.f11_index.specs.Kept.{index_kept, LiesWithin};
+ghost use Rattle.f11_vfy.specs.Scanning.Parts.{IsReading};
+
+use crate::chains::{Chains, find_chains};
+use crate::fault::ReadFault;
+use crate::findings::scans::{Kind, add_all, add_headers, add_lost, add_marked};
+use crate::survey::bits::Bits;
+use crate::survey::headers::{Survey, survey_headers};
+use crate::survey::space::free_blocks;
+use f11_bytes::NoMemory;
+use f11_dev::Device;
+use f11_findings::Findings;
+use f11_index::IndexFile;
+use std::alloc::Global;
+
+/// The code of a block that is named twice.
+const NAMED_TWICE: u8 = 9;
+
+/// The code of a block that is named and free.
+const NAMED_FREE: u8 = 10;
+
+/// The code of a header that is linked twice.
+const LINKED_TWICE: u8 = 12;
+
+/// What was read of a volume.
+#[derive(Drop)]
+pub struct Reading {
+    pub(crate) survey: Survey,
+    pub(crate) chains: Chains,
+    /// The free blocks.
+    pub(crate) free: Bits,
+    /// Its parts are of one size.
+    pub ghost whole: { IsReading survey chains free },
+}
+
+impl Reading {
+    ghost use Rattle.f11_dev.specs.Image.{Image};
+    ghost use Rattle.f11_findings.specs.Finding.{IsExactly};
+    ghost use Rattle.f11_volume.specs.Faults.{IsVolumeFault};
+    ghost use Rattle.f11_vfy.specs.Scanning.Reading.{bitmap_at, ReadsVolume, FailsToRead, LacksMemory, ShowsVolume, IsFirstNote};
+    ghost use Rattle.f11_volume.specs.Volume.{Volume};
+
+    /// Reads a volume of `size` blocks whose bitmap blocks are at these places: at most 126 places, with a bit for each block; one
+    /// may be there more than once. It reads each of them once at most, and then each header whose slot is in use, once.
+    ///
+    /// It takes three bits for each block of the volume, two for each that a pointer can name where one names a block outside, and some 16
+    /// bytes a slot.
+    ///
+    /// # Errors
+    ///
+    /// `DeviceFault` where a transfer failed; `NoMemory` where there was no memory for what is kept.
+    pub fn read<D: Device>(
+        alloc: Global,
+        device: &mut D,
+        index: &IndexFile,
+        places: &[u32],
+        size: u32,
+    ) -> Result<Reading, ReadFault>
+        requires within { LiesWithin (index_kept index.now) (length (D.disk device.old).image) }
+        requires few { length places.now ≤ 126 }
+        requires covered { size ≤ 4096 * length places.now }
+        requires bitmap { BitmapLiesWithin (bitmap_at places.now size)
+            (length (D.disk device.old).image) }
+        ensures reads { IfOk result (λ reading.
+            ReadsVolume (index_kept index.now) (bitmap_at places.now size) reading
+            (D.disk device.old) (D.disk device.new)) }
+        ensures failed { IsErrOf result ReadFault.DeviceFault
+            → FailsToRead (index_kept index.now) (bitmap_at places.now size)
+            (D.disk device.old) (D.disk device.new) }
+        ensures no_memory { IsErrOf result ReadFault.NoMemory
+            → LacksMemory (index_kept index.now) (bitmap_at places.now size)
+            (D.disk device.old) (D.disk device.new) }
+    {
+        let free = free_blocks(alloc, device, places, size)?;
+        let survey = survey_headers(alloc, device, index, size)?;
+        let chains = find_chains(alloc, &survey.slots)?;
+        Ok(Reading {
+            survey,
+            chains,
+            free,
+        })
+    }
+
+    /// The faults of the volume, in the order of their codes and numbers.
+    ///
+    /// # Errors
+    ///
+    /// `NoMemory` where there is no memory for them.
+    pub fn into_faults(self, alloc: Global) -> Result<Findings, NoMemory>
+        ensures exact { IfOk result (λ found. (v : Volume) → ShowsVolume v self
+            → IsExactly (IsVolumeFault v) found) }
+    {
+        let Reading {
+            survey,
+            chains,
+            free,
+        } = self;
+        let Survey {
+            tally,
+            outside,
+            slots,
+        } = survey;
+        let named_free = tally.once.common(alloc, &free)?;
+        let mut found = Findings::new(alloc);
+        add_headers(&mut found, Kind::BadHeader, &slots, &chains)?;
+        add_all(&mut found, outside)?;
+        add_marked(&mut found, NAMED_TWICE, &tally.twice)?;
+        add_marked(&mut found, NAMED_FREE, &named_free)?;
+        add_headers(&mut found, Kind::WrongLink, &slots, &chains)?;
+        add_marked(&mut found, LINKED_TWICE, &chains.linked.twice)?;
+        add_headers(&mut found, Kind::LinkPastLast, &slots, &chains)?;
+        add_headers(&mut found, Kind::LinkToVolume, &slots, &chains)?;
+        Ok(found)
+    }
+
+    /// The notes of blocks and of headers, those of the codes 1 to 5, in the order of their codes and numbers.
+    ///
+    /// # Errors
+    ///
+    /// `NoMemory` where there is no memory for them.
+    pub fn notes(&self, alloc: Global) -> Result<Findings, NoMemory>
+        ensures exact { IfOk result (λ found. (image : Image) → (v : Volume)
+            → ShowsVolume v self.now → IsExactly (IsFirstNote image v) found) }
+    {
+        let slots = &self.survey.slots;
+        let mut found = Findings::new(alloc);
+        add_lost(&mut found, &self.survey.tally.once, &self.free)?;
+        add_headers(&mut found, Kind::DeadHeader, slots, &self.chains)?;
+        add_headers(&mut found, Kind::Orphan, slots, &self.chains)?;
+        add_headers(&mut found, Kind::Marked, slots, &self.chains)?;
+        add_headers(&mut found, Kind::NotClosed, slots, &self.chains)?;
+        Ok(found)
+    }
+}

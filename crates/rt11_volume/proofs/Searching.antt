@@ -1,0 +1,3 @@
+-- A file that is looked for in a directory.
+pub mod Looking
+pub mod File

@@ -1,8 +1,0 @@
-use Rattle.std.proofs.Common.{[]}
-use Rattle.f11_findings.specs.Finding.{Adds, gather}
-use Rattle.rt11_volume.specs.Judging.{visit_faults}
-use Rattle.rt11_volume.proofs.faults.find_faults.Given as goal
-
--- the faults of the segments so far
-abbrev pub invariant-loop-j : goal.invariant-loop-j
-invariant-loop-j l = Adds [] l.faults (gather (visit_faults l.blocks l.visited) l.j)

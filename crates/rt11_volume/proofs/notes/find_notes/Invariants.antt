@@ -1,8 +1,0 @@
-use Rattle.std.proofs.Common.{[]}
-use Rattle.f11_findings.specs.Finding.{Adds, gather}
-use Rattle.rt11_volume.specs.Judging.{visit_notes}
-use Rattle.rt11_volume.proofs.notes.find_notes.Given as goal
-
--- the notes of the segments so far
-abbrev pub invariant-loop-j : goal.invariant-loop-j
-invariant-loop-j l = Adds [] l.notes (gather (visit_notes l.visited) l.j)

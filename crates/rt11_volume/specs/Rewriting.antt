@@ -1,0 +1,3 @@
+-- A segment of the directory that is put together anew, or split.
+pub mod Draft
+pub mod Split
