@@ -12,3 +12,4 @@ pub mod StepLemmas
 pub mod ExtensionLemmas
 pub mod LooseLemmas
 pub mod SparedLemmas
+pub mod FreeingLemmas

@@ -11,3 +11,4 @@ pub mod NewFileLaws
 pub mod FreshStore
 pub mod ExtensionLaws
 pub mod LooseLaws
+pub mod Freeing

@@ -1,5 +1,5 @@
 -- A header that is killed, and whose slot leaves use.
-use Rattle.std.proofs.Common.{◌≡◌, ◌⊎◌, ◌<◌, ◌≤◌, ℕ, Bool, true, false, cond, IsTrue, List, None, eqb, length, inl, inr, refl, sym, ap, subst, ◌∙◌, arith}
+use Rattle.std.proofs.Common.{◌≡◌, ◌⊎◌, ◌<◌, ◌≤◌, ℕ, Bool, true, false, IsTrue, List, None, length, inl, inr, refl, sym, ap, subst, ◌∙◌, arith}
 use Rattle.std.proofs.Math.ListN.{set}
 use Rattle.f11_bytes.specs.Words.{with_word}
 use Rattle.f11_dev.specs.Disk.{Disk, with_transfer, with_block_at}
@@ -32,7 +32,8 @@ use Rattle.f11_writes.specs.OtherSlots.{KeepsOtherSlots}
 use Rattle.f11_writes.proofs.BitLemmas.{clear-keeps}
 use Rattle.f11_writes.proofs.HeaderLemmas.{kill-keeps}
 use Rattle.f11_writes.proofs.NameLemmas.{own-names, lost-unnamed}
-use Rattle.f11_files.specs.Removing.Drops.{FreesMore, IsFreeing, Freeing, BreaksOff, AreAllSpare, MayDrop, Buries}
+use Rattle.f11_files.specs.Removing.Drops.{BreaksOff, AreAllSpare, MayDrop, Buries}
+use Rattle.f11_image_store.specs.Freeing.{FreesMore, IsFreeing, Freeing}
 use Rattle.f11_files.specs.Extending.Growing.{SameFree}
 use Rattle.f11_image_store.specs.SlotLaws.{with_use, IsLoose, KeepsOtherBlocks}
 use Rattle.f11_image_store.specs.StoreOf.{is_first, store_of}
@@ -41,7 +42,8 @@ use Rattle.f11_files.specs.declared.structure.Structure.{Structure}
 use Rattle.f11_files.proofs.Creating.Create.{lies-bit}
 use Rattle.f11_files.proofs.Changing.Alter.{free-slot, keeps-header}
 use Rattle.f11_files.proofs.Finding.First.{table-of}
-use Rattle.f11_files.proofs.Removing.Freeing.{frees-none, sound-freed}
+use Rattle.f11_files.proofs.Removing.Freeing.{sound-freed}
+use Rattle.f11_image_store.proofs.FreeingLemmas.{frees-none, frees-slot}
 use Rattle.f11_image_store.proofs.InstanceLemmas.{with_file-same, unlive-loose, blocks-but, headers-stay, loose-written, loose-set, file-killed}
 use Rattle.f11_files.proofs.Finding.Named.{file-stored}
 use Rattle.f11_image_store.proofs.StoreLemmas.{first-is-tested, file-at}
@@ -54,21 +56,6 @@ dead-sequence b = word-kept {old = with_word b 2 0} {new = dead_header b} (chang
 unlinked-loose : (t : Table) (n : ℕ) → MayDrop t n → ¬ IsFile t n → IsLoose t n
 unlinked-loose t n may none f (first file) = none file
 unlinked-loose t n may none f (next {n = m} of goes) = may.unlinked m (record { file = f; of = of }) goes
-
--- a slot that leaves use
-pub frees-slot : (s : Store) (n : ℕ) → FreesMore s (with_use s n false)
-frees-slot s n = record {
-  files = λ m. refl;
-  free = omega arith;
-  unused = λ m unused. go (eqb m n) (s.in_use m) unused;
-  last = λ m. refl;
-  slots = refl;
-  limits = record { bitmap_blocks = refl; index_bitmap_blocks = refl; limit = refl };
-}
-  where
-    go : (b used : Bool) → used ≡ false → cond b false used ≡ false
-    go true used is = refl
-    go false used is = is
 
 module _ (s : Structure) (n lbn : ℕ) (block dead : List ℕ) (old : Disk) (for : IsFor s old) (holds : HoldsHeader (index_in s) n block old)
     (may : IsTrue old.honest → MayDrop (table_of old.image (home_of s)) n) (is_dead : dead ≡ dead_header block) (killed_is : IsDead dead) (at : lbn ≡ header_lbn (index_in s) n) where

@@ -46,7 +46,8 @@ use Rattle.f11_writes.proofs.OtherSlotLemmas.{turned, in-file-was, nowhere}
 use Rattle.f11_image_store.specs.Allocation.{FreesBlocks, IsEnd, LosesBlocks, LosesHeaders}
 use Rattle.f11_files.specs.Answers.{Writes, Meanwhile}
 use Rattle.f11_files.specs.Removing.Truncate.{FindsLastKept, CutsOff, Cuts, FailsToCut, cut_work}
-use Rattle.f11_files.specs.Removing.Drops.{FreesMore, Freeing, BreaksOff, AreAllSpare, GivesBlocks, DropsBehind, HangsBehind, headers_behind, tail_cost, without_headers, KeepsBlocksBut}
+use Rattle.f11_files.specs.Removing.Drops.{BreaksOff, AreAllSpare, GivesBlocks, DropsBehind, HangsBehind, headers_behind, tail_cost, without_headers, KeepsBlocksBut}
+use Rattle.f11_image_store.specs.Freeing.{FreesMore, Freeing}
 use Rattle.f11_store.specs.Pieces.{with_more_free}
 use Rattle.f11_image_store.specs.FileLaws.{SaysAlike, MayStand, EndsThere, with_first_headers, pointers_before, pointers_in, room_in}
 use Rattle.f11_files.specs.Extending.Growing.{SameFree}
@@ -57,7 +58,8 @@ use Rattle.f11_files.specs.declared.structure.Structure.{Structure}
 use Rattle.f11_files.proofs.Changing.Alter.{keeps-header}
 use Rattle.f11_image_store.proofs.FileLemmas.{as-header, file-ends, of-now}
 use Rattle.f11_files.proofs.Finding.First.{table-of}
-use Rattle.f11_files.proofs.Removing.Freeing.{frees-none, frees-blocks, freeing-more, writes-then, writes-within, breaks-then, breaks-within, sound-freed}
+use Rattle.f11_files.proofs.Removing.Freeing.{writes-then, writes-within, breaks-then, breaks-within, sound-freed}
+use Rattle.f11_image_store.proofs.FreeingLemmas.{frees-none, frees-blocks, freeing-more}
 use Rattle.f11_files.proofs.Removing.Gone.{breaks-fails}
 use Rattle.f11_image_store.proofs.InstanceLemmas.{file-stored}
 use Rattle.f11_files.proofs.Removing.Kill.{in_use-place}

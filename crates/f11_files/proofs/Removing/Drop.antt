@@ -9,13 +9,14 @@ use Rattle.f11_store.specs.Changes.{is_in, with_file, without_slots}
 use Rattle.f11_store.specs.Store.{Store}
 use Rattle.f11_store.specs.declared.refusals.Refusal.{Refusal}
 use Rattle.f11_writes.specs.OtherSlots.{KeepsOtherSlots}
-use Rattle.f11_files.specs.Removing.Drops.{FreesMore, BreaksOff, Buries, GivesBlocks, DropsHeader, without_header, drop_cost}
+use Rattle.f11_files.specs.Removing.Drops.{BreaksOff, Buries, GivesBlocks, DropsHeader, without_header, drop_cost}
+use Rattle.f11_image_store.specs.Freeing.{FreesMore}
 use Rattle.f11_store.specs.Pieces.{with_more_free}
 use Rattle.f11_image_store.specs.FileLaws.{pointers_in}
 use Rattle.f11_image_store.specs.SlotLaws.{KeepsOtherBlocks}
 use Rattle.f11_image_store.specs.StoreOf.{store_of}
-use Rattle.f11_files.proofs.Removing.Bury.{frees-slot}
-use Rattle.f11_files.proofs.Removing.Freeing.{freeing-more, writes-then, breaks-then}
+use Rattle.f11_image_store.proofs.FreeingLemmas.{frees-slot, freeing-more}
+use Rattle.f11_files.proofs.Removing.Freeing.{writes-then, breaks-then}
 
 module _ (home at : HomeFields) (n : ℕ) (block : List ℕ) (old now new : Disk) (same : at ≡ home) (buries : Buries home n block old now) where
   frees-now : IsTrue old.honest → FreesMore (with_file (store_of old.image home) n None) (store_of now.image home)

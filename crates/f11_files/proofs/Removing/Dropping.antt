@@ -29,17 +29,18 @@ use Rattle.f11_volume.specs.Volume.{Volume, volume_of}
 use Rattle.f11_writes.specs.OtherSlots.{KeepsOtherSlots}
 use Rattle.f11_image_store.specs.Allocation.{FreesBlocks, Kills, LosesHeaders}
 use Rattle.f11_files.specs.Answers.{Writes, refusal_for}
-use Rattle.f11_files.specs.Removing.Drops.{FreesMore, Freeing, BreaksOff, MayDrop, DropsHeader, DropsBehind, HangsBehind, headers_behind, without_header, without_headers, drop_cost, tail_cost}
+use Rattle.f11_files.specs.Removing.Drops.{BreaksOff, MayDrop, DropsHeader, DropsBehind, HangsBehind, headers_behind, without_header, without_headers, drop_cost, tail_cost}
+use Rattle.f11_image_store.specs.Freeing.{FreesMore, Freeing}
 use Rattle.f11_store.specs.Pieces.{with_more_free}
 use Rattle.f11_image_store.specs.FileLaws.{pointers_in}
 use Rattle.f11_image_store.specs.SlotLaws.{with_use, KeepsOtherBlocks}
 use Rattle.f11_image_store.specs.StoreOf.{store_of}
 use Rattle.f11_files.specs.Structure.{index_in, home_of, store_on, IsFor, StaysFor}
 use Rattle.f11_files.specs.declared.structure.Structure.{Structure}
-use Rattle.f11_files.proofs.Removing.Bury.{frees-slot}
+use Rattle.f11_image_store.proofs.FreeingLemmas.{frees-slot, frees-none, frees-then, frees-blocks, freeing-more}
 use Rattle.f11_files.proofs.Removing.Drop.{drop-store}
 use Rattle.f11_files.proofs.Finding.First.{table-of}
-use Rattle.f11_files.proofs.Removing.Freeing.{frees-none, frees-then, frees-blocks, freeing-more, writes-then, writes-within, writes-none, breaks-then, breaks-within, stays-for}
+use Rattle.f11_files.proofs.Removing.Freeing.{writes-then, writes-within, writes-none, breaks-then, breaks-within, stays-for}
 use Rattle.f11_image_store.proofs.InstanceLemmas.{with_file-same}
 use Rattle.f11_files.proofs.Removing.Kill.{KillsAlike, in_use-place, kills-same, kills-then, kills-first}
 use Rattle.f11_files.proofs.Removing.Loss.{LosesAlike, in-behind, in-first, loses-same, loses-then, loses-all, loses-first}

@@ -27,51 +27,14 @@ use Rattle.f11_writes.specs.NameLaws.{AreSpare}
 use Rattle.f11_writes.proofs.BitmapLemmas.{free-keeps}
 use Rattle.f11_writes.proofs.NameLemmas.{part-spare}
 use Rattle.f11_files.specs.Answers.{Writes, Breaks, is_grave, is_refused}
-use Rattle.f11_files.specs.Removing.Drops.{FreesMore, Freeing, BreaksOff, GivesRun}
+use Rattle.f11_files.specs.Removing.Drops.{BreaksOff, GivesRun}
+use Rattle.f11_image_store.specs.Freeing.{FreesMore, Freeing}
 use Rattle.f11_store.specs.Pieces.{with_more_free}
 use Rattle.f11_image_store.specs.StoreOf.{store_of}
 use Rattle.f11_files.specs.Structure.{index_in, bitmap_in, home_of, IsFor, StaysFor}
 use Rattle.f11_files.specs.declared.structure.Structure.{Structure}
 use Rattle.f11_image_store.proofs.StoreLemmas.{more-free}
-
-pub frees-none : (s : Store) → FreesMore s s
-frees-none s = record {
-  files = λ n. refl;
-  free = omega arith;
-  unused = λ n unused. unused;
-  last = λ n. refl;
-  slots = refl;
-  limits = record { bitmap_blocks = refl; index_bitmap_blocks = refl; limit = refl };
-}
-
-pub frees-then : (s t u : Store) → FreesMore s t → FreesMore t u → FreesMore s u
-frees-then s t u one two = record {
-  files = λ n. two.files n ∙ one.files n;
-  free = omega (arith, one.free, two.free);
-  unused = λ n unused. two.unused n (one.unused n unused);
-  last = λ n. two.last n ∙ one.last n;
-  slots = two.slots ∙ one.slots;
-  limits = record {
-    bitmap_blocks = two.limits.bitmap_blocks ∙ one.limits.bitmap_blocks;
-    index_bitmap_blocks = two.limits.index_bitmap_blocks ∙ one.limits.index_bitmap_blocks;
-    limit = two.limits.limit ∙ one.limits.limit;
-  };
-}
-
-pub frees-blocks : (s : Store) (count : ℕ) → FreesMore s (with_more_free s count)
-frees-blocks s count = record {
-  files = λ n. refl;
-  free = omega arith;
-  unused = λ n unused. unused;
-  last = λ n. refl;
-  slots = refl;
-  limits = record { bitmap_blocks = refl; index_bitmap_blocks = refl; limit = refl };
-}
-
--- images that stand after one that has freed something
-pub freeing-more : (home : HomeFields) (s t : Store) (a b : Disk) → b.honest ≡ a.honest → (IsTrue a.honest → FreesMore s t) → (image : Image) → Freeing home t b image → Freeing home s a image
-freeing-more home s t a b same frees image is honest =
-    let there = is (same ∙ honest) in record { sound = there.sound; frees = frees-then s t (store_of image home) (frees honest) there.frees }
+use Rattle.f11_image_store.proofs.FreeingLemmas.{frees-blocks, freeing-more}
 
 -- one call that writes after another
 pub writes-then : {P Q : Image → Type 0} {a b c : Disk} {m n faults : ℕ} → ((image : Image) → Q image → P image) → Writes P m a b 0 → Writes Q n b c faults → Writes P (m + n) a c faults

@@ -20,12 +20,14 @@ use Rattle.f11_volume.specs.Volume.{Volume, volume_of}
 use Rattle.f11_writes.specs.NameLaws.{AreSpare}
 use Rattle.f11_image_store.specs.Allocation.{FreesBlocks}
 use Rattle.f11_files.specs.Answers.{Writes}
-use Rattle.f11_files.specs.Removing.Drops.{FreesMore, Freeing, BreaksOff, GivesRun, GivesBlocks, AreAllSpare}
+use Rattle.f11_files.specs.Removing.Drops.{BreaksOff, GivesRun, GivesBlocks, AreAllSpare}
+use Rattle.f11_image_store.specs.Freeing.{FreesMore, Freeing}
 use Rattle.f11_store.specs.Pieces.{with_more_free}
 use Rattle.f11_image_store.specs.StoreOf.{store_of}
 use Rattle.f11_files.specs.Structure.{home_of, store_on, IsFor, StaysFor}
 use Rattle.f11_files.specs.declared.structure.Structure.{Structure}
-use Rattle.f11_files.proofs.Removing.Freeing.{frees-none, frees-then, frees-blocks, freeing-more, writes-then, writes-within, writes-none, breaks-then, breaks-within, stays-for, run-keeps, run-store}
+use Rattle.f11_files.proofs.Removing.Freeing.{writes-then, writes-within, writes-none, breaks-then, breaks-within, stays-for, run-keeps, run-store}
+use Rattle.f11_image_store.proofs.FreeingLemmas.{frees-none, frees-then, frees-blocks, freeing-more}
 use Rattle.f11_files.proofs.Removing.Loss.{FreeAlike, frees-run, frees-nothing, alike-same, alike-then, first-freed, all-freed}
 
 -- what is left of a header's blocks: those of this pointer, and those of the ones behind it

@@ -36,7 +36,8 @@ use Rattle.f11_writes.proofs.OtherSlotLemmas.{turned, header-was}
 use Rattle.f11_image_store.specs.Allocation.{FreesBlocks, Kills, LosesHeaders}
 use Rattle.f11_files.specs.Answers.{IsRight, Writes, FailsToWrite, Meanwhile, is_grave, is_cause}
 use Rattle.f11_files.specs.Removing.Delete.{Deletes, FailsToDelete}
-use Rattle.f11_files.specs.Removing.Drops.{FreesMore, Freeing, BreaksOff, DropsHeader, DropsBehind, HangsBehind, KeepsBlocksBut, headers_behind, drop_cost, tail_cost, without_header, without_headers}
+use Rattle.f11_files.specs.Removing.Drops.{BreaksOff, DropsHeader, DropsBehind, HangsBehind, KeepsBlocksBut, headers_behind, drop_cost, tail_cost, without_header, without_headers}
+use Rattle.f11_image_store.specs.Freeing.{FreesMore, Freeing}
 use Rattle.f11_store.specs.Pieces.{with_more_free}
 use Rattle.f11_image_store.specs.FileLaws.{pointers_in}
 use Rattle.f11_files.specs.Finding.First.{FindsFile, HoldsFile}
@@ -46,9 +47,9 @@ use Rattle.f11_image_store.specs.StoreOf.{store_of}
 use Rattle.f11_files.specs.Structure.{index_in, home_of, store_on, IsFor}
 use Rattle.f11_files.specs.declared.structure.Structure.{Structure}
 use Rattle.f11_files.proofs.WriteLemmas.{breaks-off}
-use Rattle.f11_files.proofs.Removing.Bury.{frees-slot}
+use Rattle.f11_image_store.proofs.FreeingLemmas.{frees-slot, frees-none, frees-then, frees-blocks, freeing-more}
 use Rattle.f11_files.proofs.Removing.Drop.{drop-store}
-use Rattle.f11_files.proofs.Removing.Freeing.{frees-none, frees-then, frees-blocks, freeing-more, writes-then, writes-within, breaks-then, breaks-within}
+use Rattle.f11_files.proofs.Removing.Freeing.{writes-then, writes-within, breaks-then, breaks-within}
 use Rattle.f11_files.proofs.Removing.Kill.{IsKilled, in_use-place, killed-both}
 use Rattle.f11_files.proofs.Finding.Locate.{whole, held-are}
 use Rattle.f11_files.proofs.Removing.Loss.{in-behind, in-first, LosesAlike, loses-then, loses-all, lost-all, loses-first, in-at}

@@ -3,7 +3,6 @@ use Rattle.std.specs.Prelude.{◌≡◌, ℕ, ◌+◌, ◌-◌, ◌*◌, ◌<◌
 use Rattle.std.specs.List.{slice_get}
 use Rattle.f11_bits.specs.Bitmap.{Marks}
 use Rattle.f11_dev.specs.Disk.{Disk}
-use Rattle.f11_dev.specs.Image.{Image}
 use Rattle.f11_header.specs.Writing.{dead_header}
 use Rattle.f11_home.specs.Home.{HomeFields}
 use Rattle.f11_map.specs.HeaderBlock.{segment_number, link_of, blocks_named}
@@ -13,11 +12,9 @@ use Rattle.f11_index.specs.Table.{Table, table_of, IsNext}
 use Rattle.f11_chain.specs.Calls.{IsNextOf}
 use Rattle.f11_chain.specs.FileHeaders.{blocks_by}
 use Rattle.f11_store.specs.Changes.{is_in, with_file, without_slots}
-use Rattle.f11_store.specs.Lags.{SameLimits}
 use Rattle.f11_store.specs.Store.{Store}
 use Rattle.f11_store.specs.declared.refusals.Refusal.{Refusal}
 use Rattle.f11_volume.specs.Contents.{pointer_count}
-use Rattle.f11_volume.specs.Sound.{HasSoundVolume}
 use Rattle.f11_volume.specs.Space.{storage_bitmap}
 use Rattle.f11_volume.specs.Volume.{Volume, volume_of, IsNamed}
 use Rattle.f11_writes.specs.OtherSlots.{KeepsOtherSlots}
@@ -28,24 +25,7 @@ use Rattle.f11_files.specs.Extending.Growing.{SameFree}
 use Rattle.f11_image_store.specs.SlotLaws.{with_use, KeepsOtherBlocks}
 use Rattle.f11_image_store.specs.StoreOf.{store_of}
 use Rattle.f11_store.specs.Pieces.{with_more_free}
-
--- A store has the files of another, and what is free there is free here.
-pub record FreesMore (s t : Store) : Type 0 where
-  pub files : (n : ℕ) → t.file n ≡ s.file n
-  pub free : s.free ≤ t.free
-  pub unused : (n : ℕ) → s.in_use n ≡ false → t.in_use n ≡ false
-  pub last : (n : ℕ) → t.last n ≡ s.last n
-  pub slots : t.slots ≡ s.slots
-  pub limits : SameLimits s t
-
--- An image that stands meanwhile: its volume is sound, and its store has the files of this one, with no less free.
-pub record IsFreeing (home : HomeFields) (s : Store) (image : Image) : Type 0 where
-  pub sound : HasSoundVolume image home
-  pub frees : FreesMore s (store_of image home)
-
--- that of an honest disk
-abbrev pub Freeing : HomeFields → Store → Disk → Image → Type 0
-Freeing home s old image = IsTrue old.honest → IsFreeing home s image
+use Rattle.f11_image_store.specs.Freeing.{Freeing}
 
 -- it broke off
 abbrev pub BreaksOff : HomeFields → Store → ℕ → Refusal → Disk → Disk → Type 0
