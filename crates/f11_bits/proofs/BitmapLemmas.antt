@@ -49,7 +49,7 @@ is_free-at image bitmap index k block below stands =
     ]
 
 -- the bit of a block whose bitmap block was written
-bitmap_bit-written : (old : Image) (bitmap : Bitmap) (index k : ℕ) (block : List ℕ) → k / 4096 ≡ index → get_or bitmap.places index 0 < length old
+pub bitmap_bit-written : (old : Image) (bitmap : Bitmap) (index k : ℕ) (block : List ℕ) → k / 4096 ≡ index → get_or bitmap.places index 0 < length old
     → bitmap_bit (set old (get_or bitmap.places index 0) block) bitmap k ≡ bit block (k % 4096)
 unfolding bitmap_bit
 bitmap_bit-written old bitmap index k block here within =
@@ -57,7 +57,7 @@ bitmap_bit-written old bitmap index k block here within =
     ∙ ap (λ (b : List ℕ). bit b (k % 4096)) (get_or-set_same old (get_or bitmap.places index 0) block [] within)
 
 -- and what it was before
-bitmap_bit-here : (old : Image) (bitmap : Bitmap) (index k : ℕ) (block : List ℕ) → k / 4096 ≡ index
+pub bitmap_bit-here : (old : Image) (bitmap : Bitmap) (index k : ℕ) (block : List ℕ) → k / 4096 ≡ index
     → slice_get old (get_or bitmap.places index 0) ≡ Some block → bitmap_bit old bitmap k ≡ bit block (k % 4096)
 unfolding bitmap_bit
 bitmap_bit-here old bitmap index k block here stands =
@@ -65,7 +65,7 @@ bitmap_bit-here old bitmap index k block here stands =
     ∙ ap (λ (b : List ℕ). bit b (k % 4096)) (get_or_from_slice_get old (get_or bitmap.places index 0) block [] stands)
 
 -- the bit of a block with another bitmap block
-bitmap_bit-apart : (old : Image) (bitmap : Bitmap) (index k : ℕ) (block : List ℕ) → IsBitmap bitmap → index < length bitmap.places → k < 4096 * length bitmap.places
+pub bitmap_bit-apart : (old : Image) (bitmap : Bitmap) (index k : ℕ) (block : List ℕ) → IsBitmap bitmap → index < length bitmap.places → k < 4096 * length bitmap.places
     → k / 4096 ≢ index → bitmap_bit (set old (get_or bitmap.places index 0) block) bitmap k ≡ bitmap_bit old bitmap k
 unfolding bitmap_bit
 bitmap_bit-apart old bitmap index k block valid within below apart =

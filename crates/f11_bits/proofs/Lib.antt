@@ -4,3 +4,4 @@ pub mod BitmapLemmas
 pub mod SearchLemmas
 pub mod StepLemmas
 pub mod LawLemmas
+pub mod ReplaceLemmas

@@ -11,3 +11,4 @@ pub use Rattle.f11_dev.specs.Image
 pub use Rattle.f11_dev.specs.Disk
 pub use Rattle.f11_dev.specs.Looked
 pub use Rattle.f11_dev.specs.Went
+pub mod Replacing

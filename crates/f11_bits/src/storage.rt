@@ -347,7 +347,7 @@ fn kept(places: &[u32]) -> [u32; MAX_PLACES]
 }
 
 /// How many bits of a bitmap block are those of blocks of a volume of this size.
-fn bits_in(size: u32, index: u32) -> u32
+pub(crate) fn bits_in(size: u32, index: u32) -> u32
     requires { 4096 * index < 2 ^ 32 }
     ensures { result ≡ min (size - 4096 * index) 4096 }
 {
