@@ -12,3 +12,4 @@ pub mod FreshStore
 pub mod ExtensionLaws
 pub mod LooseLaws
 pub mod Freeing
+pub mod FreeingLaws

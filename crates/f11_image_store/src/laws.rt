@@ -4,6 +4,7 @@ ghost use Rattle.f11_image_store.specs.ConfinesLaws as confines;
 ghost use Rattle.f11_image_store.specs.ExtensionLaws as extensions;
 ghost use Rattle.f11_image_store.specs.FieldLaws as fields;
 ghost use Rattle.f11_image_store.specs.FileLaws as files;
+ghost use Rattle.f11_image_store.specs.FreeingLaws as freeing;
 ghost use Rattle.f11_image_store.specs.FreshStore as fresh;
 ghost use Rattle.f11_image_store.specs.LooseLaws as loose;
 ghost use Rattle.f11_image_store.specs.NewFileLaws as new;
@@ -130,4 +131,12 @@ pub fn spared_blocks()
     ensures file { confines.FileBlockIsSpared }
     ensures unnamed { confines.UnnamedBlockIsSpared }
     ensures behind { confines.BlockBehindIsSpared }
+{}
+
+/// What may be freed without touching a file: an orphan header is killed, a slot with a dead header leaves use, and blocks that no header
+/// names become free.
+pub fn freeing()
+    ensures orphan { freeing.OrphanMayBeKilled }
+    ensures slot { freeing.DeadSlotMayBeFreed }
+    ensures blocks { freeing.UnnamedMayBeFreed }
 {}
