@@ -72,7 +72,7 @@ module _ (image : Image) (home : HomeFields) (f : ℕ) (block : List ℕ) (chang
     valid = valid;
     good = λ _. record { valid = valid; sequence = says.sequence; segment = segment-same change (t.header f) block says };
     names = subst (MayName (volume_of image home) f) (sym (blocks-same change (t.header f) block says)) (own-names (volume_of image home) f is.sound file.live);
-    link = links_as_before (record { file = f; of = first file }) (link-same change (t.header f) block says);
+    link = links_as_before file.live (link-same change (t.header f) block says);
   }
 
   abbrev new : Image

@@ -49,6 +49,7 @@ impl IndexFile {
             (D.disk device.old) (D.disk device.new)) }
         ensures failed { OnErr result (FailsToWriteBit false n (index_kept self.old)
             (D.disk device.old) (D.disk device.new)) }
+        ensures room { room self.new ≡ room self.old }
     {
         self.write_bit(device, n, false)
     }

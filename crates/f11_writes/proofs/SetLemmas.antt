@@ -1,5 +1,5 @@
 -- A volume one of whose headers is set.
-use Rattle.std.proofs.Common.{◌≡◌, ◌≢◌, ◌⊎◌, ℕ, ◌+◌, ◌<◌, true, false, List, Some, sym, ap, subst, ◌∙◌, inl, inr}
+use Rattle.std.proofs.Common.{◌≡◌, ◌≢◌, ◌⊎◌, ℕ, ◌+◌, ◌<◌, true, false, List, Some, sym, ap, subst, ◌∙◌, inl, inr, arith}
 use Rattle.std.specs.List.{slice_get}
 use Rattle.std.proofs.lemmas.Bool.{cases_eq}
 use Rattle.f11_header.specs.Fields.{file_sequence}
@@ -7,7 +7,7 @@ use Rattle.f11_header.specs.Header.{IsHeader, IsDead}
 use Rattle.f11_store.specs.declared.files.FileId.{FileId}
 use Rattle.f11_map.specs.HeaderBlock.{segment_number, link_of, blocks_named}
 use Rattle.f11_index.specs.Headers.{IsInFile}
-use Rattle.f11_index.specs.Table.{Table, IsLive, IsNext, IsHeaderOf, first, next}
+use Rattle.f11_index.specs.Table.{Table, IsLive, IsFile, IsNext, IsHeaderOf, first, next}
 use Rattle.f11_index.proofs.ChainLemmas.{live_of-header}
 use Rattle.f11_index.proofs.HeadersLemmas.{link_number}
 use Rattle.f11_volume.specs.Sound.{LinksOn, IsSoundVolume}
@@ -90,19 +90,37 @@ module _ (old new : Volume) (n : ℕ) (block : List ℕ) (o : IsSoundVolume old)
   number-here : link_number u n ≡ (link_of block).number
   number-here = ap (λ (i : FileId). i.number) link-here
 
-  -- a header of a file, another than n, was in one, or has no link
-  in-file-was : (f : ℕ) {a : ℕ} → IsHeaderOf u f a → a ≢ n → IsInFile t a ⊎ (link_number u a ≡ 0)
-  in-file-was f (first file) other = inl (record {
-    file = f;
-    of = first (record { live = live-was t u n s.others f other file.live; first = ap segment_number (sym (same-now t u n s.others f other file.live.in_use)) ∙ file.first });
-  })
-  in-file-was f (next {n = b} {m = a} of goes) other = go (cases_eq b n) (in-file-was f of)
+  -- no header is its own next
+  not-self : (a : ℕ) → IsNext u a a → ⊥
+  not-self a goes = omega (arith, goes.segment)
+
+  -- a header of a file, another than n, or n where it was live, was in one, or has no link
+  in-file-was : (f : ℕ) {a : ℕ} → IsHeaderOf u f a → (a ≢ n) ⊎ IsLive t n → IsInFile t a ⊎ (link_number u a ≡ 0)
+  in-file-was f (first file) which = inl (record { file = f; of = first (was which) })
+    where
+      was-other : f ≢ n → IsFile t f
+      was-other other = record { live = live-was t u n s.others f other file.live; first = ap segment_number (sym (same-now t u n s.others f other file.live.in_use)) ∙ file.first }
+
+      was-live : IsLive t f → IsFile t f
+      was-live live = record { live = live; first = sym (same-segment f live) ∙ file.first }
+
+      was : (f ≢ n) ⊎ IsLive t n → IsFile t f
+      was (inl other) = was-other other
+      was (inr live) = elim (cases_eq f n) [
+        | inl is ↦ was-live (subst (IsLive t) (sym is) live)
+        | inr other ↦ was-other other
+      ]
+  in-file-was f (next {n = b} {m = a} of goes) which = go (cases_eq b n) (in-file-was f of)
     where
       -- behind header n
-      behind : MayLink old n block → IsNext u n a → IsInFile t a ⊎ (link_number u a ≡ 0)
-      behind (links_to_none zero_is) on = absurd (nowhere (number-here ∙ zero_is) on)
-      behind (links_as_before in_file link) on = inl (record { file = in_file.file; of = next in_file.of (next-was n a in_file (link-here ∙ link) on) })
-      behind (links_anew links) on =
+      behind : ((n ≢ n) ⊎ IsLive t n → IsInFile t n ⊎ (link_number u n ≡ 0)) → MayLink old n block → IsNext u n a → IsInFile t a ⊎ (link_number u a ≡ 0)
+      behind was (links_to_none zero_is) on = absurd (nowhere (number-here ∙ zero_is) on)
+      behind was (links_as_before live link) on = elim (was (inr live)) [
+        | inl in_file ↦ inl (record { file = in_file.file; of = next in_file.of (next-was n a in_file (link-here ∙ link) on) })
+        | inr zero_is ↦ absurd (nowhere zero_is on)
+      ]
+      behind was (links_anew links) on =
+          let other : a ≢ n = λ is. not-self n (subst (IsNext u n) is on) in
           let to : (link_of block).number ≡ a = sym number-here ∙ on.number in
           inr (ap (λ (h : List ℕ). (link_of h).number) (same-now t u n s.others a other on.to.in_use) ∙ subst (λ (k : ℕ). link_number t k ≡ 0) to links.no_link)
 
@@ -111,9 +129,17 @@ module _ (old new : Volume) (n : ℕ) (block : List ℕ) (o : IsSoundVolume old)
       on-from away (inl was) = inl (record { file = was.file; of = next was.of (other-next-was b a away was goes) })
       on-from away (inr zero_is) = absurd (nowhere zero_is goes)
 
-      go : (b ≡ n) ⊎ (b ≡ n → ⊥) → (b ≢ n → IsInFile t b ⊎ (link_number u b ≡ 0)) → IsInFile t a ⊎ (link_number u a ≡ 0)
-      go (inl is) was = behind may.link (subst (λ (k : ℕ). IsNext u k a) is goes)
-      go (inr away) was = on-from away (was away)
+      go : (b ≡ n) ⊎ (b ≡ n → ⊥) → ((b ≢ n) ⊎ IsLive t n → IsInFile t b ⊎ (link_number u b ≡ 0)) → IsInFile t a ⊎ (link_number u a ≡ 0)
+      go (inl is) was =
+          behind (subst (λ (k : ℕ). (k ≢ n) ⊎ IsLive t n → IsInFile t k ⊎ (link_number u k ≡ 0)) is was) may.link (subst (λ (k : ℕ). IsNext u k a) is goes)
+      go (inr away) was = on-from away (was (inl away))
+
+  -- header n was in a file where it was live, and is in one now and has a link
+  own-was : IsLive t n → IsInFile u n → link_number u n ≢ 0 → IsInFile t n
+  own-was live in_file some = elim (in-file-was in_file.file in_file.of (inr live)) [
+    | inl was ↦ was
+    | inr zero_is ↦ absurd (some zero_is)
+  ]
 
   headers : (m : ℕ) → u.in_use m ≡ true → IsDead (u.header m) ⊎ IsHeader (u.header m) m
   headers m used = elim (cases_eq m n) [
@@ -169,27 +195,29 @@ module _ (old new : Volume) (n : ℕ) (block : List ℕ) (o : IsSoundVolume old)
         });
       }
 
-  links-here : MayLink old n block → link_number u n ≢ 0 → LinksOn u n
-  links-here (links_to_none zero_is) some = absurd (some (number-here ∙ zero_is))
-  links-here (links_as_before was link) some = keeps-link n was (link-here ∙ link) some
-  links-here (links_anew l) some = links-anew l
+  links-here : IsInFile u n → MayLink old n block → link_number u n ≢ 0 → LinksOn u n
+  links-here in_file (links_to_none zero_is) some = absurd (some (number-here ∙ zero_is))
+  links-here in_file (links_as_before live link) some = keeps-link n (own-was live in_file some) (link-here ∙ link) some
+  links-here in_file (links_anew l) some = links-anew l
 
   links : (a : ℕ) → IsLinked u a → LinksOn u a
   links a linked = elim (cases_eq a n) [
-    | inl is ↦ subst (LinksOn u) (sym is) (links-here may.link (subst (λ (k : ℕ). link_number u k ≢ 0) is linked.link))
-    | inr other ↦ elim (in-file-was linked.in_file.file linked.in_file.of other) [
+    | inl is ↦ subst (LinksOn u) (sym is) (links-here (subst (IsInFile u) is linked.in_file) may.link (subst (λ (k : ℕ). link_number u k ≢ 0) is linked.link))
+    | inr other ↦ elim (in-file-was linked.in_file.file linked.in_file.of (inl other)) [
       | inl was ↦ keeps-link a was (ap link_of (as-was a other (live_of-header was.of).in_use)) linked.link
       | inr zero_is ↦ absurd (linked.link zero_is)
     ]
   ]
 
   -- no other header has the next of n
-  one : (b m : ℕ) → b ≢ n → IsInFile u b → IsNext u n m → IsNext u b m → ⊥
-  one b m away in_file goes comes = go (in-file-was in_file.file in_file.of away)
+  one : (b m : ℕ) → IsInFile u n → b ≢ n → IsInFile u b → IsNext u n m → IsNext u b m → ⊥
+  one b m own away in_file goes comes = go (in-file-was in_file.file in_file.of (inl away))
     where
       by : IsInFile t b → MayLink old n block → ⊥
       by was (links_to_none zero_is) = nowhere (number-here ∙ zero_is) goes
-      by was (links_as_before also link) = away (o.once m b n was also (other-next-was b m away was comes) (next-was n m also (link-here ∙ link) goes))
+      by was (links_as_before live link) =
+          let also : IsInFile t n = own-was live own (λ zero_is. nowhere zero_is goes) in
+          away (o.once m b n was also (other-next-was b m away was comes) (next-was n m also (link-here ∙ link) goes))
       by was (links_anew l) = l.no_other b was (subst (IsNext t b) (sym goes.number ∙ number-here) (other-next-was b m away was comes))
 
       go : IsInFile t b ⊎ (link_number u b ≡ 0) → ⊥
@@ -206,9 +234,9 @@ module _ (old new : Volume) (n : ℕ) (block : List ℕ) (o : IsSoundVolume old)
 
       go : (a ≡ n) ⊎ (a ≡ n → ⊥) → (b ≡ n) ⊎ (b ≡ n → ⊥) → a ≡ b
       go (inl is) (inl same_too) = is ∙ sym same_too
-      go (inl is) (inr too) = absurd (one b m too also (subst (λ (k : ℕ). IsNext u k m) is goes) comes)
-      go (inr away) (inl is) = absurd (one a m away in_file (subst (λ (k : ℕ). IsNext u k m) is comes) goes)
-      go (inr away) (inr too) = both away too (in-file-was in_file.file in_file.of away) (in-file-was also.file also.of too)
+      go (inl is) (inr too) = absurd (one b m (subst (IsInFile u) is in_file) too also (subst (λ (k : ℕ). IsNext u k m) is goes) comes)
+      go (inr away) (inl is) = absurd (one a m (subst (IsInFile u) is also) away in_file (subst (λ (k : ℕ). IsNext u k m) is comes) goes)
+      go (inr away) (inr too) = both away too (in-file-was in_file.file in_file.of (inl away)) (in-file-was also.file also.of (inl too))
 
   pub set-sound : IsSoundVolume new
   set-sound = record { headers = headers; inside = inside; apart = apart; taken = taken; links = links; once = once }

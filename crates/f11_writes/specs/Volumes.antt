@@ -54,7 +54,7 @@ pub record LinksAnew (v : Volume) (block : List ℕ) : Type 0 where
 -- header n may have the link of this block: it is none, the one that it has, or one to a header that is then its next
 pub data MayLink (v : Volume) (n : ℕ) (block : List ℕ) : Type 0 where
   links_to_none : (link_of block).number ≡ 0 → MayLink v n block
-  links_as_before : IsInFile v.table n → link_of block ≡ link_of (v.table.header n) → MayLink v n block
+  links_as_before : IsLive v.table n → link_of block ≡ link_of (v.table.header n) → MayLink v n block
   links_anew : LinksAnew v block → MayLink v n block
 
 -- A block may become header n: it is valid, as good as the one there where that is live, and may name its blocks and have its link.
