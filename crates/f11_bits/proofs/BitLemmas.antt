@@ -1,10 +1,9 @@
 -- Facts about the bits of a block, and about tests on numbers.
-use Rattle.std.proofs.Common.{◌≡◌, ℕ, ◌+◌, ◌*◌, ◌/◌, ◌<◌, ◌≤◌, ◌&&◌, Bool, true, false, List, refl, sym, ap, ◌∙◌, inl, inr, add-one, arith, lt-ltb, max, min, slice_index}
-use Rattle.std.proofs.lemmas.Nat.Bits.{bit_at-zero}
+use Rattle.std.proofs.Common.{◌≡◌, ℕ, ◌+◌, ◌<◌, ◌≤◌, Bool, true, false, List, refl, sym, ap, ◌∙◌, inl, inr, add-one, arith, lt-ltb, min}
 use Rattle.std.proofs.lemmas.Bool.{both_ways, and_from, cases_lt}
 use Rattle.f11_bytes.specs.Bits.{bit}
 use Rattle.f11_bits.specs.Bitmap.{count_below}
-use Rattle.f11_bits.specs.Bits.{bit_below, IsFirstSet, NoneWithin}
+use Rattle.f11_bits.specs.Bits.{bit_below, IsFirstSet}
 use Rattle.f11_bits.specs.Run.{IsFirstRun}
 
 -- one number more, which passes
@@ -45,34 +44,3 @@ pub IsFirstRun-set : (b : List ℕ) (end from most k count : ℕ) → IsFirstSet
     → ((j : ℕ) → k ≤ j → j < k + count → bit_below b end j ≡ true) → (count < min most 256 → bit_below b end (k + count) ≡ false) → IsFirstRun (bit_below b end) from most k count
 IsFirstRun-set b end from most k count first some short each ended =
     IsFirstRun-found b end from most k count first.above first.before first.below first.is_set some short each ended
-
--- a byte of zeros has no bit that is 1
-pub zero-byte : (b : List ℕ) (from byte end : ℕ) → slice_index b byte ≡ 0 → NoneWithin (bit_below b end) from (8 * byte) → NoneWithin (bit_below b end) from (8 * (byte + 1))
-zero-byte b from byte end is before k above below = elim (cases_lt k (8 * byte)) [
-  | inl less ↦ before k above less
-  | inr more ↦ and-none _ _ (in-byte k (omega (arith, more, below)))
-]
-  where
-    and-none : (x y : Bool) → y ≡ false → (x && y) ≡ false
-    and-none true y h = h
-    and-none false y h = refl
-
-    in-byte : (k : ℕ) → k / 8 ≡ byte → bit b k ≡ false
-    in-byte k at = rw (at, is, bit_at-zero) refl
-
--- what the bits from a place on in a byte are not, those from an earlier place on aren't, where none before the byte is
-pub none-so-far : (b : List ℕ) (from byte end : ℕ) → NoneWithin (bit_below b end) from (8 * byte) → NoneWithin (bit_below b end) (max from (8 * byte)) (8 * byte + 8)
-    → NoneWithin (bit_below b end) from (8 * (byte + 1))
-none-so-far b from byte end before here k above below = elim (cases_lt k (8 * byte)) [
-  | inl less ↦ before k above less
-  | inr more ↦ here k (omega (arith, above, more)) (omega (arith, below))
-]
-
-pub first-in-byte : (b : List ℕ) (from byte end k : ℕ) → 8 * byte + 8 ≤ end → NoneWithin (bit_below b end) from (8 * byte) → IsFirstSet (bit_below b end) (max from (8 * byte)) (8 * byte + 8) k
-    → IsFirstSet (bit_below b end) from end k
-first-in-byte b from byte end k within before first = record {
-  above = omega (arith, first.above);
-  below = omega (arith, first.below, within);
-  before = λ j above less. elim (cases_lt j (8 * byte)) [ inl under ↦ before j above under | inr over ↦ first.before j (omega (arith, above, over)) less ];
-  is_set = first.is_set;
-}

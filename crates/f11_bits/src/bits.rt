@@ -1,12 +1,13 @@
 //! The bits of one bitmap block, which are 1 where a block is free (Files-11 On-Disk Structure Level 1, "Storage Bitmap
 //! File"). A run of them is cut at 256, which is as long as a retrieval pointer can tell.
-ghost use Rattle.std.specs.Prelude.{◌≡◌, ℕ, ◌+◌, ◌<◌, ◌≤◌, true, false, MatchOption};
+ghost use Rattle.std.specs.Prelude.{◌≡◌, ℕ, ◌+◌, ◌*◌, ◌<◌, ◌≤◌, true, false, MatchOption};
 ghost use Rattle.f11_bytes.specs.Bits.{bit};
 ghost use Rattle.f11_bytes.specs.Words.{word_sum as sum_of_words};
 ghost use Rattle.f11_bits.specs.Bitmap.{count_below};
 ghost use Rattle.f11_bits.specs.Bits.{bit_below, IsFirstSet, NoneWithin};
 ghost use Rattle.f11_bits.specs.Run.{IsFirstRun, NoneFrom};
 
+use byteorder::{ByteOrder, LittleEndian};
 use f11_bytes::{Block, is_set, set_bit, sum_words};
 
 /// How many bits a block has.
@@ -35,19 +36,27 @@ pub fn first_run(block: &Block, from: u32, most: u32) -> Option<(u32, u32)>
     }
 }
 
-/// The first bit at or above `from` that is 1. Bytes of zeros are passed over.
+/// The first bit at or above `from` that is 1. Eight bytes of zeros are passed over at once.
 fn first_set(block: &Block, from: u32) -> Option<u32>
     ensures { MatchOption result (NoneFrom (bit_below block.now 4096) from)
         (λ k. IsFirstSet (bit_below block.now 4096) from 4096 k) }
 {
-    for byte in from / 8..BITS / 8 {
-        if block[byte as usize] != 0
-            && let Some(k) = first_set_in(block, from.max(8 * byte), 8 * byte + 8)
+    for eight in from / 64..BITS / 64 {
+        if eight_bytes(block, eight) != 0
+            && let Some(k) = first_set_in(block, from.max(64 * eight), 64 * eight + 64)
         {
             return Some(k);
         }
     }
     None
+}
+
+/// The eight bytes with the bits from bit `64 * i` on, as a number, which is 0 where none of them is 1.
+fn eight_bytes(block: &Block, i: u32) -> u64
+    requires { i < 64 }
+    ensures { result ≡ 0 → NoneWithin (bit block.now) (64 * i) (64 * i + 64) }
+{
+    LittleEndian::read_u64(&block[8 * i as usize..])
 }
 
 /// The first bit from `start` on, before `end`, that is 1.
