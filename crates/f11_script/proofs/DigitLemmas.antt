@@ -1,16 +1,18 @@
 -- Digits that are read one after another.
-use Rattle.std.proofs.Common.{◌≡◌, ℕ, ◌+◌, ◌*◌, ◌<◌, ◌≤◌, ◌&&◌, Bool, true, false, List, length, take, get_or, nat_le, Option, Some, None, IsSome, IfSome, ◌↔◌, if◌then◌else◌, refl, sym, ◌∙◌, ap, arith}
+use Rattle.std.proofs.Common.{◌≡◌, ℕ, ◌+◌, ◌*◌, ◌<◌, ◌≤◌, ◌&&◌, Bool, true, false, List, length, map, take, get_or, nat_le, Option, Some, None, IsSome, IfSome, ◌↔◌, if◌then◌else◌, refl, sym, ◌∙◌, ap, arith}
 use Rattle.std.specs.Char.{digit_value, is_digit}
-use Rattle.std.specs.List.{list_all}
+use Rattle.std.specs.List.{list_all, range_with_len}
 use Rattle.std.specs.Str.Parse.{digits_value}
 use Rattle.std.proofs.lemmas.Bool.{le-ltb, lt-ltb, le-leb, ltb-true}
 use Rattle.std.proofs.lemmas.Bool.Decides.{nat_tests}
 use Rattle.std.proofs.lemmas.Int.Digits.{digits_value_more}
+use Rattle.std.proofs.lemmas.List.FromFn.{get_or-map-range_with_len}
 use Rattle.std.proofs.lemmas.List.Folds.{list_all_at, list_all_more}
 use Rattle.std.proofs.lemmas.List.Sums.{AllPass-from_list_all}
 use Rattle.std.proofs.lemmas.Str.Parse.{digits_value-take-le}
 use Rattle.std.proofs.lemmas.List.{take_all}
-use Rattle.f11_script.specs.Fields.{value_up_to, is_hex, AreHexDigits}
+use Rattle.f11_script.specs.declared.fields.TheConstants.{VALUES}
+use Rattle.f11_script.specs.Fields.{value_up_to, hex_byte, is_hex, AreHexDigits}
 
 -- all digits so far, and one more
 pub digits_so_far : (radix : ℕ) (text : List ℕ) (i d : ℕ) → i < length text → digit_value (get_or text i 0) ≡ d → d < radix →
@@ -71,3 +73,14 @@ hex_digits text h k within =
     second_passes : (a b : Bool) → (a && b) ≡ true → b ≡ true
     second_passes true b e = e
     second_passes false b e = absurd (cc)
+
+-- past the last digit a block in hex is zero
+pub hex_byte-past : (text : List ℕ) (k : ℕ) → length text ≤ 2 * k + 1 → hex_byte text k ≡ 0
+hex_byte-past text k past = rw (le-ltb (2 * k + 1) (length text) past) refl
+
+-- the value of each byte
+values-are : VALUES ≡ map digit_value (range_with_len 0 256)
+values-are = refl
+
+pub value_of_byte : (c : ℕ) → c < 256 → get_or VALUES c 0 ≡ digit_value c
+value_of_byte c within = ap (λ (l : List ℕ). get_or l c 0) values-are ∙ get_or-map-range_with_len digit_value 0 256 c c 0 within (omega arith)

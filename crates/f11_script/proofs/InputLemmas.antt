@@ -1,14 +1,15 @@
 -- Bytes that are read piece by piece.
-use Rattle.std.proofs.Common.{◌≡◌, ◌≢◌, ◌⊎◌, inl, inr, All, ℕ, ◌+◌, ◌<◌, ◌≤◌, List, [], ◌∷◌, ◌++◌, length, take, drop, get_or, Option, Some, None, Bool, true, false, ◌==◌, ◌-◌, if◌then◌else◌, refl, sym, ◌∙◌, ap, subst, arith, add-one, drop-cons, length-append, length-drop}
+use Rattle.std.proofs.Common.{◌≡◌, ◌≢◌, ◌⊎◌, inl, inr, All, ℕ, ◌+◌, ◌<◌, ◌≤◌, List, [], ◌∷◌, ◌++◌, length, take, drop, get_or, Option, Some, None, Bool, true, false, ◌==◌, ◌-◌, if◌then◌else◌, refl, sym, ◌∙◌, ap, subst, arith, add-one, append_assoc, drop-cons, length-append, length-drop, min}
 use Rattle.std.specs.Io.KnownBytes.{Consumes, Keeps, IsAtEnd, prepend_known}
 use Rattle.std.proofs.KnownBytes.{Consumes-trans, Consumes-kept, prepend_known-nil}
 use Rattle.std.proofs.lemmas.Bool.{cases_lt, ne_eqb}
-use Rattle.std.proofs.lemmas.List.{length-take-le, get_or-take, take_all, take-append-le, length-take, append-nil}
+use Rattle.std.proofs.lemmas.List.{length-take-le, get_or-take, take_all, take-append-le, length-take, append-nil, drop-append-le, drop-take, take-append-drop, take-take}
+use Rattle.std.proofs.Math.Seq.{take-append-add}
 use Rattle.std.proofs.lemmas.List.Elements.{All-append, All-replicate}
 use Rattle.std.specs.List.{slice_split, onto_first, slice_index}
 use Rattle.std.specs.Str.Lines.{lines, lines_of_parts, strip_carriage_return}
 use Rattle.std.proofs.lemmas.List.Splits.{slice_split_at, slice_split_none}
-use Rattle.f11_script.specs.Input.{bytes_left, HasByte, HasFirst, IsLine, TakesLine, TakesNone}
+use Rattle.f11_script.specs.Input.{bytes_left, HasByte, HasFirst, IsLine, TakesBytes, TakesLine, TakesNone}
 
 -- what has no element
 length-zero : (bytes : List ℕ) → length bytes ≡ 0 → bytes ≡ []
@@ -47,27 +48,63 @@ pub record Collected (old new : Option (List ℕ)) (count counted : ℕ) (line :
   pub number : counted ≡ count + length bytes
   pub kept : line ≡ take 1202 bytes
 
--- what is kept of one byte more
-clip : (bytes : List ℕ) (x : ℕ) → take 1202 (take 1202 bytes ++ x ∷ []) ≡ take 1202 (bytes ++ x ∷ [])
-clip bytes x = by_length (cases_lt 1202 (length bytes))
+-- what is kept of some bytes more
+clip : (bytes xs : List ℕ) → take 1202 (take 1202 bytes ++ xs) ≡ take 1202 (bytes ++ xs)
+clip bytes xs = by_length (cases_lt 1202 (length bytes))
   where
-    by_length : (1202 < length bytes) ⊎ (length bytes ≤ 1202) → take 1202 (take 1202 bytes ++ x ∷ []) ≡ take 1202 (bytes ++ x ∷ [])
-    by_length (inr short) = ap (λ t. take 1202 (t ++ x ∷ [])) (take_all 1202 bytes short)
+    by_length : (1202 < length bytes) ⊎ (length bytes ≤ 1202) → take 1202 (take 1202 bytes ++ xs) ≡ take 1202 (bytes ++ xs)
+    by_length (inr short) = ap (λ t. take 1202 (t ++ xs)) (take_all 1202 bytes short)
     by_length (inl long) =
         let full : length (take 1202 bytes) ≡ 1202 = length-take-le 1202 bytes (omega (arith, long)) in
-        take-append-le 1202 (take 1202 bytes) (x ∷ []) (omega (arith, full))
+        take-append-le 1202 (take 1202 bytes) xs (omega (arith, full))
         ∙ take_all 1202 (take 1202 bytes) (omega (arith, full))
-        ∙ sym (take-append-le 1202 bytes (x ∷ []) (omega (arith, long)))
+        ∙ sym (take-append-le 1202 bytes xs (omega (arith, long)))
 
+pub collected_bytes : (a b c : Option (List ℕ)) (n m k : ℕ) (line more : List ℕ) → Collected a b n m line → TakesBytes b c m k line more → Collected a c n k more
+collected_bytes a b c n m k line more h t = record {
+  bytes = h.bytes ++ t.bytes;
+  taken = Consumes-trans a b c h.bytes t.bytes h.taken t.taken;
+  no_end = All-append (λ y. y ≢ 10) h.bytes t.bytes h.no_end t.no_end;
+  number = omega (arith, h.number, t.number, length-append h.bytes t.bytes);
+  kept = t.kept ∙ ap (λ l. take 1202 (l ++ t.bytes)) h.kept ∙ clip h.bytes t.bytes;
+}
+
+-- and of one byte more
 pub collected_more : (a b c : Option (List ℕ)) (n m k x : ℕ) (line more : List ℕ) → Collected a b n m line → Consumes b c (x ∷ []) → x ≢ 10 →
     k ≡ m + 1 → more ≡ take 1202 (line ++ x ∷ []) → Collected a c n k more
-collected_more a b c n m k x line more h next other counted is = record {
-  bytes = h.bytes ++ x ∷ [];
-  taken = Consumes-trans a b c h.bytes (x ∷ []) h.taken next;
-  no_end = All-append (λ y. y ≢ 10) h.bytes (x ∷ []) h.no_end (All-replicate (λ y. y ≢ 10) 1 x other);
-  number = omega (arith, h.number, counted, length-append h.bytes (x ∷ []));
-  kept = is ∙ ap (λ t. take 1202 (t ++ x ∷ [])) h.kept ∙ clip h.bytes x;
-}
+collected_more a b c n m k x line more h next other counted is =
+    collected_bytes a b c n m k line more h record { bytes = x ∷ []; taken = next; no_end = All-replicate (λ y. y ≢ 10) 1 x other; number = counted; kept = is }
+
+-- the bytes of a piece up to a place
+pub bytes_taken : (piece : List ℕ) (at stop end : ℕ) (known : Option (List ℕ)) → at ≤ stop → stop ≤ end → end ≤ length piece →
+    Consumes (bytes_left piece at end known) (bytes_left piece stop end known) (drop at (take stop piece))
+bytes_taken piece at stop end None order within long = tt
+bytes_taken piece at stop end (Some rest) order within long = ap (λ t. t ++ rest) split ∙ append_assoc (drop at (take stop piece)) (drop stop (take end piece)) rest
+  where
+    split : drop at (take end piece) ≡ drop at (take stop piece) ++ drop stop (take end piece)
+    split =
+        ap (drop at) (sym (take-append-drop stop (take end piece)))
+        ∙ drop-append-le at (take stop (take end piece)) (drop stop (take end piece)) (omega (arith, length-take stop (take end piece), length-take-le end piece long))
+        ∙ ap (λ t. drop at t ++ drop stop (take end piece)) (take-take stop end piece within)
+
+-- what is kept of the bytes of a piece, as far as there is room
+pub kept_part : (line piece : List ℕ) (at end stop : ℕ) → at ≤ end → length line ≤ 1202 → stop ≡ min end (at + (1202 - length line)) →
+    line ++ take (stop - at) (drop at piece) ≡ take 1202 (line ++ drop at (take end piece))
+kept_part line piece at end stop order few is = ap (λ t. line ++ t) (by_room (cases_lt (1202 - length line) (end - at))) ∙ sym (split (take (end - at) (drop at piece))) ∙ ap (λ t. take 1202 (line ++ t)) (sym to_end)
+  where
+    to_end : drop at (take end piece) ≡ take (end - at) (drop at piece)
+    to_end = let e : end ≡ at + (end - at) = omega arith in ap (λ n. drop at (take n piece)) e ∙ drop-take at (end - at) piece
+
+    split : (xs : List ℕ) → take 1202 (line ++ xs) ≡ line ++ take (1202 - length line) xs
+    split xs = let e : 1202 ≡ length line + (1202 - length line) = omega arith in ap (λ n. take n (line ++ xs)) e ∙ take-append-add line xs (1202 - length line)
+
+    by_room : (1202 - length line < end - at) ⊎ (end - at ≤ 1202 - length line) → take (stop - at) (drop at piece) ≡ take (1202 - length line) (take (end - at) (drop at piece))
+    by_room (inl full) =
+        let e : stop - at ≡ 1202 - length line = omega arith in
+        ap (λ n. take n (drop at piece)) e ∙ sym (take-take (1202 - length line) (end - at) (drop at piece) (omega arith))
+    by_room (inr fits) =
+        let e : stop - at ≡ end - at = omega arith in
+        ap (λ n. take n (drop at piece)) e ∙ sym (take_all (1202 - length line) (take (end - at) (drop at piece)) (omega (arith, length-take (end - at) (drop at piece))))
 
 -- what is kept of a byte, where there is room and where there is none
 pub kept_room : (line : List ℕ) (x : ℕ) → length line < 1202 → line ++ x ∷ [] ≡ take 1202 (line ++ x ∷ [])

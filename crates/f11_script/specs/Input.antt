@@ -1,5 +1,5 @@
 -- The lines of a script, read from a reader (profile).
-use Rattle.std.specs.Prelude.{◌≡◌, ◌≢◌, ℕ, ◌+◌, ◌-◌, ◌<◌, ◌≤◌, ⊤, All, List, [], ◌∷◌, length, drop, take, Option, Some, None, Result, Ok, Err, Bool, true, false}
+use Rattle.std.specs.Prelude.{◌≡◌, ◌≢◌, ℕ, ◌+◌, ◌-◌, ◌<◌, ◌≤◌, ⊤, All, List, [], ◌∷◌, ◌++◌, length, drop, take, Option, Some, None, Result, Ok, Err, Bool, true, false}
 use Rattle.std.specs.Io.KnownBytes.{prepend_known, Consumes, Keeps, IsAtEnd}
 use Rattle.std.specs.Str.Lines.{lines}
 use Rattle.f11_script.specs.Lines.{line_of}
@@ -54,6 +54,14 @@ abbrev pub IsReadError : ScriptError → ℕ → ℕ → Type 0
 IsReadError ReadFault count hand = hand ≡ 0
 IsReadError TooLong count hand = (count ≡ 16777216) × (0 < hand)
 IsReadError WriteFault count hand = ⊥
+
+-- Some bytes were taken, among them no line feed, and counted; of a line that is cut at 1,202 bytes they are kept as far as there is room.
+pub record TakesBytes (old new : Option (List ℕ)) (count counted : ℕ) (line longer : List ℕ) : Type 0 where
+  pub bytes : List ℕ
+  pub taken : Consumes old new bytes
+  pub no_end : All (λ c. c ≢ 10) bytes
+  pub number : counted ≡ count + length bytes
+  pub kept : longer ≡ take 1202 (line ++ bytes)
 
 -- the next byte was read and counted, or none is left, or it failed and nothing was read
 abbrev pub ReadsByte : Option (List ℕ) → Option (List ℕ) → ℕ → ℕ → ℕ → Result (Option ℕ) ScriptError → Type 0

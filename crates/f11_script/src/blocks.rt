@@ -22,7 +22,8 @@ pub(crate) fn put_hex(block: &mut [u8; 512], digits: &[u8])
     requires { specs.AreHexDigits digits.now }
     ensures { block.new ≡ specs.hex_block digits.now }
 {
-    for k in 0..512 {
+    *block = [0; 512];
+    for k in 0..(digits.len() / 2).min(512) {
         block[k] = hex_byte(digits, k);
     }
 }

@@ -1,12 +1,13 @@
 //! The lines of a script, read.
 
-ghost use Rattle.std.specs.Prelude.{◌≡◌, ◌<◌, ◌≤◌, ◌+◌, ◌∷◌, ◌++◌, [], MatchResult, MatchOption, Some, None, length, take};
+ghost use Rattle.std.specs.Prelude.{◌≡◌, ◌≢◌, ◌<◌, ◌≤◌, ◌+◌, ◌∷◌, ◌++◌, [], All, MatchResult, MatchOption, Some, None, length, drop, take};
 ghost use Rattle.std.specs.Io.KnownBytes.{Consumes, Keeps, IsAtEnd};
 ghost use Rattle.std.specs.Str.Lines.{strip_carriage_return};
 ghost use Rattle.f11_script.specs.declared.errors.ScriptError.TheVariants.{ReadFault};
 
 use crate::errors::{ScriptError, TRIES};
 use arrayvec::ArrayVec;
+use memchr::memchr;
 use std::io::{ErrorKind, Read};
 
 /// The most bytes of a script.
@@ -60,7 +61,7 @@ pub struct ScriptReader<R> {
 }
 
 impl<R: Read> ScriptReader<R> {
-    ghost use Rattle.f11_script.specs.Input.{ReadsByte, ReadsLine, at_hand, left_of, number_read, reader_of};
+    ghost use Rattle.f11_script.specs.Input.{ReadsByte, ReadsLine, TakesBytes, at_hand, left_of, number_read, reader_of};
 
     /// A script from its beginning.
     pub fn new(reader: R) -> ScriptReader<R>
@@ -99,6 +100,7 @@ impl<R: Read> ScriptReader<R> {
     {
         line.clear();
         loop {
+            self.take_bytes(line);
             match self.next()? {
                 None => {
                     if line.len() == 0 {
@@ -115,6 +117,19 @@ impl<R: Read> ScriptReader<R> {
                 }
             }
         }
+    }
+
+    /// Takes the bytes at hand that stand before the next line feed, as many as may still be counted.
+    fn take_bytes(&mut self, line: &mut Line)
+        ensures { TakesBytes (left_of R.remaining self.old) (left_of R.remaining self.new)
+            (number_read self.old) (number_read self.new) line.old.items line.new.items }
+    {
+        let most = (LIMIT - self.count) as usize;
+        let end = self.end.min(self.at + most);
+        let stop = line_end(&self.piece, self.at, end);
+        keep_bytes(line, &self.piece, self.at, stop);
+        self.count += (stop - self.at) as u32;
+        self.at = stop;
     }
 
     /// The next byte, and `None` at the end.
@@ -169,6 +184,39 @@ impl<R: Read> ScriptReader<R> {
         self.end = read;
         Ok(())
     }
+}
+
+/// The place of the first line feed of a piece from `at` on, before `end`, and `end` where there is none.
+fn line_end(piece: &[u8; PIECE], at: usize, end: usize) -> usize
+    requires order { at ≤ end }
+    requires within { end ≤ length piece.now }
+    ensures above { at ≤ result }
+    ensures within { result ≤ end }
+    ensures none { All (λ c. c ≢ 10) (drop at (take result piece.now)) }
+{
+    match memchr(b'\n', &piece[at..end]) {
+        Some(place) => at + place,
+        None => end,
+    }
+}
+
+/// Keeps the bytes of a piece from `at` on, before `end`, as far as there is room.
+fn keep_bytes(line: &mut Line, piece: &[u8; PIECE], at: usize, end: usize)
+    requires order { at ≤ end }
+    requires within { end ≤ length piece.now }
+    ensures { line.new.items ≡ take 1202 (line.old.items ++ drop at (take end piece.now)) }
+{
+    let room = 1202 - line.len();
+    let stop = end.min(at + room);
+    push_bytes(line, &piece[at..stop]);
+}
+
+/// Puts bytes behind a line, where there is room for them.
+fn push_bytes(line: &mut Line, bytes: &[u8])
+    requires { length line.old.items + length bytes.now ≤ 1202 }
+    ensures { line.new.items ≡ line.old.items ++ bytes.now }
+{
+    let _ = line.try_extend_from_slice(bytes);
 }
 
 /// Keeps a byte of a line, where there is room.
