@@ -65,6 +65,11 @@ light false true c r is = let same : DeviceFull ≡ r = cc in subst IsLight same
 light false false true r is = let same : NoHeader ≡ r = cc in subst IsLight same record { not_failed = λ no. omega (arith, no); not_damaged = λ no. omega (arith, no); no_fault = refl; among = λ s f n. refl }
 light false false false r is = absurd cc
 
+-- the causes stay where the number of free headers is as far from what is needed
+pub causes-alike : (headers room free a b n : ℕ) → ltb a (need room n) ≡ ltb b (need room n) → first_of (room_causes headers room free a n) ≡ first_of (room_causes headers room free b n)
+causes-alike headers room free a b n same =
+    ap (λ (c : Bool). first_of ((TooManySegments ⇐ ltb 256 (headers + need room n)) ∷ (DeviceFull ⇐ ltb free n) ∷ (NoHeader ⇐ c) ∷ [])) same
+
 -- where there is no cause, there are not too many headers
 no-more-headers : (headers : ℕ) (b c : Bool) → first_of ((TooManySegments ⇐ ltb 256 headers) ∷ (DeviceFull ⇐ b) ∷ (NoHeader ⇐ c) ∷ []) ≡ None → headers ≤ 256
 no-more-headers headers b c none = elim (cases_lt 256 headers) [

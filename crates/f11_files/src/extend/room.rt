@@ -1,11 +1,12 @@
 //! Room for more blocks of a file.
-ghost use Rattle.std.specs.Prelude.{◌≡◌, ◌<◌, ◌≤◌, false, IsTrue, Some, None, IfErr, IfOk, OnOk};
+ghost use Rattle.std.specs.Prelude.{◌≡◌, ◌<◌, ◌≤◌, false, length, nat_lt, IsTrue, Some, None, IfErr, IfOk, OnOk};
 ghost use Rattle.f11_files.specs.Answers.{FailsToRead};
 ghost use Rattle.f11_image_store.specs.FileLaws.{room_in};
 ghost use Rattle.f11_files.specs.Operations.{extend_causes};
 ghost use Rattle.f11_files.specs.Extending.Room.{room_causes, FindsRoom};
-ghost use Rattle.f11_files.specs.Structure.{store_on, IsFor};
+ghost use Rattle.f11_files.specs.Structure.{index_in, store_on, IsFor};
 ghost use Rattle.f11_header.specs.Header.{holds_header};
+ghost use Rattle.f11_index.specs.IndexFile.{free_slots};
 ghost use Rattle.f11_store.specs.Causes.{first_of};
 ghost use Rattle.f11_store.specs.Cost.{header_count};
 ghost use Rattle.f11_store.specs.File.{need};
@@ -97,8 +98,20 @@ impl Structure {
             Ok(end) => end,
             Err(fault) => return Err(refusal_for(fault)),
         };
-        let (free, free_headers) = (self.storage.free(), self.index.free_headers());
-        judge(end.headers, room_of(last), free, free_headers, n)?;
+        let room = room_of(last);
+        let (free, free_headers) = (self.storage.free(), self.headers_for(need(room, n)));
+        judge(end.headers, room, free, free_headers, n)?;
         Ok(end)
+    }
+
+    /// As many headers as are free, where `more` are needed: where none is, they aren't counted.
+    fn headers_for(&self, more: u32) -> u32
+        ensures { nat_lt result more ≡ nat_lt (length (free_slots (index_in self.now))) more }
+    {
+        if more == 0 {
+            0
+        } else {
+            self.index.free_headers()
+        }
     }
 }

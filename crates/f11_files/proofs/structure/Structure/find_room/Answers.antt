@@ -1,4 +1,4 @@
-use Rattle.std.proofs.Common.{false, Err, refl, ap}
+use Rattle.std.proofs.Common.{false, Err, refl, sym, ap, ◌∙◌}
 use Rattle.f11_chain.proofs.AlongLemmas.{along-behind, break-behind, last-behind}
 use Rattle.f11_index.specs.IndexFile.{slots}
 use Rattle.f11_store.specs.Cost.{header_count}
@@ -8,7 +8,7 @@ use Rattle.f11_files.specs.Operations.{extend_causes}
 use Rattle.f11_files.specs.Structure.{index_in, store_on}
 use Rattle.f11_files.proofs.AnswerLemmas.{handed, fails-more}
 use Rattle.f11_files.proofs.Finding.Locate.{reads-first, fails-last}
-use Rattle.f11_files.proofs.Extending.Room.{among-more, cause-more, finds-room, lacks-room}
+use Rattle.f11_files.proofs.Extending.Room.{among-more, cause-more, causes-alike, finds-room, lacks-room}
 use Rattle.f11_files.proofs.Opening.Space.{space-is}
 use Rattle.f11_files.proofs.structure.Structure.find_room.Goals as goal
 
@@ -29,7 +29,8 @@ returns-in_err-judge-clause-refused g c =
     let goes = last-behind _ _ _ _ _ (reads-first _ _ _ _ _ found) _ _ _ c.in-Ok.ensures.reads in
     handed (λ refusal. FailsToRead false (extend_causes (store_on s old) c.args.f c.args.n) (header_count (file_named (store_on s old) c.args.f)) refusal old _) c.from_residual-in_err-judge.result _ c.from_residual-in_err-judge.ensures.1
     (lacks-room s c.args.f _ _ c.requires.is_for found.holds _ _ _ goes _ _ _ (slots (index_in s)) c.args.n c.room_of.ensures
-    (λ honest. space-is s _ c.requires.is_for honest _ _ _ c.free-free.ensures.free c.free_headers-free_headers.ensures refl) _ c.in_err-judge.ensures.refused)
+    (λ honest. space-is s _ c.requires.is_for honest _ _ _ c.free-free.ensures.free refl refl) _
+    (sym (causes-alike _ _ _ _ _ c.args.n (rw (← c.need.ensures.need) c.headers_for.ensures)) ∙ c.in_err-judge.ensures.refused))
 
 pub returns-clause-room : goal.returns-clause-room
 returns-clause-room g c =
@@ -37,4 +38,5 @@ returns-clause-room g c =
     let found = c.in_ok-read_first.ensures.found in
     let goes = last-behind _ _ _ _ _ (reads-first _ _ _ _ _ found) _ _ _ c.in-Ok.ensures.reads in
     finds-room s c.args.f _ _ c.requires.is_for found.holds _ _ _ goes _ _ _ (slots (index_in s)) c.args.n c.room_of.ensures
-    (λ honest. space-is s _ c.requires.is_for honest _ _ _ c.free-free.ensures.free c.free_headers-free_headers.ensures refl) c.in_ok-judge.ensures.room
+    (λ honest. space-is s _ c.requires.is_for honest _ _ _ c.free-free.ensures.free refl refl)
+    (sym (causes-alike _ _ _ _ _ c.args.n (rw (← c.need.ensures.need) c.headers_for.ensures)) ∙ c.in_ok-judge.ensures.room)
