@@ -28,15 +28,15 @@ returns-in_err-judge-clause-refused g c =
     let found = c.in_ok-read_first.ensures.found in
     let goes = last-behind _ _ _ _ _ (reads-first _ _ _ _ _ found) _ _ _ c.in-Ok.ensures.reads in
     handed (λ refusal. FailsToRead false (extend_causes (store_on s old) c.args.f c.args.n) (header_count (file_named (store_on s old) c.args.f)) refusal old _) c.from_residual-in_err-judge.result _ c.from_residual-in_err-judge.ensures.1
-    (lacks-room s c.args.f _ _ c.requires.is_for found.holds _ _ _ goes _ _ _ (slots (index_in s)) c.args.n c.room_of.ensures
+    (lacks-room s c.args.f _ _ c.requires.is_for found.holds _ _ _ goes _ _ _ (slots (index_in s)) c.args.n c.room_of-room.ensures
     (λ honest. space-is s _ c.requires.is_for honest _ _ _ c.free-free.ensures.free refl refl) _
-    (sym (causes-alike _ _ _ _ _ c.args.n (rw (← c.need.ensures.need) c.headers_for.ensures)) ∙ c.in_err-judge.ensures.refused))
+    (sym (causes-alike _ _ _ _ _ c.args.n (rw (← c.need.ensures.need) c.headers_for-free_headers.ensures)) ∙ c.in_err-judge.ensures.refused))
 
 pub returns-clause-room : goal.returns-clause-room
 returns-clause-room g c =
     let s = c.args.self.now in
     let found = c.in_ok-read_first.ensures.found in
     let goes = last-behind _ _ _ _ _ (reads-first _ _ _ _ _ found) _ _ _ c.in-Ok.ensures.reads in
-    finds-room s c.args.f _ _ c.requires.is_for found.holds _ _ _ goes _ _ _ (slots (index_in s)) c.args.n c.room_of.ensures
+    finds-room s c.args.f _ _ c.requires.is_for found.holds _ _ _ goes _ _ _ (slots (index_in s)) c.args.n c.room_of-room.ensures
     (λ honest. space-is s _ c.requires.is_for honest _ _ _ c.free-free.ensures.free refl refl)
-    (sym (causes-alike _ _ _ _ _ c.args.n (rw (← c.need.ensures.need) c.headers_for.ensures)) ∙ c.in_ok-judge.ensures.room)
+    (sym (causes-alike _ _ _ _ _ c.args.n (rw (← c.need.ensures.need) c.headers_for-free_headers.ensures)) ∙ c.in_ok-judge.ensures.room)
