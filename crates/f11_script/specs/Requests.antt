@@ -1,8 +1,8 @@
 -- What each line of the script language asks: for each verb its arguments and its request (profile).
 use Rattle.std.specs.Prelude.{ℕ, ◌==◌, List, ◌∷◌, ◌++◌, Option, Some, None, option_map, slice_index, replicate, if◌then◌else◌}
-use Rattle.std.specs.List.{flat_map}
 use Rattle.f11_bytes.specs.Words.{word_bytes, long_bytes}
 use Rattle.f11_rad50.specs.Name.{words_spelled}
+use Rattle.f11_store.specs.Ident.{ident_with}
 use Rattle.f11_store.specs.declared.files.Change.TheVariants as change
 use Rattle.f11_store.specs.declared.requests.Request.{Request}
 use Rattle.f11_store.specs.declared.requests.Request.TheVariants as request
@@ -23,11 +23,6 @@ asks r = record { request = r; block = λ before. before }
 -- a request for a block with this content
 abbrev pub asks_with : Request → List ℕ → Ask
 asks_with r content = record { request = r; block = λ before. content }
-
--- an ident area with the five words of a name, and zeros behind them
--- (Files-11 On-Disk Structure Level 1, ident area)
-unfoldable pub ident_with : List ℕ → List ℕ
-ident_with words = flat_map word_bytes words ++ replicate 36 0
 
 -- user attributes: record type, record attributes, record size, F.HIBK, F.EFBK and F.FFBY, and zeros behind them
 -- (Files-11 On-Disk Structure Level 1, file attributes)

@@ -3,6 +3,7 @@ use Rattle.std.specs.Prelude.{◌≡◌, ℕ, ◌≤◌, true, length, List, [],
 use Rattle.std.specs.Fmt.{decimal}
 use Rattle.std.specs.List.{join_with_byte}
 use Rattle.f11_rad50.specs.Name.{IsName, name_text}
+use Rattle.f11_store.specs.Ident.{ident_with}
 use Rattle.f11_store.specs.Run.{Call}
 use Rattle.f11_store.specs.Text.{id_text, octal_digits, uic_text}
 use Rattle.f11_store.specs.declared.callers.Uic.{Uic}
@@ -13,7 +14,7 @@ use Rattle.f11_store.specs.declared.files.Change.TheVariants as change
 use Rattle.f11_store.specs.declared.requests.Request.TheVariants as request
 use Rattle.f11_script.specs.Lines.{request_line, line_of}
 use Rattle.f11_script.specs.Fields.{filled_block, hex_block, is_hex}
-use Rattle.f11_script.specs.Requests.{Ask, asks, asks_with, ident_with, attr_for, attr_bytes}
+use Rattle.f11_script.specs.Requests.{Ask, asks, asks_with, attr_for, attr_bytes}
 
 -- what a line can say behind its user's code
 pub data Sentence : Type 0 where

@@ -9,24 +9,6 @@ use f11_rad50::Name;
 /// The type `DIR` in Radix-50.
 const DIRECTORY: u16 = 6778;
 
-/// An ident area with a name, and zeros behind it
-/// (Files-11 On-Disk Structure Level 1, ident area).
-#[tactic(auto, unfolding(crate::specs::Requests::ident_with))]
-pub(crate) fn ident_with(name: Name) -> [u8; 46]
-    ensures { result ≡ specs.ident_with name }
-{
-    let words = name.words();
-    let [a, b] = word_bytes(words[0]);
-    let [c, d] = word_bytes(words[1]);
-    let [e, f] = word_bytes(words[2]);
-    let [g, h] = word_bytes(words[3]);
-    let [i, j] = word_bytes(words[4]);
-    [
-        a, b, c, d, e, f, g, h, i, j, 0, 0, 0, 0, 0, 0, 0, 0, 0, 0, 0, 0, 0, 0, 0, 0, 0, 0, 0, 0,
-        0, 0, 0, 0, 0, 0, 0, 0, 0, 0, 0, 0, 0, 0, 0, 0,
-    ]
-}
-
 /// User attributes: record type, record attributes, record size, F.HIBK, F.EFBK and F.FFBY, and zeros behind them
 /// (Files-11 On-Disk Structure Level 1, file attributes).
 #[tactic(auto, unfolding(crate::specs::Requests::attr_bytes))]

@@ -5,7 +5,7 @@ ghost use Rattle.std.specs.Prelude.{◌≡◌, IfNone, IfSome};
 use crate::verb::Verb;
 use crate::words::Words;
 use crate::{areas, blocks, fields};
-use f11_store::{Change, FileId, Mode, Request};
+use f11_store::{Change, FileId, Mode, Request, ident_with};
 
 impl<'a> Words<'a> {
     ghost use Rattle.f11_script.specs.Fields.{AreHexDigits, byte_of, id_of, mode_of, number_of, octal_byte_of, protection_of, word_of};
@@ -233,7 +233,7 @@ impl<'a> Words<'a> {
         let (protection, words) = words.protection()?;
         words.is_empty().then_some(Request::Create {
             protection,
-            ident: areas::ident_with(name),
+            ident: ident_with(name),
             attr: areas::attr_for(name),
         })
     }

@@ -4,6 +4,7 @@ pub mod Changes
 pub mod Cost
 pub mod Directory
 pub mod File
+pub mod Ident
 pub mod Lags
 pub mod Laws
 pub mod Moments

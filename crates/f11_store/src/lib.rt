@@ -6,6 +6,7 @@
 
 mod callers;
 mod files;
+mod ident;
 pub mod laws;
 mod protection;
 mod refusals;
@@ -14,6 +15,7 @@ pub mod worked;
 
 pub use callers::{Lun, Task, Uic};
 pub use files::{Attr, Change, FileId, Mode, name_words};
+pub use ident::ident_with;
 pub use protection::{Class, Right, Rights, allowed, is_of, may};
 pub use refusals::Refusal;
 pub use requests::{Reply, Request};
