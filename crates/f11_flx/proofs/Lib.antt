@@ -1,3 +1,4 @@
+pub mod BackLemmas
 pub mod ConvertLemmas
 pub mod CopyLemmas
 pub mod CrLemmas

@@ -1,3 +1,4 @@
+pub mod Conversion
 pub mod Laws
 pub mod Lines
 pub mod Place

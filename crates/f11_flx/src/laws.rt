@@ -35,3 +35,9 @@ pub fn copies()
     ensures few { laws.RecordsAreFew }
     ensures image { laws.ImageEndsWithBlocks }
 {}
+
+/// What comes back of a copy that was made of another one.
+pub fn copies_back()
+    ensures image { laws.ImageComesBack }
+    ensures text { laws.TextComesBack }
+{}

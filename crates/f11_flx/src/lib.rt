@@ -12,6 +12,7 @@
 mod attributes;
 pub mod laws;
 mod layout;
+mod mode;
 mod place;
 mod put;
 mod records;
@@ -22,6 +23,7 @@ pub mod worked;
 
 pub use attributes::{MOST_BLOCKS, image_attributes, image_blocks, text_attributes};
 pub use layout::Layout;
+pub use mode::CopyMode;
 pub use records::{BadRecord, Records};
 pub use to_records::{LONGEST_LINE, LineTooLong, ToRecords};
 pub use to_text::ToText;

@@ -15,4 +15,7 @@ pub fn examples()
     ensures longest_line { worked.LongestLine }
     ensures edge_of_block { worked.EdgeOfBlock }
     ensures image { worked.Image }
+    ensures fixed_to_rt { worked.FixedToRt }
+    ensures text_from_rt { worked.TextFromRt }
+    ensures nothing_copied { worked.NothingCopied }
 {}
