@@ -1,7 +1,7 @@
 //! Files-11 volumes, made and verified on devices that fail.
-use f11_dev::{DeviceFault, FailOnce, Memory};
+use f11_dev::{DeviceFault, FailOnce, Fuse, Memory};
 use f11_fixtures::volumes::{BLOCKS, USED, made, params};
-use f11_fixtures::{has_front, sevens};
+use f11_fixtures::{has_front, has_written, memory, sevens};
 use f11_vfy::{InitError, Report, VfyError, init, verify};
 use std::alloc::Global;
 use std::test::Fail;
@@ -26,9 +26,40 @@ fn a_write_of_a_fresh_volume_fails(rt: HostRuntime) -> Result<(), Fail> {
     for failing in 0..USED {
         for (lands, written) in [(false, failing), (true, failing + 1)] {
             let mut device = half_made(rt.alloc(), u64::from(failing) + 1, lands)?;
-            assert!(rt; has_front(&mut device, &mut whole, written)?, "{failing}");
+            let is_written = has_written(&mut device, &mut whole, (0, 1, USED), written)?;
+            assert!(rt; is_written, "{failing}");
         }
     }
+    Ok(())
+}
+
+/// The device of zeros on which making a fresh volume stopped behind so many writes, or was done.
+fn stopped(alloc: Global, writes: u64) -> Result<Memory, Fail> {
+    let device = Fuse::new(memory(alloc, BLOCKS)?, writes);
+    match init(device, &params()) {
+        Ok(made) => Ok(made.device().into_inner()),
+        Err(InitError::BadParameter(device)) => Ok(device.into_inner()),
+        Err(InitError::DeviceFault(device)) => Ok(device.into_inner()),
+    }
+}
+
+/// The code of a device's first fault, and 0 where the image is accepted.
+fn fault_of(alloc: Global, device: Memory) -> Result<u8, DeviceFault> {
+    match verify(alloc, device) {
+        Ok(Report::Accepted(_, _)) => Ok(0),
+        Ok(Report::Faulty(_, faults, _)) => Ok(faults.get(0).map_or(0, |fault| fault.code)),
+        Err(_) => Err(DeviceFault),
+    }
+}
+
+#[test]
+fn a_stop_before_the_last_write_leaves_no_home_block(rt: HostRuntime) -> Result<(), Fail> {
+    for writes in 0..u64::from(USED) {
+        let device = stopped(rt.alloc(), writes)?;
+        assert_eq!(rt; fault_of(rt.alloc(), device)?, 1, "{writes}");
+    }
+    let device = stopped(rt.alloc(), u64::from(USED))?;
+    assert_eq!(rt; fault_of(rt.alloc(), device)?, 0);
     Ok(())
 }
 

@@ -131,3 +131,32 @@ pub fn has_front(
     }
     Ok(true)
 }
+
+/// Whether the first `count` of so many writes were made on a device of sevens: those of another's blocks from `first` to before `end`,
+/// in ascending order but for block `last`, which is written behind all others.
+///
+/// # Errors
+///
+/// Those of [`get`].
+pub fn has_written(
+    device: &mut impl Device,
+    whole: &mut impl Device,
+    (first, last, end): (u32, u32, u32),
+    count: u32,
+) -> Result<bool, DeviceFault> {
+    for lbn in 0..device.blocks() {
+        let place = if lbn == last {
+            end.saturating_sub(first)
+        } else if lbn < last {
+            lbn.saturating_sub(first).saturating_add(1)
+        } else {
+            lbn.saturating_sub(first)
+        };
+        let is_written = first <= lbn && lbn < end && place <= count;
+        let want = if is_written { get(whole, lbn)? } else { SEVENS };
+        if get(device, lbn)? != want {
+            return Ok(false);
+        }
+    }
+    Ok(true)
+}

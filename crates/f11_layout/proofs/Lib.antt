@@ -5,3 +5,4 @@ pub mod NamesLemmas
 pub mod HeaderLemmas
 pub mod BlockLemmas
 pub mod HomeLemmas
+pub mod NoHomeLemmas

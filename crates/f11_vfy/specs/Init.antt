@@ -1,23 +1,37 @@
 -- What making a fresh volume does to a disk, by its outcome.
-use Rattle.std.specs.Prelude.{◌≡◌, length}
-use Rattle.f11_dev.specs.Disk.{Disk}
+use Rattle.std.specs.Prelude.{◌≡◌, ◌⊎◌, ℕ, List, false, length, true}
+use Rattle.f11_dev.specs.Disk.{Disk, with_block_at, with_transfer}
 use Rattle.f11_dev.specs.Went.{Went}
+use Rattle.f11_layout.specs.Fresh.{IsFreshBlock}
 use Rattle.f11_layout.specs.Layout.{label_of, IsLayoutOf}
 use Rattle.f11_layout.specs.Places.{CanBeMade}
 use Rattle.f11_layout.specs.declared.layout.Layout.{Layout}
 use Rattle.f11_layout.specs.declared.params.InitParams.{InitParams}
 use Rattle.f11_vfy.specs.declared.fresh.InitError.{InitError}
 use Rattle.f11_vfy.specs.declared.fresh.InitError.TheVariants.{BadParameter, DeviceFault}
-use Rattle.f11_volume.specs.Fresh.{used_by, KeepsBehind, IsFreshVolume}
+use Rattle.f11_volume.specs.Fresh.{used_by, IsFreshVolume, MayStand}
 
--- The front of a fresh volume was written: each block of it once, and no other. Meanwhile too, no block behind it changed.
+-- A block of a fresh volume was written in its place.
+pub record Lays (l : Layout) (lbn : ℕ) (old new : Disk) : Type 0 where
+  pub block : List ℕ
+  pub fresh : IsFreshBlock l lbn block
+  pub is : new ≡ with_transfer true (with_block_at lbn block old)
+
+-- That write failed: the block is as it was, or it was written.
+pub record FailsToLay (l : Layout) (lbn : ℕ) (old new : Disk) : Type 0 where
+  pub block : List ℕ
+  pub fresh : IsFreshBlock l lbn block
+  pub is : (new ≡ with_transfer false old) ⊎ (new ≡ with_transfer false (with_block_at lbn block old))
+
+-- The front of a fresh volume was written: each block of it once, and no other. Meanwhile no candidate became a home block, until the
+-- whole volume was there.
 pub record LaysOut (l : Layout) (old new : Disk) : Type 0 where
   pub volume : IsFreshVolume l old.image new.image
-  pub went : Went (KeepsBehind l old.image) old new (used_by l) 0
+  pub went : Went (MayStand l old.image) old new (used_by l) 0
 
 -- A transfer failed.
 abbrev pub FailsToLayOut : Layout → Disk → Disk → Type 0
-FailsToLayOut l old new = Went (KeepsBehind l old.image) old new (used_by l) 1
+FailsToLayOut l old new = Went (MayStand l old.image) old new (used_by l) 1
 
 -- A volume can be made with these on a disk.
 abbrev pub CanInit : InitParams → Disk → Type 0

@@ -1,15 +1,24 @@
--- Laws of what the verifier reads, which show that its words for it say what is meant (profile).
-use Rattle.std.specs.Prelude.{◌≡◌, ℕ}
-use Rattle.f11_dev.specs.Image.{Image}
-use Rattle.f11_home.specs.Home.{HomeFields}
+-- Laws of what the verifier reads and of what `init` leaves, which show that the words for it say what is meant (profile).
+use Rattle.std.specs.Prelude.{◌≡◌, ◌⊎◌, ℕ, ◌≤◌, length}
+use Rattle.f11_dev.specs.Image.{Image, IsImage}
+use Rattle.f11_home.specs.Home.{HomeFields, HasNoHome}
 use Rattle.f11_index.specs.IndexFile.{index_of}
 use Rattle.f11_index.specs.Table.{Table}
+use Rattle.f11_layout.specs.declared.layout.Layout.{Layout}
 use Rattle.f11_store.specs.Directory.{is_directory}
 use Rattle.f11_volume.specs.Contents.{file_of}
+use Rattle.f11_volume.specs.Fresh.{MayStand}
+use Rattle.f11_volume.specs.Space.{storage_bitmap}
+use Rattle.f11_volume.specs.Verdict.{IsAccepted}
+use Rattle.f11_volume.specs.Volume.{volume_of}
 use Rattle.f11_vfy.specs.Scanning.Reading.{volume_in}
 use Rattle.f11_vfy.specs.Surveying.Slot.{says_directory}
-use Rattle.f11_volume.specs.Space.{storage_bitmap}
-use Rattle.f11_volume.specs.Volume.{volume_of}
+
+-- What stands while a fresh volume is made on an image without a home block has none, or is accepted.
+abbrev pub StoppedHasNoHome : Type 0
+StoppedHasNoHome =
+    (l : Layout) (old image : Image) → HasNoHome old → IsImage image → l.blocks ≤ length image → MayStand l old image
+    → HasNoHome image ⊎ IsAccepted image
 
 -- a file is a directory where its first header says so
 abbrev pub DirectoryIsSaid : Type 0

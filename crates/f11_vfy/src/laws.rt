@@ -1,5 +1,10 @@
-//! Laws of what the verifier reads, each the contract of a function that does nothing.
+//! Laws of what the verifier reads and of what `init` leaves, each the contract of a function that does nothing.
 ghost use Rattle.f11_vfy.specs.Laws as laws;
+
+/// Where making a fresh volume is stopped, the image has no home block, if it had none, or is accepted.
+pub fn stopped()
+    ensures { laws.StoppedHasNoHome }
+{}
 
 /// What is read of a volume is what the definitions speak of.
 pub fn readings()

@@ -1,7 +1,8 @@
 -- An image on which a fresh volume was made (profile).
-use Rattle.std.specs.Prelude.{◌≡◌, ℕ, ◌<◌, ◌≤◌, length}
+use Rattle.std.specs.Prelude.{◌≡◌, ◌⊎◌, ℕ, ◌<◌, ◌≤◌, length}
 use Rattle.std.specs.List.{slice_get}
 use Rattle.f11_dev.specs.Image.{Image, image_block}
+use Rattle.f11_home.specs.Home.{candidate, IsCandidate}
 use Rattle.f11_layout.specs.Fresh.{IsFreshBlock}
 use Rattle.f11_layout.specs.Places.{used_blocks}
 use Rattle.f11_layout.specs.declared.layout.Layout.{Layout}
@@ -23,3 +24,13 @@ pub record KeepsBehind (l : Layout) (old new : Image) : Type 0 where
 pub record IsFreshVolume (l : Layout) (old new : Image) : Type 0 where
   pub front : IsFreshUpTo l new (used_by l)
   pub keeps : KeepsBehind l old new
+
+-- No candidate became a home block: each that is one on the new image holds what it held.
+abbrev pub MakesNoHome : Image → Image → Type 0
+MakesNoHome old new = (k : ℕ) → IsCandidate new k → image_block new (candidate k) ≡ image_block old (candidate k)
+
+-- What may stand while a fresh volume is made: no block behind the front changed, and no candidate became a home block, or else the
+-- whole volume is there.
+pub record MayStand (l : Layout) (old image : Image) : Type 0 where
+  pub keeps : KeepsBehind l old image
+  pub home : MakesNoHome old image ⊎ IsFreshVolume l old image

@@ -1,7 +1,7 @@
 //! RT-11 volumes, made and verified on devices that fail.
-use f11_dev::{DeviceFault, FailOnce, Memory};
+use f11_dev::{DeviceFault, FailOnce, Fuse, Memory};
 use f11_fixtures::rt_volumes::{BLOCKS, DIRECTORY, SEGMENTS, fill, made};
-use f11_fixtures::{has_front, sevens};
+use f11_fixtures::{has_front, has_written, memory, sevens};
 use rt11_volume::{RtInitError, RtReport, RtVfyError, init, verify};
 use std::alloc::Global;
 use std::test::Fail;
@@ -33,10 +33,41 @@ fn a_write_of_a_fresh_volume_fails(rt: HostRuntime) -> Result<(), Fail> {
     for failing in 0..DIRECTORY {
         for (lands, written) in [(false, failing), (true, failing + 1)] {
             let mut device = half_made(rt.alloc(), u64::from(failing) + 1, lands)?;
-            let is_front = has_front(&mut device, &mut whole, 6 + written)?;
-            assert!(rt; is_front, "{failing}");
+            let blocks = (6, 6, 6 + DIRECTORY);
+            let is_written = has_written(&mut device, &mut whole, blocks, written)?;
+            assert!(rt; is_written, "{failing}");
         }
     }
+    Ok(())
+}
+
+/// The device of zeros on which making a fresh volume stopped behind so many writes, or was done.
+fn stopped(alloc: Global, writes: u64) -> Result<Memory, Fail> {
+    let device = Fuse::new(memory(alloc, BLOCKS)?, writes);
+    match init(device, SEGMENTS) {
+        Ok(made) => Ok(made.device().into_inner()),
+        Err(RtInitError::BadParameter(device)) => Ok(device.into_inner()),
+        Err(RtInitError::DeviceFault(device)) => Ok(device.into_inner()),
+    }
+}
+
+/// The code of a device's first fault, and 0 where the image is accepted.
+fn fault_of(alloc: Global, device: Memory) -> Result<u8, DeviceFault> {
+    match verify(alloc, device) {
+        Ok(RtReport::Accepted(_, _)) => Ok(0),
+        Ok(RtReport::Faulty(_, faults, _)) => Ok(faults.get(0).map_or(0, |fault| fault.code)),
+        Err(_) => Err(DeviceFault),
+    }
+}
+
+#[test]
+fn a_stop_before_the_last_write_leaves_a_wrong_size(rt: HostRuntime) -> Result<(), Fail> {
+    for writes in 0..u64::from(DIRECTORY) {
+        let device = stopped(rt.alloc(), writes)?;
+        assert_eq!(rt; fault_of(rt.alloc(), device)?, 1, "{writes}");
+    }
+    let device = stopped(rt.alloc(), u64::from(DIRECTORY))?;
+    assert_eq!(rt; fault_of(rt.alloc(), device)?, 0);
     Ok(())
 }
 

@@ -1,5 +1,5 @@
 -- A fresh volume is accepted, and has one empty area.
-use Rattle.std.proofs.Common.{◌≡◌, inl, inr, ⊎_elim, ℕ, ◌+◌, ◌*◌, ◌/◌, ◌%◌, ◌<◌, ◌≤◌, true, false, List, [], ◌∷◌, ◌++◌, length, get_or, map, slice_index, Some, refl, sym, ◌∙◌, ap, subst, arith, Result, Ok, Err, OnErr}
+use Rattle.std.proofs.Common.{◌≡◌, ◌⊎◌, inl, inr, ⊎_elim, ℕ, ◌+◌, ◌*◌, ◌/◌, ◌%◌, ◌<◌, ◌≤◌, true, false, List, [], ◌∷◌, ◌++◌, length, get_or, map, slice_index, Some, refl, sym, ◌∙◌, ap, subst, arith, Result, Ok, Err, OnErr}
 use Rattle.std.specs.Prelude.{slice_set}
 use Rattle.std.specs.List.{slice_get}
 use Rattle.std.proofs.lemmas.Bool.{cases_eq}
@@ -11,11 +11,11 @@ use Rattle.f11_bytes.specs.Block.{zero_block}
 use Rattle.f11_bytes.specs.Words.{word}
 use Rattle.f11_dev.specs.Image.{Image, image_block}
 use Rattle.f11_dev.proofs.ImageLemmas.{image_block-written, image_block-other}
-use Rattle.rt11_volume.specs.Directory.{count_of, next_of, visited, segment_of, is_extra_wrong, are_extra_wrong, end_before}
+use Rattle.rt11_volume.specs.Directory.{count_of, IsSized, next_of, visited, segment_of, is_extra_wrong, are_extra_wrong, end_before}
 use Rattle.rt11_volume.specs.Entry.{status, area_length, is_end, is_one_kind, empty_entry}
 use Rattle.rt11_volume.specs.Verifying.Faults.{IsDirectoryFault, IsHighestBelow, IsHighestAbove}
 use Rattle.rt11_volume.specs.Verifying.Faults.IsDirectoryFault.{links_outside, links_back, extra_wrong, no_end, status_wrong, area_outside, begins_early, highest_wrong}
-use Rattle.rt11_volume.specs.Fresh.{HasRoom, start_of, space_of, fresh_block, IsFreshUpTo, KeepsData, IsFreshStore}
+use Rattle.rt11_volume.specs.Fresh.{HasRoom, start_of, space_of, fresh_block, IsFreshDirectory, MayStand, IsFreshStore}
 use Rattle.rt11_volume.specs.Segment.{segment_words, words_of, extra_bytes, entry_place, entry_words, entries, HasEnd, area_start}
 use Rattle.rt11_volume.specs.Store.{rt_store_of}
 use Rattle.rt11_volume.specs.Verifying.Verdict.{IsRtFault, IsRtAccepted}
@@ -24,30 +24,56 @@ use Rattle.rt11_volume.proofs.Rewriting.Entries.{entries-count, entries-at, entr
 use Rattle.rt11_volume.proofs.Walking.Visit.{visited-one}
 use Rattle.rt11_volume.proofs.Rewriting.Words.{words_of-low}
 
--- no block was written yet but the first
-pub IsFreshUpTo-first : (n : ℕ) (old now : Image) → 6 < length old → now ≡ slice_set old 6 (fresh_block n (length old)) → IsFreshUpTo n 7 old now
-IsFreshUpTo-first n old now within is = subst (IsFreshUpTo n 7 old) (sym is) record {
-  size = length-set old 6 (fresh_block n (length old));
-  first = image_block-written old 6 (fresh_block n (length old)) within;
-  rest = λ lbn low high. absurd (omega arith);
-  others = λ lbn place. image_block-other old 6 lbn (fresh_block n (length old)) (λ same. ⊎_elim (λ before. omega (arith, before)) (λ behind. omega (arith, behind)) place);
-}
+-- The blocks of the directory behind its first, up to one, are zeros, and all others are as they were.
+pub record ClearsUpTo (upto : ℕ) (old new : Image) : Type 0 where
+  pub size : length new ≡ length old
+  pub rest : (lbn : ℕ) → 6 < lbn → lbn < upto → image_block new lbn ≡ zero_block
+  pub others : (lbn : ℕ) → (lbn < 7) ⊎ (upto ≤ lbn) → image_block new lbn ≡ image_block old lbn
+
+pub ClearsUpTo-none : (image : Image) → ClearsUpTo 7 image image
+ClearsUpTo-none image = record { size = refl; rest = λ lbn low high. absurd (omega arith); others = λ lbn place. refl }
 
 -- one block more
-pub IsFreshUpTo-more : (n upto : ℕ) (old now next : Image) → 7 ≤ upto → upto < length old → next ≡ slice_set now upto zero_block → IsFreshUpTo n upto old now → IsFreshUpTo n (upto + 1) old next
-IsFreshUpTo-more n upto old now next low within is fresh = subst (IsFreshUpTo n (upto + 1) old) (sym is) record {
-  size = length-set now upto zero_block ∙ fresh.size;
-  first = image_block-other now upto 6 zero_block (λ same. omega (arith, same)) ∙ fresh.first;
+pub ClearsUpTo-more : (upto : ℕ) (old now next : Image) → 7 ≤ upto → upto < length old → next ≡ slice_set now upto zero_block
+    → ClearsUpTo upto old now → ClearsUpTo (upto + 1) old next
+ClearsUpTo-more upto old now next low within is clears = subst (ClearsUpTo (upto + 1) old) (sym is) record {
+  size = length-set now upto zero_block ∙ clears.size;
   rest = λ lbn above below. elim (cases_eq lbn upto) [
-    | inl same ↦ ap (image_block (slice_set now upto zero_block)) same ∙ image_block-written now upto zero_block (omega (arith, fresh.size))
-    | inr apart ↦ image_block-other now upto lbn zero_block apart ∙ fresh.rest lbn above (omega arith)
+    | inl same ↦ ap (image_block (slice_set now upto zero_block)) same ∙ image_block-written now upto zero_block (omega
+        (arith, clears.size))
+    | inr apart ↦ image_block-other now upto lbn zero_block apart ∙ clears.rest lbn above (omega arith)
   ];
   others = λ lbn place. image_block-other now upto lbn zero_block (λ same. ⊎_elim (λ before. omega (arith, before)) (λ behind. omega (arith, behind)) place)
-      ∙ fresh.others lbn (⊎_elim (λ before. inl before) (λ behind. inr (omega (arith, behind))) place);
+      ∙ clears.others lbn (⊎_elim (λ before. inl before) (λ behind. inr (omega (arith, behind))) place);
 }
 
-pub KeepsData-upto : (n upto : ℕ) (old now : Image) → upto ≤ start_of n → IsFreshUpTo n upto old now → KeepsData n old now
-KeepsData-upto n upto old now low fresh = λ lbn place. fresh.others lbn (⊎_elim (λ before. inl before) (λ behind. inr (omega (arith, behind))) place)
+-- and then the first
+pub ClearsUpTo-first : (n : ℕ) (old now : Image) → 0 < n → 6 < length old → ClearsUpTo (start_of n) old now → IsFreshDirectory n old
+    (slice_set now 6 (fresh_block n (length old)))
+ClearsUpTo-first n old now some within clears = record {
+  size = length-set now 6 (fresh_block n (length old)) ∙ clears.size;
+  first = image_block-written now 6 (fresh_block n (length old)) (omega (arith, clears.size));
+  rest = λ lbn above below. image_block-other now 6 lbn (fresh_block n (length old)) (λ same. omega (arith, same))
+      ∙ clears.rest lbn above below;
+  others = λ lbn place. image_block-other now 6 lbn (fresh_block n (length old)) (λ same. ⊎_elim (λ before. omega (arith, before))
+      (λ behind. omega (arith, behind)) place)
+      ∙ clears.others lbn (⊎_elim (λ before. inl (omega (arith, before))) (λ behind. inr behind) place);
+}
+
+-- what stands when a block behind the first was written
+pub MayStand-cleared : (n upto : ℕ) (old now : Image) (block : List ℕ) → 7 ≤ upto → upto < start_of n → ClearsUpTo upto old now
+    → MayStand n old (slice_set now upto block)
+MayStand-cleared n upto old now block low high clears = record {
+  size = length-set now upto block ∙ clears.size;
+  keeps = λ lbn place. image_block-other now upto lbn block (λ same. ⊎_elim (λ before. omega (arith, before)) (λ behind. omega
+      (arith, behind)) place)
+      ∙ clears.others lbn (⊎_elim (λ before. inl (omega (arith, before))) (λ behind. inr (omega (arith, behind))) place);
+  first = inl (image_block-other now upto 6 block (λ same. omega (arith, same)) ∙ clears.others 6 (inl (omega arith)));
+}
+
+-- and when the first was
+pub MayStand-made : (n : ℕ) (old new : Image) → IsFreshDirectory n old new → MayStand n old new
+MayStand-made n old new fresh = record { size = fresh.size; keeps = fresh.others; first = inr fresh }
 
 -- What the words of segment 1 of a fresh directory are.
 record HasFreshWords (n space : ℕ) (s : List ℕ) : Type 0 where
@@ -97,7 +123,7 @@ record IsFresh (n space : ℕ) (image : Image) : Type 0 where
   pub visits : visited image ≡ 1 ∷ []
   pub one : length (segment_of image 1).entries ≡ 1
 
-is_fresh : (n : ℕ) (old new : Image) → IsFreshUpTo n (start_of n) old new → IsFresh n (space_of n (length old)) new
+is_fresh : (n : ℕ) (old new : Image) → IsFreshDirectory n old new → IsFresh n (space_of n (length old)) new
 unfolding segment_words
 is_fresh n old new fresh =
     let words : HasFreshWords n (space_of n (length old)) (words_of (image_block new 6 ++ image_block new 7)) =
@@ -133,17 +159,6 @@ only_first image place k visits is =
 pub OnErr-given : {T E : Type 0} (r : Result T E) (X : Type 0) → X → OnErr r X
 OnErr-given (Ok y) X x = tt
 OnErr-given (Err e) X x = x
-
--- a written block leaves all but the directory
-KeepsData-write : (n upto : ℕ) (old now : Image) (block : List ℕ) → 6 ≤ upto → upto < start_of n → KeepsData n old now → KeepsData n old (slice_set now upto block)
-KeepsData-write n upto old now block low high keeps = λ lbn place.
-    image_block-other now upto lbn block (λ same. ⊎_elim (λ before. omega (arith, before)) (λ behind. omega (arith, behind)) place) ∙ keeps lbn place
-
-pub KeepsData-first : (n : ℕ) (old : Image) (block : List ℕ) → 0 < n → KeepsData n old (slice_set old 6 block)
-KeepsData-first n old block some = KeepsData-write n 6 old old block (omega arith) (omega arith) (λ lbn place. refl)
-
-pub KeepsData-more : (n upto : ℕ) (old now : Image) (block : List ℕ) → 6 ≤ upto → upto < start_of n → IsFreshUpTo n upto old now → KeepsData n old (slice_set now upto block)
-KeepsData-more n upto old now block low high fresh = KeepsData-write n upto old now block low high (KeepsData-upto n upto old now (omega arith) fresh)
 
 -- the entry's fields
 fresh_status : (n space : ℕ) (image : Image) → IsFresh n space image → status (get_or (segment_of image 1).entries 0 []) ≡ 512
@@ -205,7 +220,7 @@ fresh_sound n blocks image room size fresh _ _ _ (highest_wrong none wrong) = �
     (λ (above : IsHighestAbove image). omega (arith, above, fresh.words.highest, fresh.words.count, room.some)) wrong
 
 -- so the image is accepted
-pub fresh_accepted : (n : ℕ) (old new : Image) → HasRoom n (length old) → IsFreshUpTo n (start_of n) old new → IsRtAccepted new
+pub fresh_accepted : (n : ℕ) (old new : Image) → HasRoom n (length old) → IsFreshDirectory n old new → IsRtAccepted new
 fresh_accepted n old new room written = λ code a b fault. judge code a b fault
   where
     fresh : IsFresh n (space_of n (length old)) new
@@ -257,7 +272,8 @@ fresh_entry_is n space image fresh =
     one_entry (segment_of image 1).entries fresh.one ∙ ap (λ (w : List ℕ). w ∷ []) words
 
 -- and the store has that area alone
-pub fresh_store : (n : ℕ) (old new : Image) → HasRoom n (length old) → IsFreshUpTo n (start_of n) old new → IsFreshStore n (length old) (rt_store_of new)
+pub fresh_store : (n : ℕ) (old new : Image) → HasRoom n (length old) → IsFreshDirectory n old new → IsFreshStore n (length old)
+    (rt_store_of new)
 unfolding rt_store_of
 fresh_store n old new room written =
     let fresh = is_fresh n old new written in
@@ -267,4 +283,22 @@ fresh_store n old new room written =
       extra = fresh.words.extra;
       one_area = ap (map (segment_of new)) fresh.visits
           ∙ (λ i. record { number = 1; first = fresh.words.first i; entries = fresh_entry_is n (space_of n (length old)) new fresh i } ∷ []);
+    }
+
+-- how many segments there are stands in the first block
+count_of-first : (image : Image) → length (image_block image 6) ≡ 512 → count_of image ≡ word (image_block image 6) 0
+unfolding segment_words
+count_of-first image size = words_of-low (image_block image 6) (image_block image 7) 0 size (omega arith)
+
+-- so a directory of a wrong size is one while its first block stays
+pub unsized-kept : (old new : Image) → length (image_block old 6) ≡ 512 → length new ≡ length old
+    → image_block new 6 ≡ image_block old 6 → ¬ IsSized old → ¬ IsSized new
+unsized-kept old new whole size same unsized sized =
+    let count : count_of new ≡ count_of old =
+    count_of-first new (ap (λ (b : List ℕ). length b) same ∙ whole) ∙ ap (λ (b : List ℕ). word b 0) same ∙ sym (count_of-first old whole) in
+    unsized record {
+      some = omega (arith, count, sized.some);
+      few = omega (arith, count, sized.few);
+      within = omega
+          (arith, count, size, sized.within);
     }

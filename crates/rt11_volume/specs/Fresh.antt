@@ -33,25 +33,33 @@ unfoldable pub fresh_block : ℕ → ℕ → List ℕ
 fresh_block segments blocks =
     with_word (with_word (with_word (with_word (with_word (with_word zero_block 0 segments) 4 1) 8 (start_of segments)) 10 512) 18 (space_of segments blocks)) 24 2048
 
--- The image with a fresh directory up to a block: its first block, and zeros behind it. All others are as they were.
-pub record IsFreshUpTo (segments upto : ℕ) (old new : Image) : Type 0 where
+-- The image with a fresh directory: its first block, and zeros behind it. All others are as they were.
+pub record IsFreshDirectory (segments : ℕ) (old new : Image) : Type 0 where
   pub size : length new ≡ length old
   pub first : image_block new 6 ≡ fresh_block segments (length old)
-  pub rest : (lbn : ℕ) → 6 < lbn → lbn < upto → image_block new lbn ≡ zero_block
-  pub others : (lbn : ℕ) → (lbn < 6) ⊎ (upto ≤ lbn) → image_block new lbn ≡ image_block old lbn
+  pub rest : (lbn : ℕ) → 6 < lbn → lbn < start_of segments → image_block new lbn ≡ zero_block
+  pub others : (lbn : ℕ) → (lbn < 6) ⊎ (start_of segments ≤ lbn) → image_block new lbn ≡ image_block old lbn
 
 -- no block but those of the directory is another than it was
 abbrev pub KeepsData : ℕ → Image → Image → Type 0
 KeepsData segments old new = (lbn : ℕ) → (lbn < 6) ⊎ (start_of segments ≤ lbn) → image_block new lbn ≡ image_block old lbn
 
--- A fresh directory was written, each of its blocks once, and nothing else.
-pub record WritesFresh (segments : ℕ) (old new : Disk) : Type 0 where
-  pub fresh : IsFreshUpTo segments (start_of segments) old.image new.image
-  pub went : Went (KeepsData segments old.image) old new (2 * segments) 0
+-- What may stand while a fresh directory is made: no block but those of the directory is another, and its first block, which tells how
+-- many segments there are, is as it was, or else the whole directory is there.
+pub record MayStand (segments : ℕ) (old image : Image) : Type 0 where
+  pub size : length image ≡ length old
+  pub keeps : KeepsData segments old image
+  pub first : (image_block image 6 ≡ image_block old 6) ⊎ IsFreshDirectory segments old image
 
--- A transfer failed; no block but those of the directory is another.
+-- A fresh directory was written, each of its blocks once, and nothing else. Meanwhile its first block was as it had been, until the
+-- whole directory was there.
+pub record WritesFresh (segments : ℕ) (old new : Disk) : Type 0 where
+  pub fresh : IsFreshDirectory segments old.image new.image
+  pub went : Went (MayStand segments old.image) old new (2 * segments) 0
+
+-- A transfer failed.
 abbrev pub FailsToWriteFresh : ℕ → Disk → Disk → Type 0
-FailsToWriteFresh segments old new = Went (KeepsData segments old.image) old new (2 * segments) 1
+FailsToWriteFresh segments old new = Went (MayStand segments old.image) old new (2 * segments) 1
 
 -- what a fresh volume keeps: one segment with one empty area, from the directory's end on
 pub record IsFreshStore (segments blocks : ℕ) (store : RtStore) : Type 0 where

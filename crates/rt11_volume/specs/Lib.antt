@@ -13,3 +13,4 @@ pub mod Refusal
 pub mod Files
 pub mod Listing
 pub mod Rewriting
+pub mod FreshLaws

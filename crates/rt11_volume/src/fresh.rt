@@ -21,7 +21,7 @@ const END_STATUS: u16 = 2048;
 pub enum RtInitError<D> {
     /// The number of segments isn't 1 to 31, or there is no block behind the directory. Nothing was written.
     BadParameter(D),
-    /// A transfer failed, and nothing is known of the directory.
+    /// A transfer failed. The directory's first block is as it was, or the volume is whole.
     DeviceFault(D),
 }
 
@@ -50,7 +50,7 @@ fn fresh_block(segments: u16, blocks: u32) -> Block
     block
 }
 
-/// Writes a fresh directory, each of its blocks once, in ascending order.
+/// Writes a fresh directory, each of its blocks once, the first one last.
 fn write_fresh<D: Device>(device: &mut D, segments: u16) -> Result<(), DeviceFault>
     requires { HasRoom segments (length (D.disk device.old).image) }
     ensures written { OnOk result
@@ -58,17 +58,18 @@ fn write_fresh<D: Device>(device: &mut D, segments: u16) -> Result<(), DeviceFau
     ensures failed { OnErr result
         (FailsToWriteFresh segments (D.disk device.old) (D.disk device.new)) }
 {
-    let first = fresh_block(segments, device.blocks());
-    device.write(FIRST, &first)?;
     let nothing = zeros();
     for lbn in FIRST + 1..FIRST + 2 * u32::from(segments) {
         device.write(lbn, &nothing)?;
     }
+    let first = fresh_block(segments, device.blocks());
+    device.write(FIRST, &first)?;
     Ok(())
 }
 
 /// Makes a fresh volume with so many segments: their blocks alone are written, and all behind them, to the device's end or to
-/// block 65534, is one empty area (profile).
+/// block 65534, is one empty area (profile). The directory's first block, which tells how many segments there are, is written last:
+/// so an image whose directory has a wrong size, as one of zeros, has one at any stop before that write.
 ///
 /// # Errors
 ///

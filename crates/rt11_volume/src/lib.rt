@@ -14,6 +14,7 @@ mod directory;
 mod entry;
 mod files;
 mod fresh;
+pub mod fresh_laws;
 mod list;
 mod lookup;
 mod name;
