@@ -1,5 +1,5 @@
 //! A device in a file.
-ghost use Rattle.std.specs.Prelude.{◌≡◌, ◌*◌, min, ◌≤◌, ◌<◌, ◌^◌, IfOk, Some, codes, length};
+ghost use Rattle.std.specs.Prelude.{◌≡◌, ◌*◌, min, ◌≤◌, ◌<◌, ◌^◌, IfOk, length};
 ghost use Rattle.f11_dev.specs.Disk.{fresh, Reads};
 ghost use Rattle.f11_dev.specs.FileDisk.{disk_of_file, is_file_honest, FileReads, file_reads};
 ghost use Rattle.f11_dev.specs.Image.{IsImage, IsImageOf};
@@ -9,34 +9,44 @@ ghost use Rattle.f11_dev.specs.declared.file_image.TheConstants.{MAX_BLOCKS};
 use crate::outcomes::Outcomes;
 use crate::written::Written;
 use crate::{BLOCK_SIZE, Block, Device, DeviceFault};
-use std::error::Error;
 use std::fs::{Metadata, OpenFile, OpenOptions};
-use std::io::{Seek, SeekFrom};
+use std::io::{self, ErrorKind, Seek, SeekFrom};
 use std::os::unix::fs::{FileExt, FileTypeExt};
 use std::rt::Files;
 use std::snapshot::Snapshot;
-use std::{fmt, io};
+use thiserror::Error;
 
 /// The most blocks of a file that are used: 16,777,216, the blocks that 24 bits can number.
 pub const MAX_BLOCKS: u32 = 1 << 24;
 
-/// A file can't be opened or made.
-#[derive(Clone, Copy, Debug, PartialEq, Eq, Hash)]
-pub struct CannotOpen;
-
-impl fmt::Display for CannotOpen {
-    ghost output = { λ _. Some (codes "cannot open") };
-
-    fn fmt<W: fmt::Write>(&self, f: &mut fmt::Formatter<W>) -> fmt::Result {
-        write!(f, "cannot open")
-    }
+/// Why a file can't be opened or made.
+#[derive(Clone, Copy, Debug, PartialEq, Eq, Hash, Error)]
+pub enum CannotOpen {
+    /// There is none.
+    #[error("no such file")]
+    Missing,
+    /// There is one where one is to be made.
+    #[error("exists already")]
+    Exists,
+    /// Its permissions, or those of a folder on its path, are against it.
+    #[error("permission denied")]
+    Denied,
+    /// What is there is a directory, a pipe, a terminal or the like.
+    #[error("neither a file nor a block device")]
+    NoImage,
+    /// The system refuses for another cause.
+    #[error("cannot be opened")]
+    Refused,
 }
 
-impl Error for CannotOpen {}
-
 impl From<io::Error> for CannotOpen {
-    fn from(_: io::Error) -> Self {
-        CannotOpen
+    fn from(error: io::Error) -> Self {
+        match error.kind() {
+            ErrorKind::NotFound => CannotOpen::Missing,
+            ErrorKind::AlreadyExists => CannotOpen::Exists,
+            ErrorKind::PermissionDenied => CannotOpen::Denied,
+            _ => CannotOpen::Refused,
+        }
     }
 }
 
@@ -67,8 +77,8 @@ impl<F: FileExt + OpenFile + Seek + Drop> FileImage<F> {
     ///
     /// # Errors
     ///
-    /// `CannotOpen` where the system doesn't open it so, and where it is no file or block device: a directory, a pipe, a
-    /// terminal, the null device.
+    /// A [`CannotOpen`] where the system doesn't open it so, and `NoImage` where it is no file or block device: a directory, a pipe,
+    /// a terminal, the null device.
     pub fn open<R: Files<File = F>>(rt: &R, path: &str) -> Result<FileImage<F>, CannotOpen>
         ensures { IfOk result (λ image. IsOpened (file_disk image)) }
     {
@@ -79,7 +89,7 @@ impl<F: FileExt + OpenFile + Seek + Drop> FileImage<F> {
     ///
     /// # Errors
     ///
-    /// `CannotOpen` as for [`FileImage::open`].
+    /// Those of [`FileImage::open`].
     pub fn open_to_read<R: Files<File = F>>(rt: &R, path: &str) -> Result<FileImage<F>, CannotOpen>
         ensures { IfOk result (λ image. IsOpened (file_disk image)) }
     {
@@ -95,15 +105,18 @@ impl<F: FileExt + OpenFile + Seek + Drop> FileImage<F> {
         ensures { IfOk result (λ image. IsOpened (file_disk image)) }
     {
         if !is_image(&rt.metadata(path)?) {
-            return Err(CannotOpen);
+            return Err(CannotOpen::NoImage);
         }
         let mut file = how.open(rt, path)?;
         let blocks = blocks_of(&mut file)?;
         Ok(FileImage::of(file, blocks, Written::earlier(blocks)))
     }
 
-    /// Makes a file of so many blocks of zeros, and refuses where one is there. Where the file is made and
-    /// can't be given its length, it stays, empty.
+    /// Makes a file of so many blocks of zeros. Where the file is made and can't be given its length, it stays, empty.
+    ///
+    /// # Errors
+    ///
+    /// `Exists` where there is one, and else a [`CannotOpen`] where the system doesn't make it, or gives it no such length.
     pub fn create<R: Files<File = F>>(
         rt: &R,
         path: &str,
@@ -201,7 +214,7 @@ fn blocks_of<F: OpenFile + Seek>(file: &mut F) -> Result<u32, CannotOpen>
 {
     let metadata = file.metadata()?;
     if !is_image(&metadata) {
-        return Err(CannotOpen);
+        return Err(CannotOpen::NoImage);
     }
     let bytes = if metadata.is_file() {
         metadata.len()

@@ -15,4 +15,4 @@ mod layout;
 mod params;
 
 pub use layout::{Layout, MOST_BLOCKS};
-pub use params::InitParams;
+pub use params::{InitParams, is_label};

@@ -21,7 +21,7 @@ pub struct InitParams<'a> {
 }
 
 /// Whether the text is a label: 1 to 12 of the characters A to Z and 0 to 9.
-pub(crate) fn is_label(label: &[u8]) -> bool
+pub fn is_label(label: &[u8]) -> bool
     ensures { IsTrue result ↔ IsLabel label.now }
 {
     label.len() > 0 && label.len() <= 12 && are_label_bytes(label)

@@ -9,16 +9,18 @@ mod decimal;
 mod help;
 mod octal;
 mod outcome;
+mod remarks;
 mod words;
 
 use f11_commands::{
     Answer, print_header, print_home, print_init, print_name, print_rights, print_rt_init,
     print_rt_list, print_rt_vfy, print_run, print_vfy, refuse_init,
 };
-use f11_dev::FileImage;
+use f11_dev::{CannotOpen, FileImage};
 use f11_store::Uic;
 use f11_vfy::{InitParams, MOST_BLOCKS};
 use outcome::{Failure, status};
+use remarks::{Remark, Why};
 use std::env;
 use std::fs::File;
 use std::io::{self, BufWriter, ErrorKind, Write};
@@ -33,12 +35,13 @@ const OWNER: Uic = Uic {
 
 fn main(rt: HostRuntime) -> ExitCode {
     let outcome = match Start::new(&rt) {
-        Ok(start) => told(
-            &rt,
-            answer(&rt, start.words.as_slice()),
-            start.words.as_slice(),
-        ),
-        Err(failure) => told(&rt, Err(failure), &[]),
+        Ok(start) => {
+            let mut remark = None;
+            let outcome = answer(&rt, start.words.as_slice(), &mut remark);
+            told(&rt, outcome, start.words.as_slice(), remark)
+        }
+        Err(Failure::Usage) => told(&rt, Err(Failure::Usage), &[], Some(remarks::NO_TEXT)),
+        Err(failure) => told(&rt, Err(failure), &[], None),
     };
     ExitCode::from(status(outcome))
 }
@@ -65,11 +68,13 @@ fn null(rt: &HostRuntime) -> Result<File, Failure> {
     File::open(rt, "/dev/null").map_err(|_| Failure::CannotOpen)
 }
 
-/// Says on standard error why the work isn't done, and at wrong words the words of the command that was meant.
+/// Says on standard error why the work isn't done, at wrong words the words of the command that was meant, and what there is to say
+/// of a word.
 fn told(
     rt: &HostRuntime,
     outcome: Result<Answer, Failure>,
     words: &[String],
+    remark: Option<Remark<'_>>,
 ) -> Result<Answer, Failure> {
     if let Err(failure) = outcome {
         let _ = eprintln!(rt; "{failure}");
@@ -80,12 +85,19 @@ fn told(
             let _ = eprintln!(rt; "{meant}");
         }
     }
+    if let Some(remark) = remark {
+        let _ = eprintln!(rt; "{remark}");
+    }
     outcome
 }
 
 /// Does what the words ask for. Standard output is written in pieces of 8 KiB, the last one here; a failure of the work is told
 /// rather than one of that last piece.
-fn answer(rt: &HostRuntime, words: &[String]) -> Result<Answer, Failure> {
+fn answer<'a>(
+    rt: &HostRuntime,
+    words: &'a [String],
+    remark: &mut Option<Remark<'a>>,
+) -> Result<Answer, Failure> {
     let mut writer = BufWriter::new(rt.alloc(), io::writer(rt)).map_err(failure_of)?;
     let outcome = if help::is_asked(words) {
         help::write_all(&mut writer)
@@ -96,7 +108,10 @@ fn answer(rt: &HostRuntime, words: &[String]) -> Result<Answer, Failure> {
             .map_err(Failure::from)
             .and(Ok(Answer::Done))
     } else {
-        words::parse(rt.alloc(), words).and_then(|words| run(rt, words, &mut writer))
+        match words::parse(rt.alloc(), words) {
+            Ok(asked) => run(rt, asked, &mut writer, remark),
+            Err(failure) => Err(failure),
+        }
     };
     let written = writer.flush();
     match outcome {
@@ -109,15 +124,23 @@ fn answer(rt: &HostRuntime, words: &[String]) -> Result<Answer, Failure> {
 }
 
 /// Opens the files that the words name, in their order, and does the work.
-fn run<W: Write>(rt: &HostRuntime, words: Words<'_>, writer: &mut W) -> Result<Answer, Failure> {
-    let answer = match words {
-        Words::Dump { image, number } => print_header(
-            rt.alloc(),
-            &mut FileImage::open_to_read(rt, image)?,
-            writer,
-            number,
-        )?,
-        Words::Home { image } => print_home(&mut FileImage::open_to_read(rt, image)?, writer)?,
+fn run<'a, W: Write>(
+    rt: &HostRuntime,
+    words: Words<'a>,
+    writer: &mut W,
+    remark: &mut Option<Remark<'a>>,
+) -> Result<Answer, Failure> {
+    match words {
+        Words::Dump { image, number } => {
+            let mut device = opened(FileImage::open_to_read(rt, image), image, remark)?;
+            let answer = print_header(rt.alloc(), &mut device, writer, number)?;
+            Ok(looked(rt, image, answer, remark))
+        }
+        Words::Home { image } => {
+            let mut device = opened(FileImage::open_to_read(rt, image), image, remark)?;
+            let answer = print_home(&mut device, writer)?;
+            Ok(looked(rt, image, answer, remark))
+        }
         Words::Init {
             image,
             blocks,
@@ -132,62 +155,102 @@ fn run<W: Write>(rt: &HostRuntime, words: Words<'_>, writer: &mut W) -> Result<A
                 owner: OWNER,
                 date: [0; 14],
             };
-            init(rt, image, blocks, &params, writer)?
+            init(rt, image, blocks, &params, writer, remark)
         }
-        Words::Name { text } => print_name(text, writer)?,
+        Words::Name { text } => Ok(print_name(text, writer)?),
         Words::Rights {
             caller,
             owner,
             protection,
-        } => print_rights(caller, owner, protection, writer)?,
+        } => Ok(print_rights(caller, owner, protection, writer)?),
         Words::RtInit {
             image,
             blocks,
             segments,
         } => {
-            let device = FileImage::create(rt, image, u32::from(blocks))?;
-            let (_, answer) = print_rt_init(device, segments, writer);
-            answer?
+            let made = FileImage::create(rt, image, u32::from(blocks));
+            let (_, answer) = print_rt_init(opened(made, image, remark)?, segments, writer);
+            let answer = answer?;
+            if answer == Answer::Fault {
+                *remark = Some(remarks::passed_by_segments(segments));
+            }
+            Ok(answer)
         }
         Words::RtList { image } => {
-            let device = FileImage::open_to_read(rt, image)?;
+            let device = opened(FileImage::open_to_read(rt, image), image, remark)?;
             let (_, answer) = print_rt_list(rt.alloc(), device, writer);
-            answer?
+            Ok(looked(rt, image, answer?, remark))
         }
         Words::RtVfy { image } => {
-            let device = FileImage::open_to_read(rt, image)?;
+            let device = opened(FileImage::open_to_read(rt, image), image, remark)?;
             let (_, answer) = print_rt_vfy(rt.alloc(), device, writer);
-            answer?
+            Ok(looked(rt, image, answer?, remark))
         }
         Words::Run { image, script } => {
-            let device = FileImage::open(rt, image)?;
-            let script = File::open(rt, script).map_err(|_| Failure::CannotOpen)?;
-            let (_, answer) = print_run(rt.alloc(), device, script, writer);
-            answer?
+            let device = opened(FileImage::open(rt, image), image, remark)?;
+            let reader = File::open(rt, script).map_err(CannotOpen::from);
+            let reader = opened(reader, script, remark)?;
+            let (_, answer) = print_run(rt.alloc(), device, reader, writer);
+            Ok(looked(rt, image, answer?, remark))
         }
         Words::Vfy { image } => {
-            let device = FileImage::open_to_read(rt, image)?;
+            let device = opened(FileImage::open_to_read(rt, image), image, remark)?;
             let (_, answer) = print_vfy(rt.alloc(), device, writer);
-            answer?
+            Ok(looked(rt, image, answer?, remark))
         }
-    };
-    Ok(answer)
+    }
+}
+
+/// What was opened under a word, and where nothing could be, a remark why.
+fn opened<'a, T>(
+    file: Result<T, CannotOpen>,
+    word: &'a str,
+    remark: &mut Option<Remark<'a>>,
+) -> Result<T, Failure> {
+    match file {
+        Ok(file) => Ok(file),
+        Err(why) => {
+            *remark = Some(Remark {
+                word,
+                why: Why::CannotOpen(why),
+            });
+            Err(Failure::CannotOpen)
+        }
+    }
+}
+
+/// The answer of a command on an image, and a remark on its file where there is one.
+fn looked<'a>(
+    rt: &HostRuntime,
+    image: &'a str,
+    answer: Answer,
+    remark: &mut Option<Remark<'a>>,
+) -> Answer {
+    *remark = remarks::of_image(rt, image, answer == Answer::Fault);
+    answer
 }
 
 /// Makes an image file of so many blocks with a fresh volume. A file that can't be one is not made; where no volume can be made for
 /// another cause, the file of zeros stays.
-fn init<W: Write>(
+fn init<'a, W: Write>(
     rt: &HostRuntime,
-    image: &str,
+    image: &'a str,
     blocks: u32,
     params: &InitParams<'_>,
     writer: &mut W,
+    remark: &mut Option<Remark<'a>>,
 ) -> Result<Answer, Failure> {
-    if blocks > MOST_BLOCKS {
-        return Ok(refuse_init(writer)?);
+    let answer = if blocks > MOST_BLOCKS {
+        refuse_init(writer)?
+    } else {
+        let made = FileImage::create(rt, image, blocks);
+        let (_, answer) = print_init(opened(made, image, remark)?, writer, params);
+        answer?
+    };
+    if answer == Answer::Fault {
+        *remark = Some(remarks::passed_by(blocks, params));
     }
-    let (_, answer) = print_init(FileImage::create(rt, image, blocks)?, writer, params);
-    Ok(answer?)
+    Ok(answer)
 }
 
 /// Why the words, or room for output, can't be had: a word is no text, or no memory is left.

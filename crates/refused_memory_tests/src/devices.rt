@@ -181,7 +181,7 @@ fn room(alloc: Global) -> Result<String, AllocError> {
 #[test]
 fn errors_say_what_they_are(rt: HostRuntime) -> Result<(), Fail> {
     let mut text = room(rt.alloc())?;
-    write!(text, "{DeviceFault}, {CannotOpen}, {NoMemory}, ")?;
+    write!(text, "{DeviceFault}, {}, {NoMemory}, ", CannotOpen::Exists)?;
     write!(text, "{}, {}, ", HomeFault::NoHome, HomeFault::DeviceFault)?;
     write!(
         text,
@@ -192,7 +192,7 @@ fn errors_say_what_they_are(rt: HostRuntime) -> Result<(), Fail> {
     write!(text, "{BadCharacter}, {BadName}")?;
     assert_eq!(rt;
         text.as_str(),
-        "device fault, cannot open, no memory, no home block, device fault, dead, bad, map full, not a character of Radix-50, bad name"
+        "device fault, exists already, no memory, no home block, device fault, dead, bad, map full, not a character of Radix-50, bad name"
     );
     Ok(())
 }

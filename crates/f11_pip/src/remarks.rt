@@ -1,0 +1,120 @@
+//! What is said on standard error beside the lines that are fixed: which word is meant, and why.
+use f11_dev::{CannotOpen, MAX_BLOCKS};
+use f11_layout::{InitParams, MOST_BLOCKS, is_label};
+use std::fs::{self, File};
+use std::io::Read;
+use thiserror::Error;
+
+/// A word of the command line, and what there is to say of it.
+#[derive(Clone, Copy, Debug, Error)]
+#[error("{word}: {why}")]
+pub struct Remark<'a> {
+    pub word: &'a str,
+    pub why: Why,
+}
+
+/// What there is to say of a word.
+#[derive(Clone, Copy, Debug, Error)]
+pub enum Why {
+    /// No file can be opened, or made, under it.
+    #[error("{0}")]
+    CannotOpen(CannotOpen),
+    /// It isn't text.
+    #[error("not UTF-8")]
+    NotText,
+    /// No volume can be made with it: within which limits it has to be.
+    #[error("{0}")]
+    Limit(&'static str),
+    /// Its file begins as that of another program does, which packs what it keeps.
+    #[error("not a raw image")]
+    NotRaw,
+    /// Its file has so many bytes behind the last whole block.
+    #[error("length not a multiple of 512 bytes, the rest of {0} is left out")]
+    Remainder(u64),
+    /// Its file is longer than an image can be.
+    #[error("longer than 16777216 blocks, the rest is left out")]
+    TooLong,
+}
+
+/// What is said where the words can't be read.
+pub const NO_TEXT: Remark<'static> = Remark {
+    word: "a word",
+    why: Why::NotText,
+};
+
+/// The limit of `init` that a parameter passed, where no volume of so many blocks can be made with these.
+pub fn passed_by(blocks: u32, params: &InitParams<'_>) -> Remark<'static> {
+    if blocks > MOST_BLOCKS {
+        limit("--blocks", "at most 516096")
+    } else if params.slots < 16 || params.slots > 16_000 {
+        limit("--slots", "16 to 16000")
+    } else if params.max_files < params.slots || params.max_files > 65_500 {
+        limit("--max", "as many as slots, to 65500")
+    } else if !is_label(params.label) {
+        limit("--label", "1 to 12 characters A to Z and 0 to 9")
+    } else {
+        limit("--blocks", "too few for so many slots")
+    }
+}
+
+/// The limit of `rt-init` that a parameter passed, where no volume can be made with so many segments.
+pub fn passed_by_segments(segments: u16) -> Remark<'static> {
+    if segments < 1 || segments > 31 {
+        limit("--segments", "1 to 31")
+    } else {
+        limit("--blocks", "at least 7, and two more for each segment")
+    }
+}
+
+fn limit(word: &'static str, limit: &'static str) -> Remark<'static> {
+    Remark {
+        word,
+        why: Why::Limit(limit),
+    }
+}
+
+/// What there is to say of the file that a word names as an image: that it isn't one, which is asked where a fault was found,
+/// or that not all of it is read.
+pub fn of_image<'a>(rt: &HostRuntime, word: &'a str, is_faulty: bool) -> Option<Remark<'a>> {
+    let metadata = fs::metadata(rt, word).ok()?;
+    if !metadata.is_file() {
+        return None;
+    }
+    let why = if is_faulty && is_packed(beginning(rt, word)) {
+        Some(Why::NotRaw)
+    } else {
+        of_length(metadata.len())
+    };
+    why.map(|why| Remark { word, why })
+}
+
+/// The first bytes of a file, zeros where it has fewer or can't be read.
+fn beginning(rt: &HostRuntime, word: &str) -> [u8; 4] {
+    let mut bytes = [0; 4];
+    if let Ok(mut file) = File::open(rt, word) {
+        let _ = file.read(&mut bytes);
+    }
+    bytes
+}
+
+/// Whether a file that begins so is one of gzip, of ImageDisk, or of TeleDisk.
+fn is_packed(bytes: [u8; 4]) -> bool {
+    match bytes {
+        [0x1f, 0x8b, ..] => true,
+        [b'I', b'M', b'D', b' '] => true,
+        [b'T', b'D', ..] => true,
+        [b't', b'd', ..] => true,
+        _ => false,
+    }
+}
+
+/// What there is to say of a file of so many bytes.
+fn of_length(bytes: u64) -> Option<Why> {
+    if bytes / 512 > u64::from(MAX_BLOCKS) {
+        Some(Why::TooLong)
+    } else if bytes % 512 != 0 {
+        Some(Why::Remainder(bytes % 512))
+    } else {
+        None
+    }
+}
