@@ -1,8 +1,8 @@
 //! The program: `f11_pip COMMAND ..` works on Files-11 volumes in image files.
 //!
 //! [`main`] reads the words, opens the files in their order, calls the command's function of [`f11_commands`], and ends with
-//! the [`status`] of the outcome. The crate stands on [`f11_dev`], for images, on [`f11_rad50`] and [`f11_store`], for
-//! what words spell, and on [`clap`], for the words.
+//! the [`status`] of the outcome. The crate stands on [`f11_commands`], on [`f11_dev`], for images, on [`f11_store`], for what words
+//! spell, and on [`clap`], for the words.
 #![tactic(auto)]
 
 mod decimal;
