@@ -9,7 +9,7 @@ struct Synopsis {
 }
 
 /// The program's name and version, and what it was proved and built with.
-const VERSION: &str = "f11_pip 0.1, proved and built with rattle-kit-13f";
+const VERSION: &str = "f11_pip 0.1, proved and built with rattle-kit-13b";
 
 const COMMANDS: [Synopsis; 10] = [
     Synopsis {
