@@ -12,6 +12,7 @@ mod GrowIndexLemmas
 mod HandleLemmas
 mod KnownLemmas
 pub mod ListLemmas
+mod LengthLemmas
 mod LookLemmas
 mod MarkLemmas
 mod NamedLemmas

@@ -3,6 +3,7 @@ pub mod Directories
 pub mod Entries
 pub mod Handles
 pub mod Laws
+pub mod Lengths
 pub mod Lists
 pub mod Mounting
 pub mod Places

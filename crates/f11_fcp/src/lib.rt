@@ -22,6 +22,7 @@ mod extend;
 mod find;
 mod grow_index;
 pub mod laws;
+mod length;
 mod list;
 mod look;
 mod purpose;
