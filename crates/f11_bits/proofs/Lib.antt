@@ -1,3 +1,5 @@
+pub mod LaneLemmas
+pub mod BlockLaneLemmas
 pub mod BitLemmas
 pub mod CountLemmas
 pub mod BitmapLemmas

@@ -1,5 +1,6 @@
 -- The storage bitmap (Files-11 On-Disk Structure Level 1, "Storage Bitmap File"): the set of a volume's free blocks.
-use Rattle.std.specs.Prelude.{◌≡◌, ◌≢◌, ◌⊎◌, ℕ, zero, suc, ◌+◌, ◌*◌, ◌/◌, ◌%◌, ◌<◌, ◌≤◌, Bool, ◌&&◌, nat_lt, if◌then◌else◌, List, length, slice_index}
+use Rattle.std.specs.Prelude.{◌≡◌, ◌≢◌, ◌⊎◌, ℕ, zero, suc, ◌+◌, ◌*◌, ◌/◌, ◌%◌, ◌<◌, ◌≤◌, Bool, ◌&&◌}
+use Rattle.std.specs.Prelude.{nat_lt, if◌then◌else◌, List, length, slice_index}
 use Rattle.std.specs.List.{slice_get}
 use Rattle.f11_bytes.specs.Bits.{bit}
 use Rattle.f11_dev.specs.Image.{Image, image_block}
@@ -13,7 +14,8 @@ pub record Bitmap : Type 0 where
 pub record IsBitmap (bitmap : Bitmap) : Type 0 where
   pub some : 0 < length bitmap.places
   pub few : length bitmap.places ≤ 126
-  pub apart : (i j : ℕ) → i < length bitmap.places → j < length bitmap.places → slice_index bitmap.places i ≡ slice_index bitmap.places j → i ≡ j
+  pub apart : (i j : ℕ) → i < length bitmap.places → j < length bitmap.places → slice_index bitmap.places i ≡ slice_index bitmap.places j →
+      i ≡ j
   pub sized : 0 < bitmap.size
   pub covered : bitmap.size ≤ 4096 * length bitmap.places
 
@@ -45,7 +47,8 @@ pub record KeepsOthers (bitmap : Bitmap) (old new : Image) : Type 0 where
 
 -- each block of the bitmap stays
 abbrev pub KeepsBitmap : Bitmap → Image → Image → Type 0
-KeepsBitmap bitmap old new = (i : ℕ) → i < length bitmap.places → slice_get new (slice_index bitmap.places i) ≡ slice_get old (slice_index bitmap.places i)
+KeepsBitmap bitmap old new = (i : ℕ) → i < length bitmap.places →
+    slice_get new (slice_index bitmap.places i) ≡ slice_get old (slice_index bitmap.places i)
 
 -- count blocks of the volume from lbn on were marked free (or used), and no other: bits past the size stay too
 pub record Marks (free : Bool) (bitmap : Bitmap) (lbn count : ℕ) (old new : Image) : Type 0 where

@@ -1,6 +1,7 @@
 pub mod Bitmap
 pub mod Run
 pub mod Bits
+pub mod Lanes
 pub mod Storage
 pub mod Transfers
 pub mod Changes

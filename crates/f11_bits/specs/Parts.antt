@@ -67,8 +67,8 @@ pub record FindsRun (bitmap : Bitmap) (from most lbn here beyond : ℕ) (block n
   pub looked : Looked old new (blocks_to bitmap from (lbn + here + beyond)) 0
 
 -- A transfer failed, one of at most one a bitmap block from that of block `from` on.
-abbrev pub FailsToFind : Bitmap → ℕ → Disk → Disk → Type 0
-FailsToFind bitmap from old new = Looked old new (blocks_from bitmap from) 1
+abbrev pub FailsToFindPart : Bitmap → ℕ → Disk → Disk → Type 0
+FailsToFindPart bitmap from old new = Looked old new (blocks_from bitmap from) 1
 
 -- A transfer failed, one of at most one.
 abbrev pub FailsToFindRest : Bitmap → ℕ → Disk → Disk → Type 0

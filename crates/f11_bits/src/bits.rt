@@ -7,8 +7,10 @@ ghost use Rattle.f11_bits.specs.Bitmap.{count_below};
 ghost use Rattle.f11_bits.specs.Bits.{bit_below, IsFirstSet, NoneWithin};
 ghost use Rattle.f11_bits.specs.Run.{IsFirstRun, NoneFrom};
 
+use crate::lanes::{LANES, bytes_at, ones, sum, words_at};
 use byteorder::{ByteOrder, LittleEndian};
-use f11_bytes::{Block, is_set, set_bit, sum_words};
+use f11_bytes::{BLOCK_SIZE, Block, is_set, read_word, set_bit};
+use std::simd::prelude::*;
 
 /// How many bits a block has.
 pub const BITS: u32 = 4096;
@@ -16,11 +18,15 @@ pub const BITS: u32 = 4096;
 /// How many blocks the longest run has.
 pub const LONGEST: u32 = 256;
 
-/// The number of 1 bits of a block.
+/// The number of 1 bits of a block, 64 bytes at once.
 pub fn count_free(block: &Block) -> u32
     ensures { result ≡ count_below (bit block.now) 4096 }
 {
-    count_free_below(block, BITS)
+    let mut count = 0;
+    for i in 0..BLOCK_SIZE / LANES {
+        count += ones(bytes_at(block, i));
+    }
+    count
 }
 
 /// The first run of 1 bits at or above bit `from`, at most 256 and at most `most` of them: its first bit and
@@ -36,14 +42,39 @@ pub fn first_run(block: &Block, from: u32, most: u32) -> Option<(u32, u32)>
     }
 }
 
-/// The first bit at or above `from` that is 1. Eight bytes of zeros are passed over at once.
+/// The first bit at or above `from` that is 1. 64 bytes of zeros are passed over at once, and then eight.
 fn first_set(block: &Block, from: u32) -> Option<u32>
     ensures { MatchOption result (NoneFrom (bit_below block.now 4096) from)
         (λ k. IsFirstSet (bit_below block.now 4096) from 4096 k) }
 {
-    for eight in from / 64..BITS / 64 {
+    for part in from / 512..BITS / 512 {
+        if has_ones(block, part)
+            && let Some(k) = first_set_by_eights(block, from.max(512 * part), 8 * part + 8)
+        {
+            return Some(k);
+        }
+    }
+    None
+}
+
+/// Whether any of the 64 bytes from byte `64 * i` on isn't 0: where none is, none of their bits is 1.
+fn has_ones(block: &Block, i: u32) -> bool
+    requires { i < 8 }
+    ensures { result ≡ false → NoneWithin (bit block.now) (512 * i) (512 * i + 512) }
+{
+    let lanes = bytes_at(block, i as usize);
+    lanes.simd_ne(u8x64::splat(0)).to_bitmask() != 0
+}
+
+/// The first bit from `start` on, before bit `64 * end`, that is 1.
+fn first_set_by_eights(block: &Block, start: u32, end: u32) -> Option<u32>
+    requires { end ≤ 64 }
+    ensures { MatchOption result (NoneWithin (bit_below block.now 4096) start (64 * end))
+        (λ k. IsFirstSet (bit_below block.now 4096) start (64 * end) k) }
+{
+    for eight in start / 64..end {
         if eight_bytes(block, eight) != 0
-            && let Some(k) = first_set_in(block, from.max(64 * eight), 64 * eight + 64)
+            && let Some(k) = first_set_in(block, start.max(64 * eight), 64 * eight + 64)
         {
             return Some(k);
         }
@@ -73,11 +104,15 @@ fn first_set_in(block: &Block, start: u32, end: u32) -> Option<u32>
     None
 }
 
-/// The sum of the first 255 words, modulo 65536.
+/// The sum of the first 255 words, modulo 65536: that of all, 16 at once, less the last.
 pub fn word_sum(block: &Block) -> u16
     ensures { result ≡ sum_of_words block.now 255 }
 {
-    sum_words(block, 255)
+    let mut sums = u16x16::splat(0);
+    for i in 0..16 {
+        sums += words_at(block, i);
+    }
+    sum(sums).wrapping_sub(read_word(block, BLOCK_SIZE - 2))
 }
 
 /// The number of 1 bits below bit `end`: those of a whole block by [`count_free`].

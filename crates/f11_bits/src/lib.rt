@@ -7,10 +7,12 @@
 #![tactic(auto)]
 
 mod bits;
+mod lanes;
 pub mod laws;
 mod replace;
 mod storage;
 
 pub use bits::{count_free, first_run, word_sum};
+pub use lanes::{ones, sum};
 pub use replace::replace_free;
 pub use storage::{MAX_PLACES, Storage};

@@ -40,7 +40,7 @@ impl Storage {
     ghost use Rattle.f11_dev.specs.Image.{Image};
     ghost use Rattle.f11_bits.specs.Bitmap.{free_blocks};
     ghost use Rattle.f11_bits.specs.Calls.{MarksOnDisk, FailsToMark, Gives, FailsToGive, Takes, FindsNone, FailsToTake};
-    ghost use Rattle.f11_bits.specs.Parts.{IsPart, HasBitOf, HasBits, FindsPart, FindsRest, FindsRun, FailsToFind, FailsToFindRest};
+    ghost use Rattle.f11_bits.specs.Parts.{IsPart, HasBitOf, HasBits, FindsPart, FindsRest, FindsRun, FailsToFindPart, FailsToFindRest};
     ghost use Rattle.f11_bits.specs.Storage.{bitmap_of, count_of, Keeps, IsFor, Loads};
     ghost use Rattle.f11_bits.specs.Transfers.{blocks_touched};
 
@@ -177,7 +177,7 @@ impl Storage {
         ensures none { IfOk result (λ answer. IfNone answer
             (FindsNone (bitmap_of self.now) from (D.disk device.old) (D.disk device.new))) }
         ensures failed { OnErr result
-            (FailsToFind (bitmap_of self.now) from (D.disk device.old) (D.disk device.new)) }
+            (FailsToFindPart (bitmap_of self.now) from (D.disk device.old) (D.disk device.new)) }
     {
         let most = most.min(LONGEST);
         let Some((lbn, here)) = self.find_part(device, from, most, block)? else {
@@ -204,7 +204,7 @@ impl Storage {
         ensures none { IfOk result (λ answer. IfNone answer
             (FindsNone (bitmap_of self.now) from (D.disk device.old) (D.disk device.new))) }
         ensures failed { OnErr result
-            (FailsToFind (bitmap_of self.now) from (D.disk device.old) (D.disk device.new)) }
+            (FailsToFindPart (bitmap_of self.now) from (D.disk device.old) (D.disk device.new)) }
     {
         for index in from / BITS..self.size.div_ceil(BITS) {
             device.read(self.place(index), block)?;

@@ -19,7 +19,7 @@ use Rattle.f11_index.specs.Table.{Table, table_in, IsLive, IsNext, IsHeaderOf, I
 use Rattle.f11_index.proofs.InUseLemmas.{in_use-some}
 use Rattle.f11_index.proofs.HeadersLemmas.{Comes-first, Comes-count, Comes-count-next, last-ends, last-whole}
 use Rattle.f11_chain.specs.FileHeaders.{blocks_by, file_blocks, block_by_vbn}
-use Rattle.f11_chain.specs.Calls.{table, HoldsHeader, HoldsFirst, ReadsFirst, FindsNoFile, ReadsNext, FindsLast, FindsWrongLink, IsNextOf, FailsToReadNext, next_reads, LooksAlong, FailsAlong, FindsBreak, FindsDamage, ReadsLast, Locates, Seeks, FindsEnd}
+use Rattle.f11_chain.specs.Calls.{table, HoldsHeader, HoldsFirst, ReadsFirst, FindsNoFile, ReadsNext, FindsLast, FindsWrongLink, IsNextOf, FailsToReadNext, next_reads, LooksAlongFile, FailsAlong, FindsBreak, FindsDamage, ReadsLast, Locates, Seeks, FindsEnd}
 use Rattle.f11_chain.specs.declared.blocks.FileEnd.{FileEnd}
 use Rattle.f11_chain.specs.declared.blocks.Place.{Place}
 use Rattle.f11_chain.proofs.StepLemmas.{table-in_use, wrong-link}
@@ -94,7 +94,7 @@ Along-in-hand index n block disk holds = record {
 }
 
 -- it wasn't one of a file, or couldn't be read
-first-looked : (index : Index) (n : ℕ) (old new : Disk) (faults : ℕ) → 0 < n → Looked old new 1 faults → LooksAlong index n 0 old new faults
+first-looked : (index : Index) (n : ℕ) (old new : Disk) (faults : ℕ) → 0 < n → Looked old new 1 faults → LooksAlongFile index n 0 old new faults
 first-looked index n old new faults some looked = record {
   headers = 1;
   few = omega arith;
@@ -123,7 +123,7 @@ module _ (index : Index) (n : ℕ) (block : List ℕ) (old now : Disk) (reads : 
   pub honest-now : IsTrue old.honest → IsTrue now.honest
   honest-now = honest-stays index old now 1 reads.looked
 
-  abbrev pub along-behind : (new : Disk) (faults : ℕ) → LooksAlong index n 1 now new faults → LooksAlong index n 0 old new faults
+  abbrev pub along-behind : (new : Disk) (faults : ℕ) → LooksAlongFile index n 1 now new faults → LooksAlongFile index n 0 old new faults
   along-behind new faults looks = record {
     headers = 1 + looks.headers;
     few = omega (arith, looks.few);
@@ -217,7 +217,7 @@ module _ {in_hand : ℕ} (index : Index) (n m k : ℕ) (behind : List ℕ) (bloc
   block-is honest = along.header.block_is honest
 
   -- the headers read so far
-  abbrev pub along-looked : LooksAlong index n in_hand old now 0
+  abbrev pub along-looked : LooksAlongFile index n in_hand old now 0
   along-looked = record {
     headers = along.reads;
     few = omega (arith, along.few, along.count);
@@ -226,7 +226,7 @@ module _ {in_hand : ℕ} (index : Index) (n m k : ℕ) (behind : List ℕ) (bloc
   }
 
   -- and those read for the next one, where there is a link
-  pub along-more : (new : Disk) (faults : ℕ) → (IsTrue old.honest → (link_of block).number ≢ 0) → Looked now new (next_reads block) faults → LooksAlong index n in_hand old new faults
+  pub along-more : (new : Disk) (faults : ℕ) → (IsTrue old.honest → (link_of block).number ≢ 0) → Looked now new (next_reads block) faults → LooksAlongFile index n in_hand old new faults
   along-more new faults link looked = record {
     headers = along.reads + next_reads block;
     few = omega (arith, along.few, along.segment, along.count);

@@ -6,7 +6,7 @@ use Rattle.f11_dev.specs.Image.{Image, image_block}
 use Rattle.f11_index.specs.Home.{HomeFields}
 use Rattle.f11_map.specs.HeaderBlock.{blocks_named}
 use Rattle.f11_index.specs.Headers.{headers_from}
-use Rattle.f11_index.specs.IndexFile.{index_file, blocks_on, header_place, header_among, first_header_lbn}
+use Rattle.f11_index.specs.IndexFile.{index_file_blocks, blocks_on, header_place, header_among, first_header_lbn}
 use Rattle.f11_index.specs.Sound.{IsIndexFile}
 use Rattle.f11_index.specs.Table.{Table, table_of, IsHeaderOf, first}
 use Rattle.f11_index.proofs.ChainLemmas.{live_of-header}
@@ -19,7 +19,7 @@ module _ (image : Image) (home : HomeFields) (good : IsIndexFile image home) whe
   t = table_of image home
 
   abbrev all : List ℕ
-  all = index_file image home
+  all = index_file_blocks image home
 
   -- the walk from a header of the file on has the blocks that it and those behind it name
   Names : ℕ → Type 0
@@ -56,8 +56,8 @@ module _ (image : Image) (home : HomeFields) (good : IsIndexFile image home) whe
       ∙ append_assoc known (blocks_named (t.header m)) (blocks_by t (headers_from most t (link_number t m)))
       ∙ ap (λ (hs : List ℕ). known ++ blocks_by t hs) (sym (headers_from-some most t m slot.0))
 
-  pub file-one : file_blocks t 1 ≡ index_file image home
-  unfolding index_file Names file_blocks
+  pub file-one : file_blocks t 1 ≡ index_file_blocks image home
+  unfolding index_file_blocks Names file_blocks
   file-one =
       let place : header_place home 1 ≡ 2 + home.index_blocks = omega arith in
       sym (from-header 256 [] 1 (first_header_lbn home) (first good.whole.file) (ap (slice_get all) place ∙ good.placed.bitmap_and_headers home.index_blocks (omega arith)) refl)

@@ -83,7 +83,7 @@ pub record HoldsFirst (index : Index) (n : ℕ) (block : List ℕ) (disk : Disk)
   pub first : segment_number block ≡ 0
 
 -- Headers of file n were read beside those in hand, 0 or 1 of them, each once at most; so many transfers failed.
-pub record LooksAlong (index : Index) (n in_hand : ℕ) (old new : Disk) (faults : ℕ) : Type 0 where
+pub record LooksAlongFile (index : Index) (n in_hand : ℕ) (old new : Disk) (faults : ℕ) : Type 0 where
   pub headers : ℕ
   pub few : headers + in_hand ≤ 256
   pub each_once : IsTrue old.honest → headers + in_hand ≤ length (headers_of (table index old) n)
@@ -96,7 +96,7 @@ pub record Locates (index : Index) (n vbn lbn : ℕ) (old new : Disk) : Type 0 w
   pub named : IsTrue old.honest → Contains (blocks_named ((table index old).header header)) lbn
   pub block_is : IsTrue old.honest → block_by_vbn (table index old) n vbn ≡ Some lbn
   pub within : lbn < length old.image
-  pub looked : LooksAlong index n 0 old new 0
+  pub looked : LooksAlongFile index n 0 old new 0
   pub no_further : IsTrue old.honest → looked.headers ≤ segment_number ((table index old).header header) + 1
 
 -- The header of file n that names block number `at` of the file, from 0, is in hand; no header was read behind it.
@@ -107,24 +107,24 @@ pub record Seeks (index : Index) (n in_hand at : ℕ) (place : Place) (block : L
   pub of_file : IsTrue old.honest → IsHeaderOf (table index old) n place.number
   pub at_is : IsTrue old.honest → at ≡ blocks_before (table index old) n place.number + place.left
   pub block_is : IsTrue old.honest → slice_get (file_blocks (table index old) n) at ≡ slice_get (blocks_named block) place.left
-  pub looked : LooksAlong index n in_hand old new 0
+  pub looked : LooksAlongFile index n in_hand old new 0
   pub no_further : looked.headers + in_hand ≤ place.segment + 1
 
 -- File n is whole and has fewer blocks.
 pub record FindsEnd (index : Index) (n in_hand vbn : ℕ) (old new : Disk) : Type 0 where
   pub whole : IsTrue old.honest → IsWholeFile (table index old) n
   pub fewer : IsTrue old.honest → length (file_blocks (table index old) n) < vbn
-  pub looked : LooksAlong index n in_hand old new 0
+  pub looked : LooksAlongFile index n in_hand old new 0
 
 -- File n isn't whole.
 pub record FindsBreak (index : Index) (n in_hand : ℕ) (old new : Disk) : Type 0 where
   pub broken : IsTrue old.honest → ¬ IsWholeFile (table index old) n
-  pub looked : LooksAlong index n in_hand old new 0
+  pub looked : LooksAlongFile index n in_hand old new 0
 
 -- File n isn't whole, or has a block off the device.
 pub record FindsDamage (index : Index) (n : ℕ) (old new : Disk) : Type 0 where
   pub damaged : IsTrue old.honest → ¬ IsSoundFile (table index old) n (length old.image)
-  pub looked : LooksAlong index n 0 old new 0
+  pub looked : LooksAlongFile index n 0 old new 0
 
 -- The last header of file n is in hand, and the file's headers and blocks were counted; no header was read behind the last.
 pub record ReadsLast (index : Index) (n in_hand : ℕ) (last : FileEnd) (block : List ℕ) (old new : Disk) : Type 0 where
@@ -137,9 +137,9 @@ pub record ReadsLast (index : Index) (n in_hand : ℕ) (last : FileEnd) (block :
   pub whole : IsTrue old.honest → IsWholeFile (table index old) n
   pub headers_are : IsTrue old.honest → last.headers ≡ length (headers_of (table index old) n)
   pub blocks_are : IsTrue old.honest → last.blocks ≡ length (file_blocks (table index old) n)
-  pub looked : LooksAlong index n in_hand old new 0
+  pub looked : LooksAlongFile index n in_hand old new 0
   pub no_further : looked.headers + in_hand ≤ last.headers
 
 -- A transfer failed.
 abbrev pub FailsAlong : Index → ℕ → ℕ → Disk → Disk → Type 0
-FailsAlong index n in_hand old new = LooksAlong index n in_hand old new 1
+FailsAlong index n in_hand old new = LooksAlongFile index n in_hand old new 1

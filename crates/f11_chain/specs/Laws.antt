@@ -5,14 +5,15 @@ use Rattle.f11_dev.specs.Image.{Image}
 use Rattle.f11_index.specs.Home.{HomeFields}
 use Rattle.f11_map.specs.HeaderBlock.{segment_number, link_of, blocks_named}
 use Rattle.f11_index.specs.Headers.{headers_of, IsLastOf}
-use Rattle.f11_index.specs.IndexFile.{index_file}
+use Rattle.f11_index.specs.IndexFile.{index_file_blocks}
 use Rattle.f11_index.specs.Sound.{IsIndexFile}
 use Rattle.f11_index.specs.Table.{Table, table_of, IsHeaderOf}
 use Rattle.f11_chain.specs.FileHeaders.{blocks_by, file_blocks}
 
 -- the blocks of the index file are those of file 1
 abbrev pub IndexFileIsFileOne : Type 0
-IndexFileIsFileOne = (image : Image) (home : HomeFields) → IsIndexFile image home → file_blocks (table_of image home) 1 ≡ index_file image home
+IndexFileIsFileOne = (image : Image) (home : HomeFields) → IsIndexFile image home →
+    file_blocks (table_of image home) 1 ≡ index_file_blocks image home
 
 -- File f has the headers that it had, and these blocks more.
 pub record HasMore (f : ℕ) (more : List ℕ) (old new : Table) : Type 0 where
@@ -37,7 +38,8 @@ FileStays =
 
 -- each header of file f before header n stays
 abbrev pub StayBefore : ℕ → ℕ → Table → Table → Type 0
-StayBefore f n old new = (m : ℕ) → IsHeaderOf old f m → segment_number (old.header m) < segment_number (old.header n) → new.header m ≡ old.header m
+StayBefore f n old new = (m : ℕ) → IsHeaderOf old f m → segment_number (old.header m) < segment_number (old.header n) →
+    new.header m ≡ old.header m
 
 -- a file whose last header names more blocks has these more
 abbrev pub LastNamesMore : Type 0
@@ -62,5 +64,6 @@ HeaderEndsFile =
 abbrev pub FileIsCut : Type 0
 FileIsCut =
     (old new : Table) (f n left : ℕ) → IsHeaderOf old f n → segment_number (old.header n) < 256 → StayBefore f n old new →
-    (link_of (new.header n)).number ≡ 0 → blocks_named (new.header n) ≡ take left (blocks_named (old.header n)) → left ≤ length (blocks_named (old.header n)) →
+    (link_of (new.header n)).number ≡ 0 → blocks_named (new.header n) ≡ take left (blocks_named (old.header n)) →
+    left ≤ length (blocks_named (old.header n)) →
     file_blocks new f ≡ take (length (blocks_by old (take (segment_number (old.header n)) (headers_of old f))) + left) (file_blocks old f)

@@ -2,7 +2,7 @@
 ghost use Rattle.std.specs.Prelude.{◌≡◌, ◌<◌, ◌≤◌, ◌+◌, length, IfOk, IsErrOf};
 ghost use Rattle.f11_chain.specs.Calls.{HoldsFirst, Locates, Seeks, FindsEnd, FindsDamage, FindsBreak, FailsAlong, ReadsLast};
 ghost use Rattle.f11_index.specs.IndexFile.{slots};
-ghost use Rattle.f11_index.specs.Kept.{index_kept, LiesWithin};
+ghost use Rattle.f11_index.specs.Kept.{index_kept, IndexLiesWithin};
 
 use crate::fault::ChainFault;
 use crate::step::{first, next};
@@ -29,7 +29,7 @@ pub fn locate<D: Device>(
 ) -> Result<u32, ChainFault>
     requires slot { (0 < n) × (n ≤ slots (index_kept index.now)) }
     requires some { 0 < vbn }
-    requires within { LiesWithin (index_kept index.now) (length (D.disk device.old).image) }
+    requires within { IndexLiesWithin (index_kept index.now) (length (D.disk device.old).image) }
     ensures locates { IfOk result (λ lbn.
         Locates (index_kept index.now) n vbn lbn (D.disk device.old) (D.disk device.new)) }
     ensures end { IsErrOf result ChainFault.EndOfFile
@@ -78,7 +78,7 @@ pub fn seek<D: Device>(
     block: &mut Block,
 ) -> Result<Place, ChainFault>
     requires first { HoldsFirst (index_kept index.now) n block.old (D.disk device.old) }
-    requires within { LiesWithin (index_kept index.now) (length (D.disk device.old).image) }
+    requires within { IndexLiesWithin (index_kept index.now) (length (D.disk device.old).image) }
     ensures seeks { IfOk result (λ place. Seeks (index_kept index.now) n 1 at place block.new
         (D.disk device.old) (D.disk device.new)) }
     ensures end { IsErrOf result ChainFault.EndOfFile
@@ -132,7 +132,7 @@ pub fn last<D: Device>(
     block: &mut Block,
 ) -> Result<FileEnd, ChainFault>
     requires slot { (0 < n) × (n ≤ slots (index_kept index.now)) }
-    requires within { LiesWithin (index_kept index.now) (length (D.disk device.old).image) }
+    requires within { IndexLiesWithin (index_kept index.now) (length (D.disk device.old).image) }
     ensures reads { IfOk result (λ last. ReadsLast (index_kept index.now) n 0 last block.new
         (D.disk device.old) (D.disk device.new)) }
     ensures damaged { IsErrOf result ChainFault.Damaged
@@ -158,7 +158,7 @@ pub fn last_from<D: Device>(
     block: &mut Block,
 ) -> Result<FileEnd, ChainFault>
     requires first { HoldsFirst (index_kept index.now) n block.old (D.disk device.old) }
-    requires within { LiesWithin (index_kept index.now) (length (D.disk device.old).image) }
+    requires within { IndexLiesWithin (index_kept index.now) (length (D.disk device.old).image) }
     ensures reads { IfOk result (λ last. ReadsLast (index_kept index.now) n 1 last block.new
         (D.disk device.old) (D.disk device.new)) }
     ensures damaged { IsErrOf result ChainFault.Damaged

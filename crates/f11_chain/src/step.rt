@@ -5,7 +5,7 @@ ghost use Rattle.f11_dev.specs.Looked.{Looked};
 ghost use Rattle.f11_header.specs.Fields.{file_sequence};
 ghost use Rattle.f11_header.specs.Header.{holds_header};
 ghost use Rattle.f11_index.specs.IndexFile.{slots};
-ghost use Rattle.f11_index.specs.Kept.{index_kept, LiesWithin};
+ghost use Rattle.f11_index.specs.Kept.{index_kept, IndexLiesWithin};
 
 use crate::fault::ChainFault;
 use f11_bytes::Block;
@@ -37,7 +37,7 @@ pub fn first<D: Device>(
     block: &mut Block,
 ) -> Result<(), ChainFault>
     requires slot { (0 < n) × (n ≤ slots (index_kept index.now)) }
-    requires within { LiesWithin (index_kept index.now) (length (D.disk device.old).image) }
+    requires within { IndexLiesWithin (index_kept index.now) (length (D.disk device.old).image) }
     ensures reads { OnOk result (ReadsFirst (index_kept index.now) n block.new
         (D.disk device.old) (D.disk device.new)) }
     ensures in_hand { OnOk result (HoldsFirst (index_kept index.now) n block.new
@@ -66,7 +66,7 @@ pub fn next<D: Device>(
     block: &mut Block,
 ) -> Result<Option<u16>, ChainFault>
     requires header { IsTrue (holds_header block.old) }
-    requires within { LiesWithin (index_kept index.now) (length (D.disk device.old).image) }
+    requires within { IndexLiesWithin (index_kept index.now) (length (D.disk device.old).image) }
     ensures reads { IfOk result (λ answer. IfSome answer (λ m.
         ReadsNext (index_kept index.now) m block.old block.new (D.disk device.old) (D.disk device.new))) }
     ensures last { IfOk result (λ answer. IfNone answer
@@ -101,7 +101,7 @@ fn read_header<D: Device>(
     n: u16,
     block: &mut Block,
 ) -> Result<bool, DeviceFault>
-    requires within { LiesWithin (index_kept index.now) (length (D.disk device.old).image) }
+    requires within { IndexLiesWithin (index_kept index.now) (length (D.disk device.old).image) }
     ensures reads { IfOk result (λ live. ReadsHeader (index_kept index.now) n live block.new
         (D.disk device.old) (D.disk device.new)) }
     ensures failed { OnErr result (Looked (D.disk device.old) (D.disk device.new) 1 1) }

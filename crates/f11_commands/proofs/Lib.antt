@@ -1,4 +1,4 @@
 pub mod LineLemmas
 pub mod VolumeLemmas
-pub mod RtLemmas
 mod RunLemmas
+mod UpdateLemmas

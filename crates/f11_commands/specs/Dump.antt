@@ -2,7 +2,17 @@
 use Rattle.std.specs.Prelude.{◌≡◌, ◌≢◌, ℕ, List, [], ◌∷◌, ◌++◌, codes}
 use Rattle.std.specs.Fmt.{decimal}
 use Rattle.std.specs.List.{concat, flat_map}
-use Rattle.f11_header.specs.Fields.{file_number, file_sequence, owner_group, owner_member, protection, characteristics, check_word, ident_area, map_area}
+use Rattle.f11_header.specs.Fields.{
+  file_number,
+  file_sequence,
+  owner_group,
+  owner_member,
+  protection,
+  characteristics,
+  check_word,
+  ident_area,
+  map_area,
+}
 use Rattle.f11_header.specs.Header.{IsDead, IsHeader}
 use Rattle.f11_map.specs.MapArea.{link, runs_of, segment}
 use Rattle.f11_rad50.specs.Name.{IsName, name_text}

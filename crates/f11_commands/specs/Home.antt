@@ -4,8 +4,10 @@ use Rattle.std.specs.Fmt.{decimal}
 use Rattle.std.specs.Io.KnownBytes.{Keeps}
 use Rattle.f11_dev.specs.Disk.{Disk}
 use Rattle.f11_home.specs.Home.{FailsToFind, FindsHome, FindsNoHome, HomeFields}
+use Rattle.f11_commands.specs.DumpCommand.{fault_line}
 use Rattle.f11_commands.specs.Label.{label_text}
 use Rattle.f11_commands.specs.Output.{Takes}
+use Rattle.f11_commands.specs.declared.volume.VolumeFault.TheVariants.{NoHome}
 
 -- The line of a home block: its LBN, the label, the LBN and the number of blocks of the index file's bitmap, and the
 -- greatest number of files.
@@ -16,7 +18,7 @@ home_line home = codes "home " ++ (decimal home.lbn ++ (codes " label " ++ (labe
 
 -- the line where there is no home block
 abbrev pub no_home_line : List ℕ
-no_home_line = codes "fault F1 no home block" ++ 10 ∷ []
+no_home_line = fault_line NoHome
 
 -- The home block was found, and its line written.
 pub record PrintsHome {D W : Type 0} (disk : D → Disk) (old new : D) (contents : W → Option (List ℕ)) (before after : W) : Type 0 where
@@ -30,7 +32,8 @@ pub record PrintsNoHome {D W : Type 0} (disk : D → Disk) (old new : D) (conten
   pub takes : Takes contents before after no_home_line
 
 -- A transfer failed, and nothing was written.
-pub record FailsToPrintHome {D W : Type 0} (disk : D → Disk) (old new : D) (contents : W → Option (List ℕ)) (before after : W) : Type 0 where
+pub record FailsToPrintHome {D W : Type 0} (disk : D → Disk) (old new : D) (contents : W → Option (List ℕ))
+    (before after : W) : Type 0 where
   pub finds : FailsToFind (disk old) (disk new)
   pub keeps : Keeps (contents before) (contents after)
 

@@ -6,8 +6,11 @@ pub mod Label
 pub mod Name
 pub mod Output
 pub mod Report
+pub mod RtReport
+pub mod Lines
 pub mod Rights
 pub mod RtList
 pub mod RunCommand
 pub mod RtVolume
 pub mod VfyCommand
+pub mod UpdateCommand

@@ -7,7 +7,7 @@ abbrev pub Takes : {W : Type 0} → (W → Option (List ℕ)) → W → W → Li
 Takes contents old new text = Appends (contents old) (contents new) text
 
 -- the writer took a text of which P holds
-pub record TakesSome {W : Type 0} (contents : W → Option (List ℕ)) (P : List ℕ → Type 0) (old new : W) : Type 0 where
+pub record TakesText {W : Type 0} (contents : W → Option (List ℕ)) (P : List ℕ → Type 0) (old new : W) : Type 0 where
   pub text : List ℕ
   pub is : P text
   pub takes : Takes contents old new text

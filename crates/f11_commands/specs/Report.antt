@@ -1,7 +1,6 @@
--- The lines of a verifier's report (profile: the codes and their texts).
-use Rattle.std.specs.Prelude.{ℕ, ◌==◌, Bool, true, false, if◌then◌else◌, List, [], ◌∷◌, ◌++◌, codes}
+-- What the verifier of Files-11 volumes says (profile: the codes and their texts).
+use Rattle.std.specs.Prelude.{ℕ, ◌==◌, if◌then◌else◌, List, ◌++◌, codes}
 use Rattle.std.specs.Fmt.{decimal}
-use Rattle.std.specs.List.{flat_map}
 use Rattle.f11_findings.specs.declared.finding.Finding.{Finding}
 
 -- a text with a number in it
@@ -42,26 +41,3 @@ note_text f =
     if f.code == 7 then with_numbers (codes "N7 directory ") f.a (codes " record ") f.b (codes " names no file") else
     if f.code == 8 then with_numbers (codes "N8 directory ") f.a (codes " record ") f.b (codes " repeats a name") else
     with_numbers (codes "N9 directory ") f.a (codes " record ") f.b (codes " has no name")
-
--- the line of a fault, and that of a note
-abbrev pub report_fault_line : Finding → List ℕ
-report_fault_line f = codes "fault " ++ (fault_text f ++ 10 ∷ [])
-
-abbrev pub report_note_line : Finding → List ℕ
-report_note_line f = codes "note " ++ (note_text f ++ 10 ∷ [])
-
--- a line each, in order
-abbrev pub fault_lines : List Finding → List ℕ
-fault_lines faults = flat_map report_fault_line faults
-
-abbrev pub note_lines : List Finding → List ℕ
-note_lines notes = flat_map report_note_line notes
-
--- the verdict's line
-abbrev pub verdict_line : Bool → List ℕ
-verdict_line true = codes "accepted" ++ 10 ∷ []
-verdict_line false = codes "faulty" ++ 10 ∷ []
-
--- the lines of a report: the faults, the notes, and the verdict
-abbrev pub report_lines : Bool → List Finding → List Finding → List ℕ
-report_lines accepted faults notes = fault_lines faults ++ (note_lines notes ++ verdict_line accepted)

@@ -28,7 +28,8 @@ abbrev pub kind_line : RtKind → RtArea → List ℕ
 kind_line Tentative a = codes "tent " ++ (decimal a.start ++ (codes " " ++ (decimal a.length ++ 10 ∷ [])))
 kind_line Empty a = codes "empty " ++ (decimal a.start ++ (codes " " ++ (decimal a.length ++ 10 ∷ [])))
 kind_line Permanent a =
-    codes "perm " ++ (name_shown a.name ++ (codes " " ++ (decimal a.start ++ (codes " " ++ (decimal a.length ++ (protection_shown a.protected ++ 10 ∷ []))))))
+    codes "perm " ++ (name_shown a.name ++ (codes " " ++
+    (decimal a.start ++ (codes " " ++ (decimal a.length ++ (protection_shown a.protected ++ 10 ∷ []))))))
 
 abbrev pub area_line : RtArea → List ℕ
 area_line a = kind_line a.kind a

@@ -20,13 +20,15 @@ use Rattle.f11_vfy.specs.Verify.{Examines}
 
 -- A script was served on an image. Where the disk is honest the image is accepted then; and where no transfer failed, it was served by steps of
 -- the plain store, from that of the image, in which nobody holds an access, to that of the image then, with what tasks held at the end.
-pub record ServesImage {W : Type 0} (result : Result ℕ ScriptError) (remaining : Option (List ℕ)) (old new : Disk) (contents : W → Option (List ℕ)) (before after : W) : Type 0 where
+pub record ServesImage {W : Type 0} (result : Result ℕ ScriptError) (remaining : Option (List ℕ)) (old new : Disk)
+    (contents : W → Option (List ℕ)) (before after : W) : Type 0 where
   pub home : HomeFields
   pub held : Table
   pub home_is : IsTrue old.honest → IsHomeOf old.image home
   pub accepted : IsTrue old.honest → IsAccepted new.image
   pub run : IsTrue old.honest → new.failures ≡ old.failures →
-      RunsScript Steps remaining (held_in no_entries (store_of old.image home)) (held_in held (store_of new.image home)) (contents before) (contents after) result
+      RunsScript Steps remaining (held_in no_entries (store_of old.image home))
+      (held_in held (store_of new.image home)) (contents before) (contents after) result
 
 -- Nothing was written, to the image or the writer.
 pub record WritesNothing {W : Type 0} (old new : Disk) (contents : W → Option (List ℕ)) (before after : W) : Type 0 where
@@ -43,7 +45,8 @@ EndsServing (Ok Fault) remaining old new contents before after = ⊥
 EndsServing (Err (Script e)) remaining old new contents before after =
     ServesImage (Err e) remaining old new contents before after × (new.failures ≡ old.failures)
 EndsServing (Err (Command DeviceFault)) remaining old new contents before after =
-    (WritesNothing old new contents before after ⊎ ((result : Result ℕ ScriptError) × ServesImage result remaining old new contents before after))
+    (WritesNothing old new contents before after ⊎
+    ((result : Result ℕ ScriptError) × ServesImage result remaining old new contents before after))
     × (IsTrue old.honest → old.failures < new.failures)
 EndsServing (Err (Command NoMemory)) remaining old new contents before after =
     WritesNothing old new contents before after × (new.failures ≡ old.failures)

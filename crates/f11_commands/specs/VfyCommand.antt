@@ -4,9 +4,10 @@ use Rattle.std.specs.Io.KnownBytes.{Keeps}
 use Rattle.f11_dev.specs.Disk.{Disk}
 use Rattle.f11_findings.specs.declared.finding.Finding.{Finding}
 use Rattle.f11_commands.specs.Output.{Takes}
-use Rattle.f11_commands.specs.Report.{report_lines}
+use Rattle.f11_commands.specs.Lines.{report_lines}
 use Rattle.f11_commands.specs.declared.outcome.Failure.{Failure}
 use Rattle.f11_commands.specs.declared.outcome.Failure.TheVariants.{DeviceFault, NoMemory, CannotWrite}
+use Rattle.f11_commands.specs.declared.report.System.TheVariants.{Files11}
 use Rattle.f11_vfy.specs.Verify.{Examines, LooksOver}
 
 -- an image that is accepted has no fault, and one that is faulty has one at least
@@ -20,7 +21,7 @@ pub record PrintsReport {W : Type 0} (accepted : Bool) (old new : Disk) (content
   pub notes : List Finding
   pub examines : Examines faults notes old new
   pub verdict : IsVerdict accepted faults
-  pub takes : Takes contents before after (report_lines accepted faults notes)
+  pub takes : Takes contents before after (report_lines Files11 accepted faults notes)
 
 -- The command couldn't be done: a transfer failed or there was no memory, and nothing was written; or the writer takes no more.
 abbrev pub FailsToPrintReport : {W : Type 0} → Failure → Disk → Disk → (W → Option (List ℕ)) → W → W → Type 0

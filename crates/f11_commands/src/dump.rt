@@ -4,7 +4,7 @@ ghost use Rattle.f11_header.specs.Fields.{file_number};
 ghost use Rattle.f11_header.specs.Header.{IsHeader};
 ghost use Rattle.f11_map.specs.Map.{area_of};
 ghost use Rattle.f11_commands.specs.Dump.{IsDump, IsHeaderText, IsNamePart, fields_line, map_lines, name_line};
-ghost use Rattle.f11_commands.specs.Output.{Takes, TakesSome};
+ghost use Rattle.f11_commands.specs.Output.{Takes, TakesText};
 
 use crate::outcome::{Answer, Failure};
 use f11_bytes::Block;
@@ -64,7 +64,7 @@ impl Fields {
 /// [`Failure::CannotWrite`] where the writer takes no more: then it may hold a part of the lines.
 pub fn dump_header<W: Write>(writer: &mut W, block: &Block, n: u16) -> Result<Answer, Failure>
     ensures done { IfOk result (λ answer. answer ≡ Answer.Done) }
-    ensures text { OnOk result (TakesSome W.contents (IsDump block.now n) writer.old writer.new) }
+    ensures text { OnOk result (TakesText W.contents (IsDump block.now n) writer.old writer.new) }
     ensures failures { IfErr result (λ failure. failure ≡ Failure.CannotWrite) }
 {
     match check(block, n) {
@@ -77,7 +77,7 @@ pub fn dump_header<W: Write>(writer: &mut W, block: &Block, n: u16) -> Result<An
 /// Writes the lines of a valid header.
 fn write_header<W: Write>(writer: &mut W, block: &Block, n: u16) -> io::Result<()>
     requires { IsHeader block.now n }
-    ensures { OnOk result (TakesSome W.contents (IsHeaderText block.now n) writer.old writer.new) }
+    ensures { OnOk result (TakesText W.contents (IsHeaderText block.now n) writer.old writer.new) }
 {
     let fields = Fields::of(block);
     write_fields(writer, n, &fields)?;
@@ -110,7 +110,7 @@ fn write_fields<W: Write>(writer: &mut W, n: u16, fields: &Fields) -> io::Result
 #[tactic(auto, using(f11_header::proofs::HeaderFacts::ident_within))]
 fn write_name<W: Write>(writer: &mut W, block: &Block) -> io::Result<()>
     requires { IsHeader block.now (file_number block.now) }
-    ensures { OnOk result (TakesSome W.contents (IsNamePart block.now) writer.old writer.new) }
+    ensures { OnOk result (TakesText W.contents (IsNamePart block.now) writer.old writer.new) }
 {
     let header = Header::new(block);
     if Map::of(&header).segment() != 0 {

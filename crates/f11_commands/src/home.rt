@@ -5,6 +5,7 @@ ghost use Rattle.f11_commands.specs.Output.{Takes};
 
 use crate::label::Label;
 use crate::outcome::{Answer, Failure};
+use crate::volume::VolumeFault;
 use f11_dev::Device;
 use f11_home::{Home, HomeFault, find};
 use std::io::{self, Write};
@@ -36,8 +37,8 @@ pub fn print_home<D: Device, W: Write>(device: &mut D, writer: &mut W) -> Result
             Ok(Answer::Done)
         }
         Err(HomeFault::DeviceFault) => Err(Failure::DeviceFault),
-        Err(fault @ HomeFault::NoHome) => {
-            writeln!(writer, "fault F1 {fault}")?;
+        Err(HomeFault::NoHome) => {
+            writeln!(writer, "fault {}", VolumeFault::NoHome)?;
             Ok(Answer::Fault)
         }
     }

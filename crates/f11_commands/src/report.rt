@@ -1,105 +1,135 @@
-//! The lines of the verifier's report.
-ghost use Rattle.std.specs.Prelude.{OnOk};
+//! The lines of a verifier's report.
+ghost use Rattle.std.specs.Prelude.{◌≡◌, true, false, [], IfOk, IfErr, OnOk};
 ghost use Rattle.f11_commands.specs.Output.{Takes};
-ghost use Rattle.f11_commands.specs.Report.{fault_lines, note_lines, verdict_line, report_lines};
+ghost use Rattle.f11_commands.specs.Lines.{fault_lines, note_lines, verdict_line, report_lines};
 
+pub(crate) mod files11;
+pub(crate) mod rt11;
+
+use crate::outcome::{Answer, Failure};
 use f11_findings::{Finding, Findings};
+use std::alloc::Global;
 use std::fmt;
 use std::io::{self, Write};
 
+/// A file system, whose verifier reports.
+#[derive(Clone, Copy, Debug, PartialEq, Eq)]
+pub(crate) enum System {
+    /// Files-11.
+    Files11,
+    /// RT-11.
+    Rt11,
+}
+
 /// A fault, as its line says it.
 #[derive(Clone, Copy)]
-struct Fault(Finding);
+struct Fault {
+    system: System,
+    finding: Finding,
+}
 
 impl fmt::Display for Fault {
     ghost use Rattle.std.specs.Prelude.{Some};
-    ghost use Rattle.f11_commands.specs.Report.{fault_text};
+    ghost use Rattle.f11_commands.specs.Lines.{fault_said};
 
-    ghost output = { λ f. Some (fault_text f.0) };
+    ghost output = { λ fault. Some (fault_said fault.system fault.finding) };
 
-    #[tactic(auto, unfolding(crate::specs::Report::fault_text))]
     fn fmt<W: fmt::Write>(&self, f: &mut fmt::Formatter<W>) -> fmt::Result {
-        let Finding { code, a, b } = self.0;
-        match code {
-            1 => write!(f, "F1 no home block"),
-            2 => write!(f, "F2 index file misplaced"),
-            3 => write!(f, "F3 header {a} of the first four bad"),
-            4 => write!(f, "F4 storage bitmap file bad"),
-            5 => write!(f, "F5 control block wrong"),
-            6 => write!(f, "F6 index bit {a} past the slots"),
-            7 => write!(f, "F7 header {a} bad"),
-            8 => write!(f, "F8 header {a} pointer {b} outside the volume"),
-            9 => write!(f, "F9 block {a} named twice"),
-            10 => write!(f, "F10 block {a} named and free"),
-            11 => write!(f, "F11 header {a} links wrongly"),
-            12 => write!(f, "F12 header {a} linked twice"),
-            13 => write!(f, "F13 header {a} links past 256"),
-            _ => write!(f, "F14 header {a} links to another volume"),
+        match self.system {
+            System::Files11 => write!(f, "{}", files11::FaultText(self.finding)),
+            System::Rt11 => write!(f, "{}", rt11::FaultText(self.finding)),
         }
     }
 }
 
 /// A note, as its line says it.
 #[derive(Clone, Copy)]
-struct Note(Finding);
+struct Note {
+    system: System,
+    finding: Finding,
+}
 
 impl fmt::Display for Note {
     ghost use Rattle.std.specs.Prelude.{Some};
-    ghost use Rattle.f11_commands.specs.Report.{note_text};
+    ghost use Rattle.f11_commands.specs.Lines.{note_said};
 
-    ghost output = { λ n. Some (note_text n.0) };
+    ghost output = { λ note. Some (note_said note.system note.finding) };
 
-    #[tactic(auto, unfolding(crate::specs::Report::note_text))]
     fn fmt<W: fmt::Write>(&self, f: &mut fmt::Formatter<W>) -> fmt::Result {
-        let Finding { code, a, b } = self.0;
-        match code {
-            1 => write!(f, "N1 blocks {a} to {b} lost"),
-            2 => write!(f, "N2 header {a} dead"),
-            3 => write!(f, "N3 header {a} orphan"),
-            4 => write!(f, "N4 file {a} marked for delete"),
-            5 => write!(f, "N5 file {a} improperly closed"),
-            6 => write!(f, "N6 file {a} in no directory"),
-            7 => write!(f, "N7 directory {a} record {b} names no file"),
-            8 => write!(f, "N8 directory {a} record {b} repeats a name"),
-            _ => write!(f, "N9 directory {a} record {b} has no name"),
+        match self.system {
+            System::Files11 => write!(f, "{}", files11::NoteText(self.finding)),
+            System::Rt11 => write!(f, "{}", rt11::NoteText(self.finding)),
         }
     }
 }
 
-/// Writes a report: a line for each fault, one for each note, and `accepted` or `faulty`.
-pub(crate) fn write_report<W: Write>(
+/// Writes the report of a volume without faults: a line for each note, and `accepted`.
+pub(crate) fn write_accepted<W: Write>(
+    alloc: Global,
     writer: &mut W,
+    system: System,
+    notes: &Findings,
+) -> Result<Answer, Failure>
+    ensures lines { OnOk result (Takes W.contents writer.old writer.new
+        (report_lines system true [] notes.now)) }
+    ensures answer { IfOk result (λ answer. answer ≡ Answer.Done) }
+    ensures failed { IfErr result (λ failure. failure ≡ Failure.CannotWrite) }
+{
+    write_report(writer, system, true, &Findings::new(alloc), notes)?;
+    Ok(Answer::Done)
+}
+
+/// Writes the report of one with faults: a line for each fault, one for each note, and `faulty`.
+pub(crate) fn write_faulty<W: Write>(
+    writer: &mut W,
+    system: System,
+    faults: &Findings,
+    notes: &Findings,
+) -> Result<Answer, Failure>
+    ensures lines { OnOk result (Takes W.contents writer.old writer.new
+        (report_lines system false faults.now notes.now)) }
+    ensures answer { IfOk result (λ answer. answer ≡ Answer.Fault) }
+    ensures failed { IfErr result (λ failure. failure ≡ Failure.CannotWrite) }
+{
+    write_report(writer, system, false, faults, notes)?;
+    Ok(Answer::Fault)
+}
+
+/// Writes a report: a line for each fault, one for each note, and `accepted` or `faulty`.
+fn write_report<W: Write>(
+    writer: &mut W,
+    system: System,
     accepted: bool,
     faults: &Findings,
     notes: &Findings,
 ) -> io::Result<()>
     ensures { OnOk result (Takes W.contents writer.old writer.new
-        (report_lines accepted faults.now notes.now)) }
+        (report_lines system accepted faults.now notes.now)) }
 {
-    write_faults(writer, faults)?;
-    write_notes(writer, notes)?;
+    write_faults(writer, system, faults)?;
+    write_notes(writer, system, notes)?;
     write_verdict(writer, accepted)
 }
 
 /// Writes the line of each fault.
-fn write_faults<W: Write>(writer: &mut W, faults: &Findings) -> io::Result<()>
-    ensures { OnOk result (Takes W.contents writer.old writer.new (fault_lines faults.now)) }
+fn write_faults<W: Write>(writer: &mut W, system: System, faults: &Findings) -> io::Result<()>
+    ensures { OnOk result (Takes W.contents writer.old writer.new (fault_lines system faults.now)) }
 {
     for i in 0..faults.len() {
         if let Some(finding) = faults.get(i) {
-            writeln!(writer, "fault {}", Fault(finding))?;
+            writeln!(writer, "fault {}", Fault { system, finding })?;
         }
     }
     Ok(())
 }
 
 /// Writes the line of each note.
-fn write_notes<W: Write>(writer: &mut W, notes: &Findings) -> io::Result<()>
-    ensures { OnOk result (Takes W.contents writer.old writer.new (note_lines notes.now)) }
+fn write_notes<W: Write>(writer: &mut W, system: System, notes: &Findings) -> io::Result<()>
+    ensures { OnOk result (Takes W.contents writer.old writer.new (note_lines system notes.now)) }
 {
     for i in 0..notes.len() {
         if let Some(finding) = notes.get(i) {
-            writeln!(writer, "note {}", Note(finding))?;
+            writeln!(writer, "note {}", Note { system, finding })?;
         }
     }
     Ok(())

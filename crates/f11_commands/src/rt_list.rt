@@ -5,7 +5,7 @@ ghost use Rattle.f11_commands.specs.RtList.{area_line, area_lines, list_transfer
 ghost use Rattle.f11_commands.specs.RtVolume.{PrintsFaulty, FailsToPrintRt};
 
 use crate::outcome::{Answer, Failure};
-use crate::rt_vfy::write_faulty;
+use crate::report::{System, write_faulty};
 use f11_dev::Device;
 use rt11_volume::{RtArea, RtKind, RtName, RtRefusal, RtReport, RtVfyError, verify};
 use std::alloc::Global;
@@ -75,7 +75,7 @@ pub fn print_rt_list<D: Device, W: Write>(
             Err(_) => (volume.device(), Err(Failure::DeviceFault)),
         },
         Ok(RtReport::Faulty(device, faults, notes)) => {
-            (device, write_faulty(writer, &faults, &notes))
+            (device, write_faulty(writer, System::Rt11, &faults, &notes))
         }
         Err(RtVfyError::DeviceFault(device)) => (device, Err(Failure::DeviceFault)),
         Err(RtVfyError::NoMemory(device)) => (device, Err(Failure::NoMemory)),

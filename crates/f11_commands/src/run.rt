@@ -5,7 +5,7 @@ ghost use Rattle.f11_fcp.specs.Serving.{device_in, is_spent};
 ghost use Rattle.f11_vfy.specs.Accepted.{device_of};
 
 use crate::outcome::{Answer, Failure};
-use crate::vfy::write_faulty;
+use crate::report::{System, write_faulty};
 use f11_dev::Device;
 use f11_fcp::{Failed, Volume};
 use f11_files::OpenFault;
@@ -56,7 +56,7 @@ pub fn print_run<D: Device, R: Read + Drop, W: Write>(
     match verify(alloc, device) {
         Ok(Report::Accepted(accepted, _)) => serve(alloc, accepted, script, writer),
         Ok(Report::Faulty(device, faults, notes)) => {
-            match write_faulty(writer, &faults, &notes) {
+            match write_faulty(writer, System::Files11, &faults, &notes) {
                 Ok(answer) => (device, Ok(answer)),
                 Err(failure) => (device, Err(failure.into())),
             }

@@ -1,13 +1,10 @@
 //! The command `vfy`.
-ghost use Rattle.std.specs.Prelude.{◌≡◌, Bool, true, false, [], IfOk, IfErr, OnOk};
-ghost use Rattle.f11_commands.specs.Output.{Takes};
-ghost use Rattle.f11_commands.specs.Report.{report_lines};
+ghost use Rattle.std.specs.Prelude.{◌≡◌, true, false, IfErr};
 ghost use Rattle.f11_commands.specs.VfyCommand.{PrintsReport, FailsToPrintReport};
 
 use crate::outcome::{Answer, Failure};
-use crate::report::write_report;
+use crate::report::{System, write_accepted, write_faulty};
 use f11_dev::Device;
-use f11_findings::Findings;
 use f11_vfy::{Report, VfyError, verify};
 use std::alloc::Global;
 use std::io::Write;
@@ -35,42 +32,18 @@ pub fn print_vfy<D: Device, W: Write>(
 {
     match verify(alloc, device) {
         Ok(Report::Accepted(accepted, notes)) => {
-            (accepted.device(), write_accepted(alloc, writer, &notes))
+            (
+                accepted.device(),
+                write_accepted(alloc, writer, System::Files11, &notes),
+            )
         }
         Ok(Report::Faulty(device, faults, notes)) => {
-            (device, write_faulty(writer, &faults, &notes))
+            (
+                device,
+                write_faulty(writer, System::Files11, &faults, &notes),
+            )
         }
         Err(VfyError::DeviceFault(device)) => (device, Err(Failure::DeviceFault)),
         Err(VfyError::NoMemory(device)) => (device, Err(Failure::NoMemory)),
     }
-}
-
-/// Writes the lines of an image without faults.
-fn write_accepted<W: Write>(
-    alloc: Global,
-    writer: &mut W,
-    notes: &Findings,
-) -> Result<Answer, Failure>
-    ensures lines { OnOk result (Takes W.contents writer.old writer.new
-        (report_lines true [] notes.now)) }
-    ensures answer { IfOk result (λ answer. answer ≡ Answer.Done) }
-    ensures failed { IfErr result (λ failure. failure ≡ Failure.CannotWrite) }
-{
-    write_report(writer, true, &Findings::new(alloc), notes)?;
-    Ok(Answer::Done)
-}
-
-/// Writes the lines of an image with faults.
-pub(crate) fn write_faulty<W: Write>(
-    writer: &mut W,
-    faults: &Findings,
-    notes: &Findings,
-) -> Result<Answer, Failure>
-    ensures lines { OnOk result (Takes W.contents writer.old writer.new
-        (report_lines false faults.now notes.now)) }
-    ensures answer { IfOk result (λ answer. answer ≡ Answer.Fault) }
-    ensures failed { IfErr result (λ failure. failure ≡ Failure.CannotWrite) }
-{
-    write_report(writer, false, faults, notes)?;
-    Ok(Answer::Fault)
 }

@@ -5,7 +5,9 @@ ghost use Rattle.f11_index.specs.Kept.{index_kept};
 ghost use Rattle.f11_commands.specs.DumpCommand.{FindsIndex, FindsFault, index_reads};
 
 use crate::outcome::Failure;
+use crate::report::files11::FaultText;
 use f11_dev::Device;
+use f11_findings::Finding;
 use f11_home::{Home, HomeFault, find};
 use f11_index::{IndexFault, IndexFile};
 use std::alloc::Global;
@@ -22,6 +24,33 @@ pub enum VolumeFault {
     PastSlots(u32),
 }
 
+impl VolumeFault {
+    ghost use Rattle.f11_commands.specs.DumpCommand.{fault_found};
+
+    /// What the verifier finds of such a volume.
+    fn finding(self) -> Finding
+        ensures { result ≡ fault_found self }
+    {
+        match self {
+            VolumeFault::NoHome => Finding {
+                code: 1,
+                a: 0,
+                b: 0,
+            },
+            VolumeFault::IndexMisplaced => Finding {
+                code: 2,
+                a: 0,
+                b: 0,
+            },
+            VolumeFault::PastSlots(n) => Finding {
+                code: 6,
+                a: n,
+                b: 0,
+            },
+        }
+    }
+}
+
 impl fmt::Display for VolumeFault {
     ghost use Rattle.std.specs.Prelude.{Some};
     ghost use Rattle.f11_commands.specs.DumpCommand.{volume_fault_text};
@@ -29,11 +58,7 @@ impl fmt::Display for VolumeFault {
     ghost output = { λ fault. Some (volume_fault_text fault) };
 
     fn fmt<W: fmt::Write>(&self, f: &mut fmt::Formatter<W>) -> fmt::Result {
-        match self {
-            VolumeFault::NoHome => write!(f, "F1 no home block"),
-            VolumeFault::IndexMisplaced => write!(f, "F2 index file misplaced"),
-            VolumeFault::PastSlots(n) => write!(f, "F6 index bit {n} past the slots"),
-        }
+        write!(f, "{}", FaultText(self.finding()))
     }
 }
 

@@ -1,6 +1,6 @@
 //! The command `dump`.
 ghost use Rattle.std.specs.Prelude.{◌≡◌, length, IfOk, IfErr, OnOk};
-ghost use Rattle.f11_index.specs.Kept.{index_kept, LiesWithin};
+ghost use Rattle.f11_index.specs.Kept.{index_kept, IndexLiesWithin};
 ghost use Rattle.f11_commands.specs.DumpCommand.{DumpsSlot, FailsToDumpSlot, FailsToPrintHeader, PrintsFault, PrintsHeader};
 
 use crate::dump::dump_header;
@@ -52,7 +52,7 @@ fn dump_slot<D: Device, W: Write>(
     writer: &mut W,
     n: u16,
 ) -> Result<Answer, Failure>
-    requires within { LiesWithin (index_kept index.now) (length (D.disk device.old).image) }
+    requires within { IndexLiesWithin (index_kept index.now) (length (D.disk device.old).image) }
     ensures done { IfOk result (λ answer. answer ≡ Answer.Done) }
     ensures dumps { OnOk result (DumpsSlot (index_kept index.now) n D.disk device.old device.new
         W.contents writer.old writer.new) }

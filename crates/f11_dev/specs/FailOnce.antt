@@ -27,7 +27,8 @@ abbrev pub fail_once_outcomes : {D : Type 0} → FailOnce D → Outcomes
 fail_once_outcomes f = f.outcomes
 
 -- A transfer meets a `FailOnce`: it is one of the disk that it is, and of the inner device too, but for the one that fails.
-pub record MeetsFailOnce {D E : Type 0} (disk : D → Disk) (result : Result Unit E) (transfers : Disk → Disk → Type 0) (old new : FailOnce D) : Type 0 where
+pub record MeetsFailOnce {D E : Type 0} (disk : D → Disk) (result : Result Unit E) (transfers : Disk → Disk → Type 0)
+    (old new : FailOnce D) : Type 0 where
   pub outer : transfers (fail_once_disk disk old) (fail_once_disk disk new)
   pub passes : fails_at old ≢ 1 → transfers (disk (behind_fail_once old)) (disk (behind_fail_once new))
   pub fails : fails_at old ≡ 1 → IsErr result

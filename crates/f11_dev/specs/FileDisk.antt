@@ -17,7 +17,10 @@ FileReads = (result : Result Unit DeviceFault) (lbn : ℕ) (into : List ℕ) (ol
 
 pub file_reads : FileReads
 unfolding is_file_honest
-file_reads (Ok x) lbn into old new dishonest counts = record { counts = counts; gives = λ honest. let never : false ≡ true = sym dishonest ∙ honest in cc }
+file_reads (Ok x) lbn into old new dishonest counts = record {
+  counts = counts;
+  gives = λ honest. let never : false ≡ true = sym dishonest ∙ honest in cc;
+}
 file_reads (Err e) lbn into old new dishonest counts = record { counts = counts; gives = tt }
 
 -- A file of so many blocks that was written earlier, before it was opened, and then since. What it held when it was opened is

@@ -18,7 +18,8 @@ fuse_disk disk f = with_outcomes (disk f.inner) f.outcomes
 
 -- A transfer meets a fuse: it is one of the disk that it is, and while it passes transfers on of the inner device too. Then it fails, and
 -- the inner device stays. It has one transfer less to pass on.
-pub record MeetsFuse {D E : Type 0} (disk : D → Disk) (result : Result Unit E) (transfers : Disk → Disk → Type 0) (old new : Fuse D) : Type 0 where
+pub record MeetsFuse {D E : Type 0} (disk : D → Disk) (result : Result Unit E) (transfers : Disk → Disk → Type 0)
+    (old new : Fuse D) : Type 0 where
   pub outer : transfers (fuse_disk disk old) (fuse_disk disk new)
   pub passes : 0 < passes_left old → transfers (disk (behind_fuse old)) (disk (behind_fuse new))
   pub blown : passes_left old ≡ 0 → IsErr result × (behind_fuse new ≡ behind_fuse old)

@@ -28,7 +28,8 @@ pub record ReadsAsLiar {D E : Type 0} (disk : D → Disk) (result : Result Unit 
   pub place : lies_at new ≡ lies_at old
 
 -- A write is one of the disk that it is, and of the inner device.
-pub record WritesAsLiar {D E : Type 0} (disk : D → Disk) (result : Result Unit E) (lbn : ℕ) (from : List ℕ) (old new : Liar D) : Type 0 where
+pub record WritesAsLiar {D E : Type 0} (disk : D → Disk) (result : Result Unit E) (lbn : ℕ) (from : List ℕ)
+    (old new : Liar D) : Type 0 where
   pub writes : Writes result lbn from (liar_disk disk old) (liar_disk disk new)
   pub passes : Writes result lbn from (disk (behind_liar old)) (disk (behind_liar new))
   pub place : lies_at new ≡ lies_at old

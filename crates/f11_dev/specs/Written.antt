@@ -17,4 +17,5 @@ written_image blocks writes = (written_disk (fresh false (zero_image blocks)) wr
 -- A write was added. Where it passed it landed; where it failed it landed or didn't.
 pub record Adds (passed : Bool) (lbn : ℕ) (block : List ℕ) (old new : Written) : Type 0 where
   pub lands : IsTrue passed → (d : Disk) → written_disk d new ≡ with_block_at lbn block (written_disk d old)
-  pub lands_or_not : (d : Disk) → (written_disk d new ≡ written_disk d old) ⊎ (written_disk d new ≡ with_block_at lbn block (written_disk d old))
+  pub lands_or_not : (d : Disk) →
+      (written_disk d new ≡ written_disk d old) ⊎ (written_disk d new ≡ with_block_at lbn block (written_disk d old))

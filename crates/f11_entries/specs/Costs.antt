@@ -23,9 +23,11 @@ FindFits = (s : Store) (task : ℕ) (d : FileId) (name : List ℕ) → look_cost
 -- the look, then one block written
 abbrev pub RemoveFits : Type 0
 RemoveFits =
-    (s : Store) (task : ℕ) (d : FileId) (name : List ℕ) → look_cost (file_named s d) + (header_count (file_named s d) + 1) ≤ cost s task (request.Remove d name)
+    (s : Store) (task : ℕ) (d : FileId) (name : List ℕ) →
+    look_cost (file_named s d) + (header_count (file_named s d) + 1) ≤ cost s task (request.Remove d name)
 
--- the most transfers of a record more in a directory that was looked through: those of one block more, and then of writing a block and the header
+-- the most transfers of a record more in a directory that was looked through: those of one block more, and then of writing a
+-- block and the header
 abbrev pub entry_cost : Store → File → ℕ
 entry_cost s f = growth_cost s f 1 + header_count f + 4
 

@@ -19,13 +19,15 @@ pub record EnteringIn (s : Store) (d : FileId) (i : ℕ) (r : List ℕ) (o : Opt
 
 abbrev pub EnteringInPlace : Type 0
 EnteringInPlace =
-    (s : Store) (d : FileId) (i : ℕ) (r : List ℕ) → index_of_empty (file_named s d) ≡ Some i → EnteringIn s d i r (index_of_empty (file_named s d))
+    (s : Store) (d : FileId) (i : ℕ) (r : List ℕ) → index_of_empty (file_named s d) ≡ Some i →
+    EnteringIn s d i r (index_of_empty (file_named s d))
 
 -- at the end of u, which is s or s with one more block of the directory: a write of a block, then one of a header
 pub record EnteringFrom (u s : Store) (d : FileId) (i : ℕ) (r : List ℕ) (o : Option ℕ) : Type 0 where
   pub entry : (t : Store) → LagsBy (one_part d.number (file_changes d.number (with_entry i r))) t u →
       LagsBy (enter_work o (file_named s d) d.number r) t s
-  pub end : (t : Store) → LagsBy (one_part d.number (file_changes d.number (with_end_after i))) t (with_change u d.number (with_entry i r)) →
+  pub end : (t : Store) → LagsBy (one_part d.number (file_changes d.number (with_end_after i))) t
+      (with_change u d.number (with_entry i r)) →
       LagsBy (enter_work o (file_named s d) d.number r) t s
   pub enters : Enters s d r (with_change (with_change u d.number (with_entry i r)) d.number (with_end_after i))
 

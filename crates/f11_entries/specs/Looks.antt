@@ -24,7 +24,8 @@ IsSpotOf None number block result = IfSome result (λ spot. (spot.number ≡ num
 -- the first record with the name, or that there is none, and the first empty one
 abbrev pub Tells : List ℕ → File → Looked → Type 0
 Tells name f (looked.Found spot id) =
-    IsFirstOf name f (place_of spot) (record_in spot.block spot.place) × IsInHand f spot × (id ≡ record_id (record_in spot.block spot.place))
+    IsFirstOf name f (place_of spot) (record_in spot.block spot.place) × IsInHand f spot ×
+    (id ≡ record_id (record_in spot.block spot.place))
 Tells name f (looked.Absent empty) = HasNot name f (option_map place_of empty) × IfSome empty (IsInHand f)
 
 -- where no record has the name, this is the last block that has records

@@ -9,7 +9,8 @@ use Rattle.f11_store.specs.declared.protection.Right.TheVariants as right
 use Rattle.f11_store.specs.declared.requests.Request.TheVariants as request
 use Rattle.f11_store.specs.File.{File, length_of, is_marked}
 use Rattle.f11_store.specs.Store.{Store, file_named, is_held, is_accessed, bars_writing}
-use Rattle.f11_store.specs.Directory.{empty_record, index_of_name, index_of_empty, entry_count, needs_block, is_directory, is_entered, with_bytes, with_end}
+use Rattle.f11_store.specs.Directory.{empty_record, index_of_name, index_of_empty, entry_count, needs_block}
+use Rattle.f11_store.specs.Directory.{is_directory, is_entered, with_bytes, with_end}
 use Rattle.f11_store.specs.Causes.{is_bad, is_missing, lacks, first_of, growth_causes_if, first_refusal}
 use Rattle.f11_store.specs.Changes.{with_change, with_block, with_replacement, after_remove, Enters}
 use Rattle.f11_store.specs.Lags.{Work, one_part, file_changes, enter_work, work_if, LagsBy, Lags}
@@ -72,7 +73,8 @@ EnteringInPlaceByWrite =
     EnteringByWrite s d number place block r (index_of_empty (file_named s d))
 
 -- Remove: one write of the block
-pub record RemovingByWrite (s : Store) (task : ℕ) (caller : Uic) (d : FileId) (name : List ℕ) (number place : ℕ) (block unused : List ℕ) : Type 0 where
+pub record RemovingByWrite (s : Store) (task : ℕ) (caller : Uic) (d : FileId) (name : List ℕ) (number place : ℕ)
+    (block unused : List ℕ) : Type 0 where
   pub putting : (t : Store) → LagsBy (one_part d.number (file_changes d.number (put_in number place block empty_record))) t s →
       Lags t s task caller (request.Remove d name) unused
   pub removes : with_change s d.number (put_in number place block empty_record) ≡ after_remove s d name
@@ -90,4 +92,5 @@ RefusedLagsToo = (o : Option Refusal) (work : Work) (t s : Store) → LagsBy (wo
 
 -- Enter keeps the mark of every file
 abbrev pub EnterKeepsMarks : Type 0
-EnterKeepsMarks = (s s' : Store) (d id : FileId) (r : List ℕ) (m : Bool) → Enters s d r s' → mark_of s id ≡ Some m → is_accessed s' id ≡ true → mark_of s' id ≡ Some m
+EnterKeepsMarks = (s s' : Store) (d id : FileId) (r : List ℕ) (m : Bool) → Enters s d r s' → mark_of s id ≡ Some m →
+    is_accessed s' id ≡ true → mark_of s' id ≡ Some m

@@ -18,13 +18,13 @@ use Rattle.f11_store.specs.declared.refusals.Refusal.TheVariants.{BadArgument, L
 use Rattle.f11_store.specs.declared.requests.Reply.TheVariants as reply
 use Rattle.f11_store.specs.declared.requests.Request.{Request}
 use Rattle.f11_store.specs.declared.requests.Request.TheVariants as request
-use Rattle.f11_files.specs.Answers.{Reads, FailsToRead}
+use Rattle.f11_files.specs.Answers.{ReadsAtMost, FailsToRead}
 use Rattle.f11_files.specs.Operations.{attr_of, file_causes}
 use Rattle.f11_image_store.specs.StoreOf.{store_of}
 use Rattle.f11_fcp.specs.Accesses.{Table, Entry, access_of, with_entry, held_in, is_held_in, mark_there, mark_kept, HasAccessed}
 use Rattle.f11_fcp.specs.Handles.{State, store_at, Handles}
 use Rattle.f11_fcp.specs.Rights.{lacks_by}
-use Rattle.f11_fcp.proofs.HandleLemmas.{handled-light, handled-served}
+use Rattle.f11_fcp.proofs.HandleLemmas.{handled-clean, handled-served}
 use Rattle.f11_fcp.proofs.AccessedLemmas.{drop-false, take-true, refused-early, writes-looked}
 use Rattle.f11_fcp.proofs.NamedLemmas.{found, marks-read, unread}
 
@@ -76,7 +76,7 @@ module _ (task lun : ℕ) (caller : Uic) (id : FileId) (m : Mode) (old : State) 
             → mid.counts ≡ old.counts → Handles task caller r (Err e) old [] mid []
         access-unread e mid alive fails home table counts = unread task caller r old id _ e mid alive judged refl (omega arith) fails home table counts
 
-        module _ (attr : Attr) (mid : State) (reads : Reads 1 old.disk mid.disk 0) (none : IsTrue old.disk.honest → first_of (file_causes s0 id) ≡ None)
+        module _ (attr : Attr) (mid : State) (reads : ReadsAtMost 1 old.disk mid.disk 0) (none : IsTrue old.disk.honest → first_of (file_causes s0 id) ≡ None)
             (is : IsTrue old.disk.honest → attr ≡ attr_of (file_named s0 id)) (home : mid.home ≡ old.home) (counts : mid.counts ≡ old.counts)
           where
             there : IsTrue old.disk.honest → is_missing s0 id ≡ false
@@ -90,13 +90,13 @@ module _ (task lun : ℕ) (caller : Uic) (id : FileId) (m : Mode) (old : State) 
 
             pub access-marked : mid.table ≡ old.table → (bit_at attr.characteristics 15 == 1) ≡ true → Handles task caller r (Err Marked) old [] mid []
             access-marked table marked =
-                handled-light task caller r [] old Marked mid refl (λ v. absurd (cc)) refl
+                handled-clean task caller r [] old Marked mid refl (λ v. absurd (cc)) refl
                 (λ honest. judged ∙ drop-false (is_missing s0 id) _ _ (there honest) ∙ take-true (is_marked (file_named s0 id)) _ _ (marks honest ∙ marked)) reads home table counts
 
             module _ (unmarked : (bit_at attr.characteristics 15 == 1) ≡ false) where
               pub access-unprivileged : mid.table ≡ old.table → lacks_by m caller attr.owner attr.protection ≡ true → Handles task caller r (Err NoPrivilege) old [] mid []
               access-unprivileged table lacks =
-                  handled-light task caller r [] old NoPrivilege mid refl (λ v. absurd (cc)) refl
+                  handled-clean task caller r [] old NoPrivilege mid refl (λ v. absurd (cc)) refl
                   (λ honest. judged ∙ drop-false (is_missing s0 id) _ _ (there honest) ∙ drop-false (is_marked (file_named s0 id)) _ _ (marks honest ∙ unmarked)
                   ∙ take-true (lacks_for m caller (file_named s0 id)) _ _ (lacking honest ∙ lacks)) reads home table counts
 
@@ -107,7 +107,7 @@ module _ (task lun : ℕ) (caller : Uic) (id : FileId) (m : Mode) (old : State) 
 
                 pub access-barred : mid.table ≡ old.table → true ≡ is_held_in (bars m) old.table id → Handles task caller r (Err Conflict) old [] mid []
                 access-barred table barred =
-                    handled-light task caller r [] old Conflict mid refl (λ v. absurd (cc)) refl
+                    handled-clean task caller r [] old Conflict mid refl (λ v. absurd (cc)) refl
                     (λ honest. last honest ∙ take-true (is_held (bars m) s id) _ _ (sym (barred ∙ barred-same m old.table s0 id))) reads home table counts
 
                 pub access-taken : mid.table ≡ with_entry old.table task lun (Some (record { file = id; mode = m; marked = false })) → false ≡ is_held_in (bars m) old.table id

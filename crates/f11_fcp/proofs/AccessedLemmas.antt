@@ -24,7 +24,7 @@ use Rattle.f11_store.specs.declared.requests.Reply.TheVariants as reply
 use Rattle.f11_store.specs.declared.requests.Request.{Request}
 use Rattle.f11_store.specs.declared.requests.Request.TheVariants as request
 use Rattle.f11_store.specs.Rights.{may}
-use Rattle.f11_files.specs.Answers.{Reads, Writes, FailsToRead, FailsToWrite, is_among, is_cause, is_grave, is_light, faults_of}
+use Rattle.f11_files.specs.Answers.{ReadsAtMost, WritesAtMost, FailsToRead, FailsToWrite, is_among, is_cause, is_fatal, is_clean, faults_of}
 use Rattle.f11_files.specs.Operations.{length_causes, extend_causes, attr_of}
 use Rattle.f11_files.specs.Finding.Blocks.{ReadsBlock, StoresBlock, FailsToStore, block_work}
 use Rattle.f11_files.specs.Extending.Runs.{IsLengthAfter, ExtendsFile, FailsToExtend}
@@ -34,7 +34,7 @@ use Rattle.f11_fcp.specs.Accesses.{Table, Entry, access_of, accesses, held_in, m
 use Rattle.f11_store.specs.Accesses.{mark_of}
 use Rattle.f11_fcp.specs.Handles.{State, store_at, own_causes, Meanwhile, Handles, of_accessed}
 use Rattle.f11_store.proofs.HeldLaws.{growth-held, grows-held}
-use Rattle.f11_fcp.proofs.HandleLemmas.{work-then, light-cause, handled-served, same-store, handled-light, handled-grave, handled-refused, handled-does, behind, reads-none}
+use Rattle.f11_fcp.proofs.HandleLemmas.{work-then, clean-cause, handled-served, same-store, handled-clean, handled-fatal, handled-refused, handled-does, behind, reads-none}
 
 -- a test that fails
 pub drop-false : {A : Type 0} (b : Bool) (x rest : A) → b ≡ false → (if b then x else rest) ≡ rest
@@ -46,11 +46,11 @@ take-true true x rest h = refl
 take-true false x rest h = absurd (cc)
 
 -- a refusal for a cause
-pub cause-light : (e : Refusal) → is_cause e ≡ true → (is_grave e ≡ false) × (e ≢ VolumeFailed)
-cause-light VolumeFailed h = absurd (cc)
-cause-light DeviceFault h = absurd (cc)
-cause-light Damaged h = absurd (cc)
-cause-light _ h = (refl, λ is. absurd (cc))
+pub cause-clean : (e : Refusal) → is_cause e ≡ true → (is_fatal e ≡ false) × (e ≢ VolumeFailed)
+cause-clean VolumeFailed h = absurd (cc)
+cause-clean DeviceFault h = absurd (cc)
+cause-clean Damaged h = absurd (cc)
+cause-clean _ h = (refl, λ is. absurd (cc))
 
 -- the only cause against reading a header is that there is no such file
 pub among-file : (m : Bool) (e : Refusal) → is_among ((NoSuchFile ⇐ m) ∷ []) e ≡ true → e ≡ NoSuchFile
@@ -58,9 +58,9 @@ among-file m NoSuchFile h = refl
 among-file m _ h = absurd (cc)
 
 -- what doesn't fail the volume is no refusal of files that does
-pub of-accessed-light : (e : Refusal) → is_grave (of_accessed e) ≡ false → is_grave e ≡ false
-of-accessed-light NoSuchFile h = refl
-of-accessed-light _ h = h
+pub of-accessed-clean : (e : Refusal) → is_fatal (of_accessed e) ≡ false → is_fatal e ≡ false
+of-accessed-clean NoSuchFile h = refl
+of-accessed-clean _ h = h
 
 -- NoSuchFile of a file that is accessed is damage, and any other refusal is itself
 pub accessed-cases : (e : Refusal) → (e ≡ NoSuchFile) ⊎ (of_accessed e ≡ e)
@@ -104,11 +104,11 @@ module _ (task : ℕ) (caller : Uic) (r : Request) (block : List ℕ) (old : Sta
   -- it was refused before any transfer
   pub refused-early : (e : Refusal) → is_cause e ≡ true → is_among (own_causes (store_at old) task caller r) e ≡ true → first_refusal (store_at old) task caller r ≡ Some e → Handles task caller r (Err e) old block old block
   refused-early e cause own first =
-      let light = cause-light e cause in
-      handled-light task caller r block old e old light.0 light.1 own (λ _. first) (reads-within (omega arith) (reads-none old.disk)) refl refl refl
+      let clean = cause-clean e cause in
+      handled-clean task caller r block old e old clean.0 clean.1 own (λ _. first) (reads-within (omega arith) (reads-none old.disk)) refl refl refl
 
   -- blocks were read alone
-  pub writes-looked : {m faults : ℕ} (new : Disk) → Reads m old.disk new faults → m ≤ cost (store_at old) task r → Writes (Meanwhile task caller r block old) (cost (store_at old) task r) old.disk new faults
+  pub writes-looked : {m faults : ℕ} (new : Disk) → ReadsAtMost m old.disk new faults → m ≤ cost (store_at old) task r → WritesAtMost (Meanwhile task caller r block old) (cost (store_at old) task r) old.disk new faults
   writes-looked new reads fewer = record {
     transfers = reads.reads;
     went = went_looked (Meanwhile task caller r block old) reads.looked;
@@ -120,29 +120,29 @@ module _ (task : ℕ) (caller : Uic) (r : Request) (block : List ℕ) (old : Sta
       → FailsToRead failed ((NoSuchFile ⇐ missing) ∷ []) n e old.disk mid.disk → n ≤ cost (store_at old) task r
       → (IsTrue old.disk.honest → missing ≡ false) → mid.home ≡ old.home → res ≡ of_accessed e → Handles task caller r (Err res) old block mid block'
   accessed-unread e res missing mid block' alive fails fewer there home is =
-      subst (λ (x : Refusal). Handles task caller r (Err x) old block mid block') (sym is) (by_grave (is_grave e) refl)
+      subst (λ (x : Refusal). Handles task caller r (Err x) old block mid block') (sym is) (by_fatal (is_fatal e) refl)
     where
-      writes : Writes (Meanwhile task caller r block old) (cost (store_at old) task r) old.disk mid.disk (faults_of e)
+      writes : WritesAtMost (Meanwhile task caller r block old) (cost (store_at old) task r) old.disk mid.disk (faults_of e)
       writes = writes-looked mid.disk fails.reads fewer
 
-      by_grave : (b : Bool) → is_grave e ≡ b → Handles task caller r (Err (of_accessed e)) old block mid block'
-      by_grave true grave =
-          subst (λ (x : Refusal). Handles task caller r (Err x) old block mid block') (sym (same-grave e grave))
-          (handled-grave task caller r block old e mid block' grave fails.right.undamaged writes home)
+      by_fatal : (b : Bool) → is_fatal e ≡ b → Handles task caller r (Err (of_accessed e)) old block mid block'
+      by_fatal true fatal =
+          subst (λ (x : Refusal). Handles task caller r (Err x) old block mid block') (sym (same-fatal e fatal))
+          (handled-fatal task caller r block old e mid block' fatal fails.right.undamaged writes home)
         where
-          same-grave : (e : Refusal) → is_grave e ≡ true → of_accessed e ≡ e
-          same-grave NoSuchFile h = absurd (cc)
-          same-grave _ h = refl
-      by_grave false light =
+          same-fatal : (e : Refusal) → is_fatal e ≡ true → of_accessed e ≡ e
+          same-fatal NoSuchFile h = absurd (cc)
+          same-fatal _ h = refl
+      by_fatal false clean =
           let other : e ≢ VolumeFailed = λ v. absurd (let no : false ≡ true = sym alive ∙ fails.right.volume v in cc) in
-          let file = among-file missing e (fails.right.among (light-cause e light other).0) in
+          let file = among-file missing e (fails.right.among (clean-cause e clean other).0) in
           subst (λ (x : Refusal). Handles task caller r (Err (of_accessed x)) old block mid block') (sym file)
-          (handled-grave task caller r block old Damaged mid block' refl
+          (handled-fatal task caller r block old Damaged mid block' refl
           (λ honest _. absurd (
-          let first = subst (λ (x : Refusal). first_of ((NoSuchFile ⇐ missing) ∷ []) ≡ Some x) file (fails.right.cause honest (light-cause e light other).0) in
+          let first = subst (λ (x : Refusal). first_of ((NoSuchFile ⇐ missing) ∷ []) ≡ Some x) file (fails.right.cause honest (clean-cause e clean other).0) in
           let none : None ≡ Some NoSuchFile = sym (drop-false missing (Some NoSuchFile) None (there honest)) ∙ first in cc
           ))
-          (subst (λ (x : Refusal). Writes (Meanwhile task caller r block old) (cost (store_at old) task r) old.disk mid.disk (faults_of x)) file writes) home)
+          (subst (λ (x : Refusal). WritesAtMost (Meanwhile task caller r block old) (cost (store_at old) task r) old.disk mid.disk (faults_of x)) file writes) home)
 
   -- a call that only a missing file stands against broke off
   pub accessed-broke : {failed : Bool} (e res : Refusal) (missing : Bool) (work : Work) (new : State) (block' : List ℕ) {n : ℕ} → failed ≡ false
@@ -150,7 +150,7 @@ module _ (task : ℕ) (caller : Uic) (r : Request) (block : List ℕ) (old : Sta
       → (IsTrue old.disk.honest → missing ≡ false) → (IsTrue old.disk.honest → first_refusal (store_at old) task caller r ≡ None)
       → (IsTrue old.disk.honest → work ≡ served_work (store_at old) task caller r block) → new.home ≡ old.home → res ≡ of_accessed e → Handles task caller r (Err res) old block new block'
   accessed-broke e res missing work new block' alive fails fewer there none works home is =
-      subst (λ (x : Refusal). Handles task caller r (Err x) old block new block') (sym is) (by_grave (is_grave e) refl)
+      subst (λ (x : Refusal). Handles task caller r (Err x) old block new block') (sym is) (by_fatal (is_fatal e) refl)
     where
       causes : List Cause
       causes = (NoSuchFile ⇐ missing) ∷ []
@@ -158,34 +158,34 @@ module _ (task : ℕ) (caller : Uic) (r : Request) (block : List ℕ) (old : Sta
       works-if : IsTrue old.disk.honest → work_if (first_of causes) work ≡ work_of (store_at old) task caller r block
       works-if honest = ap (λ o. work_if o work) (drop-false missing (Some NoSuchFile) None (there honest)) ∙ works honest ∙ work-then task caller r block old (none honest)
 
-      writes : Writes (Meanwhile task caller r block old) (cost (store_at old) task r) old.disk new.disk (faults_of e)
+      writes : WritesAtMost (Meanwhile task caller r block old) (cost (store_at old) task r) old.disk new.disk (faults_of e)
       writes = behind task caller r block old (work_if (first_of causes) work) old new (reads-none old.disk) refl works-if fails.writes fewer
 
-      by_grave : (b : Bool) → is_grave e ≡ b → Handles task caller r (Err (of_accessed e)) old block new block'
-      by_grave true grave =
-          subst (λ (x : Refusal). Handles task caller r (Err x) old block new block') (sym (same-grave e grave)) (handled-grave task caller r block old e new block' grave fails.right.undamaged writes home)
+      by_fatal : (b : Bool) → is_fatal e ≡ b → Handles task caller r (Err (of_accessed e)) old block new block'
+      by_fatal true fatal =
+          subst (λ (x : Refusal). Handles task caller r (Err x) old block new block') (sym (same-fatal e fatal)) (handled-fatal task caller r block old e new block' fatal fails.right.undamaged writes home)
         where
-          same-grave : (e : Refusal) → is_grave e ≡ true → of_accessed e ≡ e
-          same-grave NoSuchFile h = absurd (cc)
-          same-grave _ h = refl
-      by_grave false light =
+          same-fatal : (e : Refusal) → is_fatal e ≡ true → of_accessed e ≡ e
+          same-fatal NoSuchFile h = absurd (cc)
+          same-fatal _ h = refl
+      by_fatal false clean =
           let other : e ≢ VolumeFailed = λ v. absurd (let no : false ≡ true = sym alive ∙ fails.right.volume v in cc) in
-          let file = among-file missing e (fails.right.among (light-cause e light other).0) in
+          let file = among-file missing e (fails.right.among (clean-cause e clean other).0) in
           subst (λ (x : Refusal). Handles task caller r (Err (of_accessed x)) old block new block') (sym file)
-          (handled-grave task caller r block old Damaged new block' refl
+          (handled-fatal task caller r block old Damaged new block' refl
           (λ honest _. absurd (
-          let first = subst (λ (x : Refusal). first_of causes ≡ Some x) file (fails.right.cause honest (light-cause e light other).0) in
+          let first = subst (λ (x : Refusal). first_of causes ≡ Some x) file (fails.right.cause honest (clean-cause e clean other).0) in
           let no : None ≡ Some NoSuchFile = sym (drop-false missing (Some NoSuchFile) None (there honest)) ∙ first in cc
           ))
-          (subst (λ (x : Refusal). Writes (Meanwhile task caller r block old) (cost (store_at old) task r) old.disk new.disk (faults_of x)) file writes) home)
+          (subst (λ (x : Refusal). WritesAtMost (Meanwhile task caller r block old) (cost (store_at old) task r) old.disk new.disk (faults_of x)) file writes) home)
 
   -- a call on a file that is accessed was refused
-  pub accessed-refused : (e : Refusal) (missing : Bool) (rest : List Cause) (work : Work) (mid new : State) (block' : List ℕ) {m n : ℕ} → Reads m old.disk mid.disk 0 → mid.home ≡ old.home
+  pub accessed-refused : (e : Refusal) (missing : Bool) (rest : List Cause) (work : Work) (mid new : State) (block' : List ℕ) {m n : ℕ} → ReadsAtMost m old.disk mid.disk 0 → mid.home ≡ old.home
       → mid.counts ≡ old.counts → FailsToWrite false ((NoSuchFile ⇐ missing) ∷ rest) n work mid.home e mid.disk new.disk
       → (of_accessed e ≡ e → is_among ((NoSuchFile ⇐ missing) ∷ rest) e ≡ true → is_among (own_causes (store_at old) task caller r) e ≡ true) → (IsTrue old.disk.honest → m + n ≤ cost (store_at old) task r)
       → (IsTrue old.disk.honest → missing ≡ false) → (IsTrue old.disk.honest → first_of rest ≡ first_refusal (store_at old) task caller r) → (first_refusal (store_at old) task caller r ≢ Some NoSuchFile)
       → (IsTrue old.disk.honest → work ≡ served_work (store_at old) task caller r block)
-      → new.home ≡ mid.home → new.table ≡ old.table → (is_light e ≡ true → new.counts ≡ mid.counts) → (is_grave e ≡ false → block' ≡ block)
+      → new.home ≡ mid.home → new.table ≡ old.table → (is_clean e ≡ true → new.counts ≡ mid.counts) → (is_fatal e ≡ false → block' ≡ block)
       → Handles task caller r (Err (of_accessed e)) old block new block'
   accessed-refused e missing rest work mid new block' reads home counts fails own fewer there first never works home' table counts' lent = by_case (accessed-cases e)
     where
@@ -204,9 +204,9 @@ module _ (task : ℕ) (caller : Uic) (r : Request) (block : List ℕ) (old : Sta
           (handled-refused task caller r block old e causes work mid new block' reads home counts fails (own same) fewer whole works home' table counts' lent)
       by_case (inl is) =
           subst (λ (x : Refusal). Handles task caller r (Err (of_accessed x)) old block new block') (sym is)
-          (handled-grave task caller r block old Damaged new block' refl
+          (handled-fatal task caller r block old Damaged new block' refl
           (λ honest _. never (sym (whole honest) ∙ subst (λ (x : Refusal). first_of causes ≡ Some x) is (fails.right.cause (reads.looked.honest ∙ honest) (ap (λ x. is_cause x) is))))
-          (subst (λ (x : Refusal). Writes (Meanwhile task caller r block old) (cost (store_at old) task r) old.disk new.disk (faults_of x)) is
+          (subst (λ (x : Refusal). WritesAtMost (Meanwhile task caller r block old) (cost (store_at old) task r) old.disk new.disk (faults_of x)) is
           (behind task caller r block old (work_if (first_of causes) work) mid new reads home works-if fails.writes fewer)) (home' ∙ home))
 
 -- no cause against more blocks is that there is no such file
@@ -261,11 +261,11 @@ module _ (task lun : ℕ) (caller : Uic) (old : State) (e : Entry) (held : old.t
     least = omega (arith, bound)
 
     -- the right is missing
-    pub extend-unprivileged : (attr : Attr) (mid : State) → Reads 1 old.disk mid.disk 0 → (IsTrue old.disk.honest → attr ≡ attr_of (file_named s0 e.file))
+    pub extend-unprivileged : (attr : Attr) (mid : State) → ReadsAtMost 1 old.disk mid.disk 0 → (IsTrue old.disk.honest → attr ≡ attr_of (file_named s0 e.file))
         → may caller attr.owner attr.protection right.Extend ≡ false → mid.home ≡ old.home → mid.table ≡ old.table → mid.counts ≡ old.counts
         → Handles task caller r (Err NoPrivilege) old [] mid []
     extend-unprivileged attr mid reads is denied home table counts =
-        handled-light task caller r [] old NoPrivilege mid refl (λ v. absurd (cc)) refl
+        handled-clean task caller r [] old NoPrivilege mid refl (λ v. absurd (cc)) refl
         (λ honest. judged true (lacking honest)) (reads-within (omega (arith, bound)) reads) home table counts
       where
         lacking : IsTrue old.disk.honest → lacks right.Extend caller (file_named s0 e.file) ≡ true
@@ -274,7 +274,7 @@ module _ (task lun : ℕ) (caller : Uic) (old : State) (e : Entry) (held : old.t
     granted : (attr : Attr) → attr ≡ attr_of (file_named s0 e.file) → may caller attr.owner attr.protection right.Extend ≡ true → lacks right.Extend caller (file_named s0 e.file) ≡ false
     granted attr is may_it = not_from_true _ (ap (λ (a : Attr). may caller a.owner a.protection right.Extend) (sym is) ∙ may_it)
 
-    module _ (attr : Attr) (mid new : State) (reads : Reads 1 old.disk mid.disk 0) (is : IsTrue old.disk.honest → attr ≡ attr_of (file_named s0 e.file))
+    module _ (attr : Attr) (mid new : State) (reads : ReadsAtMost 1 old.disk mid.disk 0) (is : IsTrue old.disk.honest → attr ≡ attr_of (file_named s0 e.file))
         (may_it : may caller attr.owner attr.protection right.Extend ≡ true) (there : IsTrue old.disk.honest → is_missing s0 e.file ≡ false)
         (home : mid.home ≡ old.home) (home' : new.home ≡ mid.home) (table : new.table ≡ old.table)
       where
@@ -307,7 +307,7 @@ module _ (task lun : ℕ) (caller : Uic) (old : State) (e : Entry) (held : old.t
                 (subst (λ (x : Store). Extends s e.file.number n x) (sym (ap (λ (h : HomeFields). held_in new.table (store_of new.disk.image h)) home' ∙ ap (λ (t : Table). held_in t (store_of new.disk.image mid.home)) table))
                 (grows-held (accesses old.table) s0 (store_of new.disk.image mid.home) e.file.number n _ (subst (λ (x : Store). Extends x e.file.number n (store_of new.disk.image mid.home)) same makes)))
 
-        pub not-extended : {failed : Bool} (er res : Refusal) → failed ≡ false → FailsToExtend failed mid.home e.file n er mid.disk new.disk → mid.counts ≡ old.counts → (is_light er ≡ true → new.counts ≡ mid.counts)
+        pub not-extended : {failed : Bool} (er res : Refusal) → failed ≡ false → FailsToExtend failed mid.home e.file n er mid.disk new.disk → mid.counts ≡ old.counts → (is_clean er ≡ true → new.counts ≡ mid.counts)
             → res ≡ of_accessed er → Handles task caller r (Err res) old [] new []
         not-extended er res alive fails counts counts' res_is =
             subst (λ (x : Refusal). Handles task caller r (Err x) old [] new []) (sym res_is)
@@ -369,7 +369,7 @@ module _ (task lun : ℕ) (caller : Uic) (old : State) (e : Entry) (held : old.t
         (writes-looked task caller (request.ReadBlock lun vbn) block old new.disk is.reads few) home
 
     pub read-refused : {failed : Bool} (block block' : List ℕ) (new : State) (er res : Refusal) → failed ≡ false → FailsToRead failed (length_causes sb e.file vbn) (header_count named + 1) er old.disk new.disk
-        → new.home ≡ old.home → new.table ≡ old.table → (is_light er ≡ true → new.counts ≡ old.counts) → (is_grave er ≡ false → block' ≡ block) → res ≡ of_accessed er
+        → new.home ≡ old.home → new.table ≡ old.table → (is_clean er ≡ true → new.counts ≡ old.counts) → (is_fatal er ≡ false → block' ≡ block) → res ≡ of_accessed er
         → Handles task caller (request.ReadBlock lun vbn) (Err res) old block new block'
     read-refused block block' new er res alive fails home table counts lent res_is =
         subst (λ (x : Refusal). Handles task caller (request.ReadBlock lun vbn) (Err x) old block new block') (sym res_is)
@@ -394,7 +394,7 @@ module _ (task lun : ℕ) (caller : Uic) (old : State) (e : Entry) (held : old.t
           (λ _. refl) home
 
       pub not-written : {failed : Bool} (new : State) (er res : Refusal) → failed ≡ false → FailsToStore failed old.home e.file vbn block er old.disk new.disk
-          → new.home ≡ old.home → new.table ≡ old.table → (is_light er ≡ true → new.counts ≡ old.counts) → res ≡ of_accessed er
+          → new.home ≡ old.home → new.table ≡ old.table → (is_clean er ≡ true → new.counts ≡ old.counts) → res ≡ of_accessed er
           → Handles task caller (request.WriteBlock lun vbn) (Err res) old block new block
       not-written new er res alive fails home table counts res_is =
           subst (λ (x : Refusal). Handles task caller (request.WriteBlock lun vbn) (Err x) old block new block) (sym res_is)

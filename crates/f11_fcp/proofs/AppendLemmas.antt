@@ -25,7 +25,7 @@ use Rattle.f11_entries.proofs.CostLemmas.{append_fits, grown_fits}
 use Rattle.f11_entries.proofs.EnteringLemmas.{entering_at_end, entering_in_new_block}
 use Rattle.f11_entries.proofs.SeenLemmas.{new_block_is_zeros}
 use Rattle.f11_entries.proofs.WritingLemmas.{entering_by_writes, entering_in_place_by_write}
-use Rattle.f11_files.specs.Answers.{Breaks, FailsToRead, IsRight, IsUnderWay, Meanwhile, Reads, Writes, faults_of, is_among, is_cause, is_grave}
+use Rattle.f11_files.specs.Answers.{Breaks, FailsToRead, IsRight, IsUnderWay, Meanwhile, ReadsAtMost, WritesAtMost, faults_of, is_among, is_cause, is_fatal}
 use Rattle.f11_files.specs.Finding.Blocks.{ReadsBlock}
 use Rattle.f11_files.specs.Extending.Runs.{ExtendsFile, FailsToExtend}
 use Rattle.f11_files.specs.Operations.{extend_causes}
@@ -38,18 +38,18 @@ use Rattle.f11_fcp.specs.declared.search.Search.{Search}
 use Rattle.f11_fcp.specs.declared.tail.Tail.{Tail}
 use Rattle.f11_fcp.proofs.AccessedLemmas.{growth-never}
 use Rattle.f11_fcp.proofs.EntryLemmas.{there-first, writes-then, writes-weaker}
-use Rattle.f11_fcp.proofs.HandleLemmas.{cause-not-grave, light-cause}
-use Rattle.f11_fcp.proofs.KnownLemmas.{known-grave, light-faults, right-grave, right-damage}
+use Rattle.f11_fcp.proofs.HandleLemmas.{cause-not-fatal, clean-cause}
+use Rattle.f11_fcp.proofs.KnownLemmas.{known-fatal, clean-faults, right-fatal, right-damage}
 
 -- where no cause is that of a refusal it fails the volume
-pub grave-alone : {honest : Bool} (e : Refusal) → IsRight false honest [] e → is_grave e ≡ true
-grave-alone e right = by_grave (is_grave e) refl
+pub fatal-alone : {honest : Bool} (e : Refusal) → IsRight false honest [] e → is_fatal e ≡ true
+fatal-alone e right = by_fatal (is_fatal e) refl
   where
-    by_grave : (b : Bool) → is_grave e ≡ b → b ≡ true
-    by_grave true grave = refl
-    by_grave false light =
+    by_fatal : (b : Bool) → is_fatal e ≡ b → b ≡ true
+    by_fatal true fatal = refl
+    by_fatal false clean =
         let other : e ≢ VolumeFailed = λ v. absurd (let no : false ≡ true = right.volume v in cc) in
-        let no : false ≡ true = right.among (light-cause e light other).0 in absurd (cc)
+        let no : false ≡ true = right.among (clean-cause e clean other).0 in absurd (cc)
 
 -- with the home block that the volume had
 pub appends-at-home : {h home : HomeFields} {d : FileId} {tail : Tail} {r : List ℕ} {old new : Disk} → h ≡ home → Appends h d tail r old new → Appends home d tail r old new
@@ -118,12 +118,12 @@ module _ (home : HomeFields) (d : FileId) (r : List ℕ) (old : Disk) where
 
   -- a part that fails the volume is a failure of the whole
   pub breaks-whole : {Q : Image → Type 0} {n : ℕ} {e : Refusal} {mid new : Disk} → (IsTrue old.honest → first_of (entry_causes s d) ≡ None) → (IsTrue old.honest → IsTrue mid.honest)
-      → Breaks Q n e mid new → Writes (Meanwhile (entry_work s d r) home old) (entry_cost s f) old new (faults_of e) → FailsToPut home d r e old new
+      → Breaks Q n e mid new → WritesAtMost (Meanwhile (entry_work s d r) home old) (entry_cost s f) old new (faults_of e) → FailsToPut home d r e old new
   breaks-whole {e = e} none honest breaks writes = record {
     right = record {
-      volume = λ is. absurd (let grave : is_grave VolumeFailed ≡ true = subst (λ (x : Refusal). is_grave x ≡ true) is breaks.grave in cc);
-      among = λ cause. absurd (let no : true ≡ false = sym breaks.grave ∙ cause-not-grave e cause in cc);
-      cause = λ _ cause. absurd (let no : true ≡ false = sym breaks.grave ∙ cause-not-grave e cause in cc);
+      volume = λ is. absurd (let fatal : is_fatal VolumeFailed ≡ true = subst (λ (x : Refusal). is_fatal x ≡ true) is breaks.fatal in cc);
+      among = λ cause. absurd (let no : true ≡ false = sym breaks.fatal ∙ cause-not-fatal e cause in cc);
+      cause = λ _ cause. absurd (let no : true ≡ false = sym breaks.fatal ∙ cause-not-fatal e cause in cc);
       undamaged = λ sure. breaks.undamaged (honest sure);
     };
     writes = record {
@@ -132,7 +132,7 @@ module _ (home : HomeFields) (d : FileId) (r : List ℕ) (old : Disk) where
           (λ image stands sure. subst (λ (o : Option Refusal). IsUnderWay (work_if o (entry_work s d r)) home old.image image) (sym (none sure)) (stands sure)) writes.went;
       few = writes.few;
     };
-    unchanged = λ light. absurd (let no : true ≡ false = sym breaks.grave ∙ light in cc);
+    unchanged = λ clean. absurd (let no : true ≡ false = sym breaks.fatal ∙ clean in cc);
   }
 
   -- in place of an empty record
@@ -164,7 +164,7 @@ module _ (home : HomeFields) (d : FileId) (r : List ℕ) (old : Disk) where
   -- behind the last record, where that enters it
   module _ {Q : Image → Type 0} {m : ℕ} (mid new : Disk) (tail : Tail) (none : IsTrue old.honest → first_of (entry_causes s d) ≡ None)
       (by : IsTrue old.honest → EnteringBy (store_of mid.image home) s d tail.spot.number tail.spot.place tail.spot.block r (index_of_empty f))
-      (weaker : (image : Image) → Q image → Meanwhile (entry_work s d r) home old image) (before : Writes Q m old mid 0)
+      (weaker : (image : Image) → Q image → Meanwhile (entry_work s d r) home old image) (before : WritesAtMost Q m old mid 0)
       (fits : IsTrue old.honest → m + append_cost (file_named (store_of mid.image home) d) ≤ entry_cost s f)
     where
       sure : IsTrue old.honest → IsTrue mid.honest
@@ -198,13 +198,13 @@ module _ (home : HomeFields) (d : FileId) (r : List ℕ) (old : Disk) where
     end-unread {e = e} fails =
         breaks-whole {Q = λ image. Unit {0}} {mid = old} end-none (λ honest. honest)
         (record {
-          grave = grave-alone e fails.right;
+          fatal = fatal-alone e fails.right;
           undamaged = fails.right.undamaged;
           writes = record { transfers = fails.reads.reads; went = went_looked (λ image. Unit {0}) fails.reads.looked; few = fails.reads.few };
         })
         (record { transfers = fails.reads.reads; went = went_looked (Meanwhile (entry_work s d r) home old) fails.reads.looked; few = λ honest. let few = fails.reads.few honest in omega (arith, few) })
 
-    module _ (mid : Disk) (reads : Reads (header_count f + 1) old mid 0) (tail : Tail) (block : List ℕ) (number-is : tail.spot.number ≡ found.count / 32) (place-is : tail.spot.place ≡ found.count % 32) (block-is : tail.spot.block ≡ block)
+    module _ (mid : Disk) (reads : ReadsAtMost (header_count f + 1) old mid 0) (tail : Tail) (block : List ℕ) (number-is : tail.spot.number ≡ found.count / 32) (place-is : tail.spot.place ≡ found.count % 32) (block-is : tail.spot.block ≡ block)
         (attr-is : tail.attr ≡ found.attr.attr) (length-is : tail.length ≡ found.length) (there : IsTrue old.honest → slice_get f.blocks (found.count / 32) ≡ Some block)
       where
         same : store_of mid.image home ≡ s
@@ -229,7 +229,7 @@ module _ (home : HomeFields) (d : FileId) (r : List ℕ) (old : Disk) where
             entering_by_writes (store_of mid.image home) s d tail.spot.number tail.spot.place tail.spot.block r at.holds.there (omega (arith, place-is)) at.holds.in_hand (omega (arith, counted, number-is, place-is))
             (subst (λ (x : Store). EnteringFrom x s d (entry_count f) r (index_of_empty f)) (sym same) (entering_at_end s d r here.none here.needs_is))
 
-        end-before : Writes (Meanwhile (entry_work s d r) home old) (header_count f + 1) old mid 0
+        end-before : WritesAtMost (Meanwhile (entry_work s d r) home old) (header_count f + 1) old mid 0
         end-before = record { transfers = reads.reads; went = went_looked (Meanwhile (entry_work s d r) home old) reads.looked; few = reads.few }
 
         end-fits : IsTrue old.honest → header_count f + 1 + append_cost (file_named (store_of mid.image home) d) ≤ entry_cost s f
@@ -306,7 +306,7 @@ module _ (home : HomeFields) (d : FileId) (r : List ℕ) (old : Disk) where
         record { sound = stands.sound; lags = (entering_in_new_block s d r (full honest).none (full honest).needs_is).0 (store_of image home) stands.lags }
     by-first image honest (Some x) stands = stands
 
-    writes : Writes (Meanwhile (work_if (first_of (entry_causes s d)) (entry_work s d r)) home old) (entry_cost s f) old new (faults_of e)
+    writes : WritesAtMost (Meanwhile (work_if (first_of (entry_causes s d)) (entry_work s d r)) home old) (entry_cost s f) old new (faults_of e)
     writes =
         writes-weaker
         (λ image stands honest. by-first image honest (first_of (entry_causes s d))
@@ -314,19 +314,19 @@ module _ (home : HomeFields) (d : FileId) (r : List ℕ) (old : Disk) where
         (omega arith) fails.writes
 
     pub not-extended-by-one : FailsToPut home d r (of_known e) old new
-    not-extended-by-one = by_grave (is_grave e) refl
+    not-extended-by-one = by_fatal (is_fatal e) refl
       where
-        by_grave : (b : Bool) → is_grave e ≡ b → FailsToPut home d r (of_known e) old new
-        by_grave true grave =
-            subst (λ (x : Refusal). FailsToPut home d r x old new) (sym (known-grave e grave))
-            (record { right = right-grave (entry_causes s d) e alive grave fails.right; writes = writes; unchanged = λ light. absurd (let no : true ≡ false = sym grave ∙ light in cc) })
-        by_grave false light = by_case (among-growth (is_missing s d) e (fails.right.among cause))
+        by_fatal : (b : Bool) → is_fatal e ≡ b → FailsToPut home d r (of_known e) old new
+        by_fatal true fatal =
+            subst (λ (x : Refusal). FailsToPut home d r x old new) (sym (known-fatal e fatal))
+            (record { right = right-fatal (entry_causes s d) e alive fatal fails.right; writes = writes; unchanged = λ clean. absurd (let no : true ≡ false = sym fatal ∙ clean in cc) })
+        by_fatal false clean = by_case (among-growth (is_missing s d) e (fails.right.among cause))
           where
             other : e ≢ VolumeFailed
             other v = absurd (let no : false ≡ true = sym alive ∙ fails.right.volume v in cc)
 
             cause : is_cause e ≡ true
-            cause = (light-cause e light other).0
+            cause = (clean-cause e clean other).0
 
             by_case : (e ≡ NoSuchFile) ⊎ ((of_known e ≡ e) × (is_among (entry_causes s d) e ≡ true)) → FailsToPut home d r (of_known e) old new
             by_case (inl is) =
@@ -334,7 +334,7 @@ module _ (home : HomeFields) (d : FileId) (r : List ℕ) (old : Disk) where
                 (record {
                   right = right-damage old.honest (entry_causes s d)
                       (λ honest. growth-never s f 1 (sym (there-first (is_missing s d) _ (full honest).end.there) ∙ fails.right.cause honest cause ∙ ap (λ (x : Refusal). Some x) is));
-                  writes = subst (λ (k : ℕ). Writes (Meanwhile (work_if (first_of (entry_causes s d)) (entry_work s d r)) home old) (entry_cost s f) old new k) (light-faults e light) writes;
+                  writes = subst (λ (k : ℕ). WritesAtMost (Meanwhile (work_if (first_of (entry_causes s d)) (entry_work s d r)) home old) (entry_cost s f) old new k) (clean-faults e clean) writes;
                   unchanged = λ no. absurd (cc);
                 })
             by_case (inr own) =
@@ -347,5 +347,5 @@ module _ (home : HomeFields) (d : FileId) (r : List ℕ) (old : Disk) where
                     undamaged = fails.right.undamaged;
                   };
                   writes = writes;
-                  unchanged = λ light'. reads-within (omega arith) (fails.unchanged light');
+                  unchanged = λ clean'. reads-within (omega arith) (fails.unchanged clean');
                 })

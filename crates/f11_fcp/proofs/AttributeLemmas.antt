@@ -18,7 +18,7 @@ use Rattle.f11_store.specs.declared.refusals.Refusal.TheVariants.{BadArgument, S
 use Rattle.f11_store.specs.declared.requests.Reply.TheVariants as reply
 use Rattle.f11_store.specs.declared.requests.Request.{Request}
 use Rattle.f11_store.specs.declared.requests.Request.TheVariants as request
-use Rattle.f11_files.specs.Answers.{Reads, FailsToRead, is_among, is_light}
+use Rattle.f11_files.specs.Answers.{ReadsAtMost, FailsToRead, is_among, is_clean}
 use Rattle.f11_files.specs.Changing.Fields.{Alters, FailsToAlter}
 use Rattle.f11_files.specs.Operations.{attr_of, file_causes}
 use Rattle.f11_image_store.specs.StoreOf.{store_of}
@@ -27,7 +27,7 @@ use Rattle.f11_fcp.specs.Accesses.{Table, held_in}
 use Rattle.f11_fcp.specs.Handles.{State, store_at, own_causes, Handles}
 use Rattle.f11_fcp.specs.Rights.{lacks_change_by}
 use Rattle.f11_fcp.proofs.AccessedLemmas.{drop-false, take-true, refused-early, writes-looked}
-use Rattle.f11_fcp.proofs.HandleLemmas.{handled-light, handled-served, handled-does, handled-refused, same-store}
+use Rattle.f11_fcp.proofs.HandleLemmas.{handled-clean, handled-served, handled-does, handled-refused, same-store}
 use Rattle.f11_fcp.proofs.NamedLemmas.{found, marks-read, unread, same-behind}
 use Rattle.f11_fcp.proofs.RequestLemmas.{still}
 
@@ -55,7 +55,7 @@ module _ (task : ℕ) (caller : Uic) (id : FileId) (old : State) where
         → mid.counts ≡ old.counts → Handles task caller (request.ReadAttr id) (Err e) old [] mid []
     attr-unread e mid alive fails home table counts = unread task caller (request.ReadAttr id) old id None e mid alive told-judged refl (omega arith) fails home table counts
 
-    pub attr-told : (attr : Attr) (mid : State) → Reads 1 old.disk mid.disk 0 → (IsTrue old.disk.honest → first_of (file_causes s0 id) ≡ None)
+    pub attr-told : (attr : Attr) (mid : State) → ReadsAtMost 1 old.disk mid.disk 0 → (IsTrue old.disk.honest → first_of (file_causes s0 id) ≡ None)
         → (IsTrue old.disk.honest → attr ≡ attr_of (file_named s0 id)) → mid.home ≡ old.home → mid.table ≡ old.table → Handles task caller (request.ReadAttr id) (Ok (reply.Attr attr)) old [] mid []
     attr-told attr mid reads none is home table =
         handled-served task caller (request.ReadAttr id) [] old (reply.Attr attr) mid []
@@ -95,7 +95,7 @@ module _ (task : ℕ) (caller : Uic) (id : FileId) (c : Change) (old : State) wh
           → mid.counts ≡ old.counts → Handles task caller r (Err e) old [] mid []
       change-unread e mid alive fails home table counts = unread task caller r old id _ e mid alive judged refl (omega arith) fails home table counts
 
-      module _ (attr : Attr) (mid : State) (reads : Reads 1 old.disk mid.disk 0) (none : IsTrue old.disk.honest → first_of (file_causes u0 id) ≡ None)
+      module _ (attr : Attr) (mid : State) (reads : ReadsAtMost 1 old.disk mid.disk 0) (none : IsTrue old.disk.honest → first_of (file_causes u0 id) ≡ None)
           (is : IsTrue old.disk.honest → attr ≡ attr_of (file_named u0 id)) (home : mid.home ≡ old.home) (counts : mid.counts ≡ old.counts) (table : mid.table ≡ old.table)
         where
           there : IsTrue old.disk.honest → is_missing u0 id ≡ false
@@ -109,13 +109,13 @@ module _ (task : ℕ) (caller : Uic) (id : FileId) (c : Change) (old : State) wh
 
           pub change-marked : (bit_at attr.characteristics 15 == 1) ≡ true → Handles task caller r (Err Marked) old [] mid []
           change-marked marked =
-              handled-light task caller r [] old Marked mid refl (λ v. absurd (cc)) refl
+              handled-clean task caller r [] old Marked mid refl (λ v. absurd (cc)) refl
               (λ honest. judged ∙ drop-false (is_missing u0 id) _ _ (there honest) ∙ take-true (is_marked (file_named u0 id)) _ _ (marks honest ∙ marked)) (reads-within (omega arith) reads) home table counts
 
           module _ (unmarked : (bit_at attr.characteristics 15 == 1) ≡ false) where
             pub change-unprivileged : lacks_change_by c caller attr.owner attr.protection ≡ true → Handles task caller r (Err NoPrivilege) old [] mid []
             change-unprivileged lacks =
-                handled-light task caller r [] old NoPrivilege mid refl (λ v. absurd (cc)) refl
+                handled-clean task caller r [] old NoPrivilege mid refl (λ v. absurd (cc)) refl
                 (λ honest. judged ∙ drop-false (is_missing u0 id) _ _ (there honest) ∙ drop-false (is_marked (file_named u0 id)) _ _ (marks honest ∙ unmarked)
                 ∙ take-true (lacks_change c caller (file_named u0 id)) _ _ (lacking honest ∙ lacks)) (reads-within (omega arith) reads) home table counts
 
@@ -141,7 +141,7 @@ module _ (task : ℕ) (caller : Uic) (id : FileId) (c : Change) (old : State) wh
                   ∙ ap (held_in old.table) (makes ∙ ap (λ (x : Store). with_change x id.number (with_replacement c)) same))
                   (λ _. refl) home'
 
-              pub not-changed : {failed : Bool} (e : Refusal) → failed ≡ false → FailsToAlter failed (with_replacement c) mid.home id e mid.disk new.disk → (is_light e ≡ true → new.counts ≡ mid.counts)
+              pub not-changed : {failed : Bool} (e : Refusal) → failed ≡ false → FailsToAlter failed (with_replacement c) mid.home id e mid.disk new.disk → (is_clean e ≡ true → new.counts ≡ mid.counts)
                   → Handles task caller r (Err e) old [] new []
               not-changed e alive fails counts' =
                   handled-refused task caller r [] old e (file_causes um id) (one_part id.number (file_changes id.number (with_replacement c))) mid new [] reads home counts

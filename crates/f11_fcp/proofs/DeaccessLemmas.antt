@@ -17,13 +17,13 @@ use Rattle.f11_store.specs.declared.requests.Reply.TheVariants as reply
 use Rattle.f11_store.specs.declared.requests.Request.{Request}
 use Rattle.f11_store.specs.declared.requests.Request.TheVariants as request
 use Rattle.f11_dev.specs.Disk.{Disk}
-use Rattle.f11_files.specs.Answers.{Writes, is_grave}
+use Rattle.f11_files.specs.Answers.{WritesAtMost, is_fatal}
 use Rattle.f11_files.specs.Removing.Delete.{Deletes, FailsToDelete}
 use Rattle.f11_image_store.specs.StoreOf.{store_of}
 use Rattle.f11_fcp.specs.Accesses.{Table, Entry, access_of, with_entry, held_in, is_held_in, any_mode, mark_there, mark_kept, HasAccessed}
 use Rattle.f11_store.specs.Accesses.{mark_of}
 use Rattle.f11_fcp.specs.Handles.{State, store_at, Meanwhile, Handles, of_accessed}
-use Rattle.f11_fcp.proofs.HandleLemmas.{light-cause, handled-served, handled-does, reads-none, writes-none}
+use Rattle.f11_fcp.proofs.HandleLemmas.{clean-cause, handled-served, handled-does, reads-none, writes-none}
 use Rattle.f11_fcp.proofs.AccessedLemmas.{among-file, drop-false, take-true, refused-early, accessed-broke, there-marked}
 use Rattle.f11_store.proofs.FateLaws.{mark-stays, held-at, fate-gone}
 use Rattle.f11_fcp.proofs.OpenLemmas.{same-self}
@@ -33,19 +33,19 @@ unfolding is_held_in is_held
 accessed-same t s id = refl
 
 -- a file that is accessed is refused deletion only where the volume fails
-pub deletion-grave : {failed : Bool} (home : HomeFields) (id : FileId) (old new : Disk) (e : Refusal) → failed ≡ false → FailsToDelete failed home id e old new → is_grave (of_accessed e) ≡ true
-deletion-grave home id old new e alive fails = by_grave (is_grave e) refl
+pub deletion-fatal : {failed : Bool} (home : HomeFields) (id : FileId) (old new : Disk) (e : Refusal) → failed ≡ false → FailsToDelete failed home id e old new → is_fatal (of_accessed e) ≡ true
+deletion-fatal home id old new e alive fails = by_fatal (is_fatal e) refl
   where
-    by_grave : (b : Bool) → is_grave e ≡ b → is_grave (of_accessed e) ≡ true
-    by_grave true grave = still-grave e grave
+    by_fatal : (b : Bool) → is_fatal e ≡ b → is_fatal (of_accessed e) ≡ true
+    by_fatal true fatal = still-fatal e fatal
       where
-        still-grave : (e : Refusal) → is_grave e ≡ true → is_grave (of_accessed e) ≡ true
-        still-grave NoSuchFile h = refl
-        still-grave _ h = h
-    by_grave false light =
+        still-fatal : (e : Refusal) → is_fatal e ≡ true → is_fatal (of_accessed e) ≡ true
+        still-fatal NoSuchFile h = refl
+        still-fatal _ h = h
+    by_fatal false clean =
         let other : e ≢ VolumeFailed = λ v. absurd (let no : false ≡ true = sym alive ∙ fails.right.volume v in cc) in
-        let file = among-file (is_missing (store_of old.image home) id) e (fails.right.among (light-cause e light other).0) in
-        ap (λ (x : Refusal). is_grave (of_accessed x)) file
+        let file = among-file (is_missing (store_of old.image home) id) e (fails.right.among (clean-cause e clean other).0) in
+        ap (λ (x : Refusal). is_fatal (of_accessed x)) file
 
 module _ (task lun : ℕ) (caller : Uic) (old : State) where
   abbrev r : Request
@@ -102,7 +102,7 @@ module _ (task lun : ℕ) (caller : Uic) (old : State) where
         (λ honest. ap (λ (i : Image). held_in mid.table (store_of i mid.home)) (ap (λ (d : Disk). d.image) disk) ∙ ap (λ (h : HomeFields). held_in mid.table (store_of old.disk.image h)) home
         ∙ ap (λ (t : Table). held_in t s0) table ∙ given-is s0 ∙ sym (after-is ∙ drop-false (is_due u e.file) _ _ (not-due honest stays)))
         (λ _. refl)
-        (subst (λ (d : Disk). Writes (Meanwhile task caller r [] old) (cost s task r) old.disk d 0) (sym disk) (writes-none (Meanwhile task caller r [] old) old.disk (cost s task r))) home
+        (subst (λ (d : Disk). WritesAtMost (Meanwhile task caller r [] old) (cost s task r) old.disk d 0) (sym disk) (writes-none (Meanwhile task caller r [] old) old.disk (cost s task r))) home
       where
         not-due : IsTrue old.disk.honest → (e.marked ≡ false) ⊎ (true ≡ is_held_in any_mode given e.file) → is_due u e.file ≡ false
         not-due honest (inl unmarked) = and_left (is_marked (file_named s0 e.file)) (not (is_accessed u e.file)) (marked-is honest ∙ unmarked)

@@ -19,7 +19,7 @@ use Rattle.f11_store.specs.declared.refusals.Refusal.TheVariants.{BadArgument, S
 use Rattle.f11_store.specs.declared.requests.Reply.TheVariants as reply
 use Rattle.f11_store.specs.declared.requests.Request.{Request}
 use Rattle.f11_store.specs.declared.requests.Request.TheVariants as request
-use Rattle.f11_files.specs.Answers.{Reads, FailsToRead, is_among, is_light}
+use Rattle.f11_files.specs.Answers.{ReadsAtMost, FailsToRead, is_among, is_clean}
 use Rattle.f11_files.specs.Removing.Delete.{Deletes, FailsToDelete}
 use Rattle.f11_files.specs.Changing.Fields.{Alters, FailsToAlter}
 use Rattle.f11_files.specs.Operations.{attr_of, file_causes}
@@ -29,7 +29,7 @@ use Rattle.f11_fcp.specs.Accesses.{Table, held_in, is_held_in, any_mode, with_ma
 use Rattle.f11_fcp.specs.Handles.{State, store_at, own_causes, Handles}
 use Rattle.f11_fcp.proofs.AccessedLemmas.{drop-false, take-true, refused-early}
 use Rattle.f11_fcp.proofs.DeaccessLemmas.{accessed-same}
-use Rattle.f11_fcp.proofs.HandleLemmas.{handled-light, handled-does, handled-refused}
+use Rattle.f11_fcp.proofs.HandleLemmas.{handled-clean, handled-does, handled-refused}
 use Rattle.f11_fcp.proofs.MarkLemmas.{marks-leave}
 use Rattle.f11_fcp.proofs.NamedLemmas.{found, marks-read, unread, same-behind}
 use Rattle.f11_fcp.proofs.RequestLemmas.{still}
@@ -65,7 +65,7 @@ module _ (task : ℕ) (caller : Uic) (id : FileId) (old : State) where
           → mid.counts ≡ old.counts → Handles task caller r (Err e) old [] mid []
       delete-unread e mid alive fails home table counts = unread task caller r old id _ e mid alive judged refl (omega arith) fails home table counts
 
-      module _ (attr : Attr) (mid : State) (reads : Reads 1 old.disk mid.disk 0) (none : IsTrue old.disk.honest → first_of (file_causes s0 id) ≡ None)
+      module _ (attr : Attr) (mid : State) (reads : ReadsAtMost 1 old.disk mid.disk 0) (none : IsTrue old.disk.honest → first_of (file_causes s0 id) ≡ None)
           (is : IsTrue old.disk.honest → attr ≡ attr_of (file_named s0 id)) (home : mid.home ≡ old.home) (counts : mid.counts ≡ old.counts) (table : mid.table ≡ old.table)
           (accessed : Bool) (accessed-is : accessed ≡ is_held_in any_mode old.table id)
         where
@@ -83,14 +83,14 @@ module _ (task : ℕ) (caller : Uic) (id : FileId) (old : State) where
 
           pub delete-marked : ((bit_at attr.characteristics 15 == 1) && accessed) ≡ true → Handles task caller r (Err Marked) old [] mid []
           delete-marked both =
-              handled-light task caller r [] old Marked mid refl (λ v. absurd (cc)) refl
+              handled-clean task caller r [] old Marked mid refl (λ v. absurd (cc)) refl
               (λ honest. judged ∙ drop-false (is_missing s0 id) _ _ (delete-there honest) ∙ take-true (is_marked (file_named s0 id) && is_accessed s id) _ _ (stands honest ∙ both))
               (reads-within (omega arith) reads) home table counts
 
           module _ (clear : ((bit_at attr.characteristics 15 == 1) && accessed) ≡ false) where
             pub delete-unprivileged : may caller attr.owner attr.protection right.Delete ≡ false → Handles task caller r (Err NoPrivilege) old [] mid []
             delete-unprivileged denied =
-                handled-light task caller r [] old NoPrivilege mid refl (λ v. absurd (cc)) refl
+                handled-clean task caller r [] old NoPrivilege mid refl (λ v. absurd (cc)) refl
                 (λ honest. judged ∙ drop-false (is_missing s0 id) _ _ (delete-there honest) ∙ drop-false (is_marked (file_named s0 id) && is_accessed s id) _ _ (stands honest ∙ clear)
                 ∙ take-true (lacks right.Delete caller (file_named s0 id)) _ _ (lacking honest ∙ not_from_false _ denied)) (reads-within (omega arith) reads) home table counts
 
@@ -126,7 +126,7 @@ module _ (task : ℕ) (caller : Uic) (id : FileId) (old : State) where
                     ∙ ap (held_in old.table) (makes ∙ ap (λ (x : Store). without_file_at x id.number) same) ∙ sym after-is)
                     (λ _. refl) home'
 
-                pub not-deleted : {failed : Bool} (e : Refusal) → failed ≡ false → FailsToDelete failed mid.home id e mid.disk new.disk → (is_light e ≡ true → new.counts ≡ mid.counts)
+                pub not-deleted : {failed : Bool} (e : Refusal) → failed ≡ false → FailsToDelete failed mid.home id e mid.disk new.disk → (is_clean e ≡ true → new.counts ≡ mid.counts)
                     → Handles task caller r (Err e) old [] new []
                 not-deleted e alive fails counts' =
                     handled-refused task caller r [] old e (file_causes sm id) (go_work id.number) mid new [] reads home counts (still alive fails) (delete-own s sm task id caller e) (λ _. few) first (λ _. work-is)
@@ -151,7 +151,7 @@ module _ (task : ℕ) (caller : Uic) (id : FileId) (old : State) where
                     (λ _. refl) home'
 
                 pub not-marked : {failed : Bool} (e : Refusal) → failed ≡ false → FailsToAlter failed with_delete_mark mid.home id e mid.disk new.disk → new.table ≡ old.table
-                    → (is_light e ≡ true → new.counts ≡ mid.counts) → Handles task caller r (Err e) old [] new []
+                    → (is_clean e ≡ true → new.counts ≡ mid.counts) → Handles task caller r (Err e) old [] new []
                 not-marked e alive fails table' counts' =
                     handled-refused task caller r [] old e (file_causes sm id) (mark_work id.number) mid new [] reads home counts (still alive fails) (delete-own s sm task id caller e) (λ _. omega arith) first
                     (λ _. mark-is) home' table' counts' (λ _. refl)

@@ -19,7 +19,7 @@ use Rattle.f11_store.specs.declared.refusals.Refusal.{Refusal}
 use Rattle.f11_store.specs.declared.refusals.Refusal.TheVariants.{SystemFile, NoSuchFile, Marked, NoPrivilege, Conflict, NotDirectory}
 use Rattle.f11_entries.specs.Costs.{look_cost, reading_cost}
 use Rattle.f11_entries.specs.Looks.{Tells, IsLastBlock}
-use Rattle.f11_files.specs.Answers.{FailsToRead, Reads, faults_of, is_among}
+use Rattle.f11_files.specs.Answers.{FailsToRead, ReadsAtMost, faults_of, is_among}
 use Rattle.f11_files.specs.Calls.{ReadsAttr}
 use Rattle.f11_files.specs.Finding.Length.{CountsBlocks}
 use Rattle.f11_files.specs.Operations.{attr_of, file_causes}
@@ -131,12 +131,12 @@ module _ (p : Purpose) (t : Table) (caller : Uic) (d : FileId) (home : HomeField
           ∙ ap (λ (x : Bool). if x then Some Marked else (if lacks (right_for p) caller f then Some NoPrivilege else first_of (conflict_causes p t d ++ ((NotDirectory ⇐ not (is_directory f)) ∷ []))))
           (marks-read s0 d attr (read.attr_is honest) ∙ is)
 
-      light : (e : Refusal) → refusal_number e ≢ 1 → refusal_number e ≢ 20 → 0 ≡ faults_of e → is_among causes e ≡ true → (IsTrue old.honest → first_of causes ≡ Some e) → FailsToRead false causes 1 e old new
-      light e not_failed not_damaged fault among first =
-          record { right = right-cause old.honest causes e not_failed not_damaged among first; reads = subst (λ (k : ℕ). Reads 1 old new k) fault read.reads }
+      clean : (e : Refusal) → refusal_number e ≢ 1 → refusal_number e ≢ 20 → 0 ≡ faults_of e → is_among causes e ≡ true → (IsTrue old.honest → first_of causes ≡ Some e) → FailsToRead false causes 1 e old new
+      clean e not_failed not_damaged fault among first =
+          record { right = right-cause old.honest causes e not_failed not_damaged among first; reads = subst (λ (k : ℕ). ReadsAtMost 1 old new k) fault read.reads }
 
       pub open-marked : (bit_at attr.characteristics 15 == 1) ≡ true → FailsToRead false causes 1 Marked old new
-      open-marked marked = light Marked (λ is. absurd (omega (arith, is))) (λ is. absurd (omega (arith, is))) refl refl (past-file true marked)
+      open-marked marked = clean Marked (λ is. absurd (omega (arith, is))) (λ is. absurd (omega (arith, is))) refl refl (past-file true marked)
 
       module _ (unmarked : (bit_at attr.characteristics 15 == 1) ≡ false) where
         lacking : IsTrue old.honest → lacks (right_for p) caller f ≡ lacks_for_purpose p caller attr.owner attr.protection
@@ -144,13 +144,13 @@ module _ (p : Purpose) (t : Table) (caller : Uic) (d : FileId) (home : HomeField
 
         pub open-unprivileged : lacks_for_purpose p caller attr.owner attr.protection ≡ true → FailsToRead false causes 1 NoPrivilege old new
         open-unprivileged lack =
-            light NoPrivilege (λ is. absurd (omega (arith, is))) (λ is. absurd (omega (arith, is))) refl refl
+            clean NoPrivilege (λ is. absurd (omega (arith, is))) (λ is. absurd (omega (arith, is))) refl refl
             (λ honest. past-file false unmarked honest ∙ take-true (lacks (right_for p) caller f) _ _ (lacking honest ∙ lack))
 
         module _ (granted : lacks_for_purpose p caller attr.owner attr.protection ≡ false) where
           pub open-barred : is_barred_to p t d ≡ true → FailsToRead false causes 1 Conflict old new
           open-barred barred =
-              light Conflict (λ is. absurd (omega (arith, is))) (λ is. absurd (omega (arith, is))) refl (conflict-among p t s0 caller d barred)
+              clean Conflict (λ is. absurd (omega (arith, is))) (λ is. absurd (omega (arith, is))) refl (conflict-among p t s0 caller d barred)
               (λ honest. past-file false unmarked honest ∙ drop-false (lacks (right_for p) caller f) _ _ (lacking honest ∙ granted) ∙ conflict-first p t d _ barred)
 
           module _ (unbarred : is_barred_to p t d ≡ false) where
@@ -163,7 +163,7 @@ module _ (p : Purpose) (t : Table) (caller : Uic) (d : FileId) (home : HomeField
 
             pub open-other : (b : Bool) → b ≡ false → ((h : File) → h.ident ≡ attr.ident → h.attr ≡ attr.attr → b ≡ is_directory h) → FailsToRead false causes 1 NotDirectory old new
             open-other b other is =
-                light NotDirectory (λ no. absurd (omega (arith, no))) (λ no. absurd (omega (arith, no))) refl (directory-among p t s0 caller d) (λ honest. past-access false honest (sym other ∙ judged-as is honest))
+                clean NotDirectory (λ no. absurd (omega (arith, no))) (λ no. absurd (omega (arith, no))) refl (directory-among p t s0 caller d) (λ honest. past-access false honest (sym other ∙ judged-as is honest))
 
             pub opened : (b : Bool) → b ≡ true → ((h : File) → h.ident ≡ attr.ident → h.attr ≡ attr.attr → b ≡ is_directory h) → Opens p t caller d attr home old new
             opened b one is = record { no_cause = λ honest. past-access true honest (sym one ∙ judged-as is honest); attr_is = read.attr_is; own = late; reads = read.reads }
@@ -173,7 +173,7 @@ pub first-read : (f : File) → 1 ≤ look_cost f
 first-read f = omega arith
 
 -- a part that fails the volume, behind a look
-pub fails-behind : {old mid new : Disk} {m n : ℕ} {e : Refusal} (causes : List Cause) → Reads m old mid 0 → FailsToRead false [] n e mid new → FailsToRead false causes (m + n) e old new
+pub fails-behind : {old mid new : Disk} {m n : ℕ} {e : Refusal} (causes : List Cause) → ReadsAtMost m old mid 0 → FailsToRead false [] n e mid new → FailsToRead false causes (m + n) e old new
 fails-behind {old = old} {mid = mid} {e = e} causes reads fails = record {
   right = record {
     volume = fails.right.volume;
@@ -223,8 +223,8 @@ module _ (p : Purpose) (t : Table) (caller : Uic) (d : FileId) (name : List ℕ)
       search-count honest = count-is g (same-attr g attr (opens.attr_is honest)) (sym (search-length honest))
 
       -- both reads so far
-      search-reads : Reads (1 + header_count g) old after 0
-      search-reads = reads-more opens.reads (subst (λ (s : Store). Reads (header_count (file_named s d)) mid after 0) search-same counts.reads)
+      search-reads : ReadsAtMost (1 + header_count g) old after 0
+      search-reads = reads-more opens.reads (subst (λ (s : Store). ReadsAtMost (header_count (file_named s d)) mid after 0) search-same counts.reads)
 
       search-after : store_of after.image home ≡ store_of old.image home
       search-after = ap (λ i. store_of i home) search-reads.looked.image
@@ -256,5 +256,5 @@ module _ (p : Purpose) (t : Table) (caller : Uic) (d : FileId) (name : List ℕ)
         tells = λ honest. subst (λ (s : Store). Tells name (file_named s d) found.looked) search-after (looks.tells (search-reads.looked.honest ∙ honest));
         last_is = λ honest. subst (λ (s : Store). IsLastBlock (file_named s d) found.looked found.last) search-after (looks.last_is (search-reads.looked.honest ∙ honest));
         own = opens.own;
-        reads = within-when enough (reads-more search-reads (subst (λ (s : Store). Reads (reading_cost (file_named s d) count) after next 0) search-after looks.reads));
+        reads = within-when enough (reads-more search-reads (subst (λ (s : Store). ReadsAtMost (reading_cost (file_named s d) count) after next 0) search-after looks.reads));
       }

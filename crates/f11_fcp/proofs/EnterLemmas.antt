@@ -29,7 +29,7 @@ use Rattle.f11_entries.specs.declared.spot.Looked.TheVariants as looked
 use Rattle.f11_entries.specs.declared.spot.Spot.{Spot}
 use Rattle.f11_entries.proofs.CostLemmas.{enter_fits}
 use Rattle.f11_entries.proofs.FateLemmas.{fate-enter}
-use Rattle.f11_files.specs.Answers.{FailsToRead, is_among, is_grave, is_light, is_refused}
+use Rattle.f11_files.specs.Answers.{FailsToRead, is_among, is_fatal, is_clean, is_refused}
 use Rattle.f11_files.specs.Open.{disk_in, has_failed, home_in}
 use Rattle.f11_image_store.specs.StoreOf.{store_of}
 use Rattle.f11_files.specs.declared.files.Files.{Files}
@@ -173,7 +173,7 @@ module _ (task : ℕ) (caller : Uic) (d : FileId) (name : List ℕ) (id : FileId
               (enters-held (accesses old.table) s0 (store_of new.disk.image mid.home) d (record_bytes id name) (subst (λ (x : Store). Enters x d (record_bytes id name) (store_of new.disk.image mid.home)) same makes)))
               (λ _. refl) home'
 
-          pub not-entered : (e : Refusal) → FailsToPut mid.home d (record_bytes id name) e mid.disk new.disk → (is_light e ≡ true → new.counts ≡ mid.counts) → Handles task caller r (Err e) old [] new []
+          pub not-entered : (e : Refusal) → FailsToPut mid.home d (record_bytes id name) e mid.disk new.disk → (is_clean e ≡ true → new.counts ≡ mid.counts) → Handles task caller r (Err e) old [] new []
           not-entered e fails counts' =
               handled-refused task caller r [] old e (entry_causes sm d) (entry_work sm d (record_bytes id name)) mid new [] searches.reads home counts fails (growth-own (is_held bars_writing s d) (needs_block (file_named s0 d)) e) enough first work-is home' table' counts' (λ _. refl)
 
@@ -184,11 +184,11 @@ entered-fate s task caller d name id (Err e) s' h n = fate-none s s' n h.store_s
 
 -- so all stays open
 pub stays-open-entered : {D : Type 0} {met : Ghosts D} (t : Table) (old new : Files D met) (task : ℕ) (caller : Uic) (d : FileId) (name : List ℕ) (id : FileId) (result : Result Reply Refusal) → IsOpen t old
-    → Handles task caller (request.Enter d name id) result (state_of t old) [] (state_of t new) [] → (is_refused is_grave result ≡ false → has_failed new ≡ false) → StaysOpen result t new
-stays-open-entered t old new task caller d name id result is handles alive light = record {
-  alive = alive light;
+    → Handles task caller (request.Enter d name id) result (state_of t old) [] (state_of t new) [] → (is_refused is_fatal result ≡ false → has_failed new ≡ false) → StaysOpen result t new
+stays-open-entered t old new task caller d name id result is handles alive clean = record {
+  alive = alive clean;
   kept = λ honest.
       let was : IsTrue (disk_in old).honest = sym handles.writes.went.honest ∙ honest in
       kept-by-step t (store_of (disk_in old).image (home_in old)) (store_of (disk_in new).image (home_in new))
-      (entered-fate (store_at (state_of t old)) task caller d name id result (store_at (state_of t new)) (handles.step was light)) (is.kept was);
+      (entered-fate (store_at (state_of t old)) task caller d name id result (store_at (state_of t new)) (handles.step was clean)) (is.kept was);
 }

@@ -21,7 +21,7 @@ use Rattle.f11_store.proofs.StoreLemmas.{file_of-with_change}
 use Rattle.f11_entries.specs.Costs.{append_cost}
 use Rattle.f11_entries.specs.Looks.{place_of}
 use Rattle.f11_entries.specs.declared.spot.Spot.{Spot}
-use Rattle.f11_files.specs.Answers.{Breaks, Meanwhile, Writes}
+use Rattle.f11_files.specs.Answers.{Breaks, Meanwhile, WritesAtMost}
 use Rattle.f11_files.specs.Finding.Blocks.{StoresBlock, block_work}
 use Rattle.f11_files.specs.Changing.Fields.{Alters}
 use Rattle.f11_files.specs.Operations.{file_causes, length_causes}
@@ -59,14 +59,14 @@ breaks-replacing home d spot r block e old new is breaks =
 
 -- transfers after transfers, where an image of either kind is one of the third
 pub writes-then : {P Q R : Image → Type 0} {a b c : Disk} {m n k faults : ℕ} → ((image : Image) → P image → R image) → ((image : Image) → Q image → R image)
-    → Writes P m a b 0 → Writes Q n b c faults → (IsTrue a.honest → m + n ≤ k) → Writes R k a c faults
+    → WritesAtMost P m a b 0 → WritesAtMost Q n b c faults → (IsTrue a.honest → m + n ≤ k) → WritesAtMost R k a c faults
 writes-then {P = P} {Q = Q} {R = R} one two first second fewer = record {
   transfers = first.transfers + second.transfers;
   went = went_more R (went_weaker P R one first.went) (went_weaker Q R two second.went);
   few = λ honest. let here = first.few honest in let there = second.few (first.went.honest ∙ honest) in let most = fewer honest in omega (arith, here, there, most);
 }
 
-pub writes-weaker : {P R : Image → Type 0} {a b : Disk} {m n faults : ℕ} → ((image : Image) → P image → R image) → m ≤ n → Writes P m a b faults → Writes R n a b faults
+pub writes-weaker : {P R : Image → Type 0} {a b : Disk} {m n faults : ℕ} → ((image : Image) → P image → R image) → m ≤ n → WritesAtMost P m a b faults → WritesAtMost R n a b faults
 writes-weaker {P = P} {R = R} one fewer writes = record {
   transfers = writes.transfers;
   went = went_weaker P R one writes.went;
@@ -98,7 +98,7 @@ module _ (home : HomeFields) (d : FileId) (tail : Tail) (r : List ℕ) (old mid 
 
     -- the block wasn't written
     pub breaks-put : {e : Refusal} → BreaksReplacing home d tail.spot r e old mid → Breaks (Appending home d tail r old) (append_cost (file_named u d)) e old mid
-    breaks-put breaks = record { grave = breaks.grave; undamaged = breaks.undamaged; writes = writes-weaker under-put (omega arith) breaks.writes }
+    breaks-put breaks = record { fatal = breaks.fatal; undamaged = breaks.undamaged; writes = writes-weaker under-put (omega arith) breaks.writes }
 
     -- it was
     module _ (replaces : ReplacesEntry home d tail.spot r old mid) where
@@ -141,7 +141,7 @@ module _ (home : HomeFields) (d : FileId) (tail : Tail) (r : List ℕ) (old mid 
         pub breaks-move : {e : Refusal} → Breaks (Meanwhile (one_part d.number (file_changes d.number (with_replacement (change.Attr attr)))) home mid) 2 e mid new
             → Breaks (Appending home d tail r old) (append_cost (file_named u d)) e old new
         breaks-move breaks = record {
-          grave = breaks.grave;
+          fatal = breaks.fatal;
           undamaged = λ honest. breaks.undamaged (then-honest honest);
           writes = writes-then under-put under-move replaces.writes breaks.writes two;
         }

@@ -17,7 +17,7 @@ use Rattle.f11_store.specs.declared.requests.Reply.TheVariants as reply
 use Rattle.f11_store.specs.declared.requests.Request.{Request}
 use Rattle.f11_store.specs.declared.requests.Request.TheVariants as request
 use Rattle.f11_store.proofs.HeldLaws.{growth-held, index-grows-held}
-use Rattle.f11_files.specs.Answers.{IsRight, is_among, is_grave, is_light}
+use Rattle.f11_files.specs.Answers.{IsRight, is_among, is_fatal, is_clean}
 use Rattle.f11_files.specs.GrowingIndex.Runs.{GrowsIndexFile, IsSlotsAfter, FailsToGrow}
 use Rattle.f11_files.specs.Operations.{grow_causes}
 use Rattle.f11_image_store.specs.StoreOf.{store_of}
@@ -74,7 +74,7 @@ module _ (task n : ℕ) (caller : Uic) (old : State) where
               (index-grows-held (accesses old.table) s0 (store_of new.disk.image old.home) n makes)
 
       pub not-grown : {failed : Bool} (e : Refusal) (new : State) → failed ≡ false → FailsToGrow failed old.home n e old.disk new.disk → new.home ≡ old.home → new.table ≡ old.table
-          → (is_light e ≡ true → new.counts ≡ old.counts) → Handles task caller r (Err e) old [] new []
+          → (is_clean e ≡ true → new.counts ≡ old.counts) → Handles task caller r (Err e) old [] new []
       not-grown {failed = failed} e new alive fails home table counts = by_case (memory-cases e)
         where
           by_case : (e ≡ NoMemory) ⊎ (e ≢ NoMemory) → Handles task caller r (Err e) old [] new []
@@ -83,7 +83,7 @@ module _ (task n : ℕ) (caller : Uic) (old : State) where
               (record { right = subst (λ (b : Bool). IsRight b old.disk.honest (grow_causes s0 n) e) alive (fails.right other); writes = fails.writes; unchanged = fails.unchanged })
               (grow-own s s0 task n caller e) (λ _. omega arith) (λ _. first) (λ _. refl) home table counts (λ _. refl)
           by_case (inl wanting) =
-              let reads = fails.unchanged (ap is_grave wanting) in
+              let reads = fails.unchanged (ap is_fatal wanting) in
               subst (λ (x : Refusal). Handles task caller r (Err x) old [] new []) (sym wanting) (record {
                 step = λ honest _. record {
                   may_refuse = subst (λ (o : Option Refusal). MayRefuse o r NoMemory) (sym (sym first ∙ (fails.wanting wanting).1 honest)) refl;
@@ -92,7 +92,7 @@ module _ (task n : ℕ) (caller : Uic) (old : State) where
                 };
                 undamaged = λ _. refl;
                 writes = record { transfers = reads.reads; went = went_looked (Meanwhile task caller r [] old) reads.looked; few = reads.few };
-                left = λ _. record { image = reads.looked.image; table = table; counts = counts (ap is_light wanting); lent = refl };
+                left = λ _. record { image = reads.looked.image; table = table; counts = counts (ap is_clean wanting); lent = refl };
                 among = λ _. refl;
                 unfailed = refl;
                 home = home;

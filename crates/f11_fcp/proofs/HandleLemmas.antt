@@ -16,7 +16,7 @@ use Rattle.f11_store.specs.declared.refusals.Refusal.{Refusal}
 use Rattle.f11_store.specs.declared.refusals.Refusal.TheVariants.{VolumeFailed, DeviceFault, Damaged}
 use Rattle.f11_store.specs.declared.requests.Reply.{Reply}
 use Rattle.f11_store.specs.declared.requests.Request.{Request}
-use Rattle.f11_files.specs.Answers.{Reads, Writes, FailsToWrite, Does, is_among, is_grave, is_light, is_cause, faults_of, Meanwhile as FilesMeanwhile}
+use Rattle.f11_files.specs.Answers.{ReadsAtMost, WritesAtMost, FailsToWrite, Does, is_among, is_fatal, is_clean, is_cause, faults_of, Meanwhile as FilesMeanwhile}
 use Rattle.f11_image_store.specs.StoreOf.{store_of}
 use Rattle.f11_files.proofs.AnswerLemmas.{reads-more, reads-looked}
 use Rattle.f11_dev.proofs.LookedLemmas.{looked_none}
@@ -26,22 +26,22 @@ use Rattle.f11_fcp.specs.Handles.{State, store_at, Meanwhile, is_failed, is_dama
 use Rattle.f11_store.proofs.HeldLaws.{lags-held}
 
 -- a refusal that doesn't fail the volume, of one that hasn't failed, is that of a cause
-pub light-cause : (e : Refusal) → is_grave e ≡ false → e ≢ VolumeFailed → (is_cause e ≡ true) × (is_light e ≡ true) × (is_failed e ≡ false) × (is_damage e ≡ false)
-light-cause VolumeFailed light other = absurd (other refl)
-light-cause DeviceFault light other = absurd (cc)
-light-cause Damaged light other = absurd (cc)
-light-cause _ light other = (refl, refl, refl, refl)
+pub clean-cause : (e : Refusal) → is_fatal e ≡ false → e ≢ VolumeFailed → (is_cause e ≡ true) × (is_clean e ≡ true) × (is_failed e ≡ false) × (is_damage e ≡ false)
+clean-cause VolumeFailed clean other = absurd (other refl)
+clean-cause DeviceFault clean other = absurd (cc)
+clean-cause Damaged clean other = absurd (cc)
+clean-cause _ clean other = (refl, refl, refl, refl)
 
-pub heavy : (e : Refusal) → is_grave e ≡ true → (is_light e ≡ false) × (is_failed e ≡ false) × (is_damage e ≡ true → e ≡ Damaged)
+pub heavy : (e : Refusal) → is_fatal e ≡ true → (is_clean e ≡ false) × (is_failed e ≡ false) × (is_damage e ≡ true → e ≡ Damaged)
 heavy DeviceFault h = (refl, refl, λ e. absurd (cc))
 heavy Damaged h = (refl, refl, λ e. refl)
 heavy _ h = absurd (cc)
 
 -- a refusal for a cause doesn't fail the volume
-pub cause-not-grave : (e : Refusal) → is_cause e ≡ true → is_grave e ≡ false
-cause-not-grave DeviceFault h = absurd (cc)
-cause-not-grave Damaged h = absurd (cc)
-cause-not-grave _ h = refl
+pub cause-not-fatal : (e : Refusal) → is_cause e ≡ true → is_fatal e ≡ false
+cause-not-fatal DeviceFault h = absurd (cc)
+cause-not-fatal Damaged h = absurd (cc)
+cause-not-fatal _ h = refl
 
 -- the first refusal may be the answer
 may-first : (o : Option Refusal) (r : Request) (e : Refusal) → o ≡ Some e → MayRefuse o r e
@@ -55,7 +55,7 @@ same-store old new image home table =
     ∙ ap (λ (t : Table). held_in t (store_of old.disk.image old.home)) table
 
 -- fewer than may be on an honest disk
-pub within-when : {old new : Disk} {m n faults : ℕ} → (IsTrue old.honest → m ≤ n) → Reads m old new faults → Reads n old new faults
+pub within-when : {old new : Disk} {m n faults : ℕ} → (IsTrue old.honest → m ≤ n) → ReadsAtMost m old new faults → ReadsAtMost n old new faults
 within-when fewer reads = record { reads = reads.reads; looked = reads.looked; few = λ honest. let few = reads.few honest in let most = fewer honest in omega (arith, few, most) }
 
 module _ (task : ℕ) (caller : Uic) (r : Request) (block : List ℕ) (old : State) where
@@ -66,10 +66,10 @@ module _ (task : ℕ) (caller : Uic) (r : Request) (block : List ℕ) (old : Sta
   P = Meanwhile task caller r block old
 
   -- it is refused for a cause, and nothing was written
-  pub handled-light : (e : Refusal) (new : State) → is_grave e ≡ false → e ≢ VolumeFailed → is_among (own_causes s task caller r) e ≡ true → (IsTrue old.disk.honest → first_refusal s task caller r ≡ Some e)
-      → Reads (cost s task r) old.disk new.disk 0 → new.home ≡ old.home → new.table ≡ old.table → new.counts ≡ old.counts → Handles task caller r (Err e) old block new block
-  handled-light e new light other own first reads home table counts =
-      let tests = light-cause e light other in
+  pub handled-clean : (e : Refusal) (new : State) → is_fatal e ≡ false → e ≢ VolumeFailed → is_among (own_causes s task caller r) e ≡ true → (IsTrue old.disk.honest → first_refusal s task caller r ≡ Some e)
+      → ReadsAtMost (cost s task r) old.disk new.disk 0 → new.home ≡ old.home → new.table ≡ old.table → new.counts ≡ old.counts → Handles task caller r (Err e) old block new block
+  handled-clean e new clean other own first reads home table counts =
+      let tests = clean-cause e clean other in
       record {
         step = λ honest _. record {
           may_refuse = may-first (first_refusal s task caller r) r e (first honest);
@@ -79,7 +79,7 @@ module _ (task : ℕ) (caller : Uic) (r : Request) (block : List ℕ) (old : Sta
         undamaged = λ _. tests.3;
         writes = record {
           transfers = reads.reads;
-          went = subst (λ (n : ℕ). Went P old.disk new.disk reads.reads n) (sym (no-fault e light)) (went_looked P reads.looked);
+          went = subst (λ (n : ℕ). Went P old.disk new.disk reads.reads n) (sym (no-fault e clean)) (went_looked P reads.looked);
           few = reads.few;
         };
         left = λ _. record { image = reads.looked.image; table = table; counts = counts; lent = refl };
@@ -88,21 +88,21 @@ module _ (task : ℕ) (caller : Uic) (r : Request) (block : List ℕ) (old : Sta
         home = home;
       }
     where
-      no-fault : (e : Refusal) → is_grave e ≡ false → faults_of e ≡ 0
+      no-fault : (e : Refusal) → is_fatal e ≡ false → faults_of e ≡ 0
       no-fault DeviceFault h = absurd (cc)
       no-fault _ h = refl
 
   -- it failed the volume
-  pub handled-grave : (e : Refusal) (new : State) (block' : List ℕ) → is_grave e ≡ true → (IsTrue old.disk.honest → e ≢ Damaged) → Writes P (cost s task r) old.disk new.disk (faults_of e)
+  pub handled-fatal : (e : Refusal) (new : State) (block' : List ℕ) → is_fatal e ≡ true → (IsTrue old.disk.honest → e ≢ Damaged) → WritesAtMost P (cost s task r) old.disk new.disk (faults_of e)
       → new.home ≡ old.home → Handles task caller r (Err e) old block new block'
-  handled-grave e new block' grave undamaged writes home =
-      let tests = heavy e grave in
+  handled-fatal e new block' fatal undamaged writes home =
+      let tests = heavy e fatal in
       record {
-        step = λ honest light. absurd (let no : true ≡ false = sym grave ∙ light in cc);
+        step = λ honest clean. absurd (let no : true ≡ false = sym fatal ∙ clean in cc);
         undamaged = λ honest. by_test (is_damage e) refl (λ is. undamaged honest (tests.2 is));
         writes = writes;
-        left = λ light. absurd (let no : false ≡ true = sym tests.0 ∙ light in cc);
-        among = λ cause. absurd (let no : true ≡ false = sym grave ∙ cause-not-grave e cause in cc);
+        left = λ clean. absurd (let no : false ≡ true = sym tests.0 ∙ clean in cc);
+        among = λ cause. absurd (let no : true ≡ false = sym fatal ∙ cause-not-fatal e cause in cc);
         unfailed = tests.1;
         home = home;
       }
@@ -114,12 +114,12 @@ module _ (task : ℕ) (caller : Uic) (r : Request) (block : List ℕ) (old : Sta
   -- it is served
   pub handled-served : (reply : Reply) (new : State) (block' : List ℕ) → (IsTrue old.disk.honest → first_refusal s task caller r ≡ None) → (IsTrue old.disk.honest → reply ≡ reply_of s task r)
       → (IsTrue old.disk.honest → Changes s task caller r block (store_at new)) → (IsTrue old.disk.honest → block' ≡ block_after s task r block)
-      → Writes P (cost s task r) old.disk new.disk 0 → new.home ≡ old.home → Handles task caller r (Ok reply) old block new block'
+      → WritesAtMost P (cost s task r) old.disk new.disk 0 → new.home ≡ old.home → Handles task caller r (Ok reply) old block new block'
   handled-served reply new block' none is changes after writes home = record {
     step = λ honest _. record { no_cause = none honest; reply_is = is honest; changes = changes honest; block_is = after honest };
     undamaged = λ _. refl;
     writes = writes;
-    left = λ light. absurd (cc);
+    left = λ clean. absurd (cc);
     among = λ cause. absurd (cc);
     unfailed = refl;
     home = home;
@@ -145,8 +145,8 @@ module _ (task : ℕ) (caller : Uic) (r : Request) (block : List ℕ) (old : Sta
       under-way-by work mid same honest home (λ sure t lags. subst (λ (w : Work). LagsBy w t s) (is sure) lags)
 
   -- what was written behind a look, where each image that stood meanwhile is one of the request's
-  pub behind-by : (Q : Image → Type 0) (mid new : State) {m n faults : ℕ} → Reads m old.disk mid.disk 0 → ((image : Image) → Q image → P image) → Writes Q n mid.disk new.disk faults
-      → (IsTrue old.disk.honest → m + n ≤ cost s task r) → Writes P (cost s task r) old.disk new.disk faults
+  pub behind-by : (Q : Image → Type 0) (mid new : State) {m n faults : ℕ} → ReadsAtMost m old.disk mid.disk 0 → ((image : Image) → Q image → P image) → WritesAtMost Q n mid.disk new.disk faults
+      → (IsTrue old.disk.honest → m + n ≤ cost s task r) → WritesAtMost P (cost s task r) old.disk new.disk faults
   behind-by Q mid new reads weaker writes fewer = record {
     transfers = reads.reads + writes.transfers;
     went = went_more P (went_looked P reads.looked) (went_weaker Q P weaker writes.went);
@@ -154,28 +154,28 @@ module _ (task : ℕ) (caller : Uic) (r : Request) (block : List ℕ) (old : Sta
   }
 
   -- what was written behind a look
-  pub behind : (work : Work) (mid new : State) {m n faults : ℕ} → Reads m old.disk mid.disk 0 → mid.home ≡ old.home → (IsTrue old.disk.honest → work ≡ work_of s task caller r block)
-      → Writes (FilesMeanwhile work mid.home mid.disk) n mid.disk new.disk faults → (IsTrue old.disk.honest → m + n ≤ cost s task r) → Writes P (cost s task r) old.disk new.disk faults
+  pub behind : (work : Work) (mid new : State) {m n faults : ℕ} → ReadsAtMost m old.disk mid.disk 0 → mid.home ≡ old.home → (IsTrue old.disk.honest → work ≡ work_of s task caller r block)
+      → WritesAtMost (FilesMeanwhile work mid.home mid.disk) n mid.disk new.disk faults → (IsTrue old.disk.honest → m + n ≤ cost s task r) → WritesAtMost P (cost s task r) old.disk new.disk faults
   behind work mid new reads home is writes fewer =
       behind-by (FilesMeanwhile work mid.home mid.disk) mid new reads (under-way work mid reads.looked.image reads.looked.honest home is) writes fewer
 
   -- a call on files behind a look was refused
-  pub handled-fails : (e : Refusal) (causes : List Cause) (work : Work) (mid new : State) (block' : List ℕ) {m n : ℕ} → Reads m old.disk mid.disk 0 → mid.home ≡ old.home → mid.counts ≡ old.counts
+  pub handled-fails : (e : Refusal) (causes : List Cause) (work : Work) (mid new : State) (block' : List ℕ) {m n : ℕ} → ReadsAtMost m old.disk mid.disk 0 → mid.home ≡ old.home → mid.counts ≡ old.counts
       → FailsToWrite false causes n work mid.home e mid.disk new.disk → (is_among causes e ≡ true → is_among (own_causes s task caller r) e ≡ true) → (IsTrue old.disk.honest → m + n ≤ cost s task r)
       → (IsTrue old.disk.honest → first_of causes ≡ first_refusal s task caller r) → (IsTrue old.disk.honest → work_if (first_of causes) work ≡ work_of s task caller r block)
-      → new.home ≡ mid.home → new.table ≡ old.table → (is_light e ≡ true → new.counts ≡ mid.counts) → (is_grave e ≡ false → block' ≡ block)
+      → new.home ≡ mid.home → new.table ≡ old.table → (is_clean e ≡ true → new.counts ≡ mid.counts) → (is_fatal e ≡ false → block' ≡ block)
       → Handles task caller r (Err e) old block new block'
-  handled-fails e causes work mid new block' reads home counts fails own fewer first works home' table counts' lent = by_test (is_grave e) refl
+  handled-fails e causes work mid new block' reads home counts fails own fewer first works home' table counts' lent = by_test (is_fatal e) refl
     where
-      by_test : (b : Bool) → is_grave e ≡ b → Handles task caller r (Err e) old block new block'
-      by_test true grave =
-          handled-grave e new block' grave (λ honest. fails.right.undamaged (reads.looked.honest ∙ honest)) (behind (work_if (first_of causes) work) mid new reads home works fails.writes fewer) (home' ∙ home)
-      by_test false light =
+      by_test : (b : Bool) → is_fatal e ≡ b → Handles task caller r (Err e) old block new block'
+      by_test true fatal =
+          handled-fatal e new block' fatal (λ honest. fails.right.undamaged (reads.looked.honest ∙ honest)) (behind (work_if (first_of causes) work) mid new reads home works fails.writes fewer) (home' ∙ home)
+      by_test false clean =
           let other : e ≢ VolumeFailed = λ is. absurd (let no : false ≡ true = fails.right.volume is in cc) in
-          let tests = light-cause e light other in
-          subst (λ (b : List ℕ). Handles task caller r (Err e) old block new b) (sym (lent light))
-          (handled-light e new light other (own (fails.right.among tests.0)) (λ honest. sym (first honest) ∙ fails.right.cause (reads.looked.honest ∙ honest) tests.0)
-          (within-when fewer (reads-more reads (fails.unchanged light))) (home' ∙ home) table (counts' tests.1 ∙ counts))
+          let tests = clean-cause e clean other in
+          subst (λ (b : List ℕ). Handles task caller r (Err e) old block new b) (sym (lent clean))
+          (handled-clean e new clean other (own (fails.right.among tests.0)) (λ honest. sym (first honest) ∙ fails.right.cause (reads.looked.honest ∙ honest) tests.0)
+          (within-when fewer (reads-more reads (fails.unchanged clean))) (home' ∙ home) table (counts' tests.1 ∙ counts))
 
   -- the work of a request that is served
   pub work-then : first_refusal s task caller r ≡ None → served_work s task caller r block ≡ work_of s task caller r block
@@ -183,7 +183,7 @@ module _ (task : ℕ) (caller : Uic) (r : Request) (block : List ℕ) (old : Sta
 
   -- a call on files behind a look was served
   pub handled-does : (reply : Reply) (causes : List Cause) (work : Work) (mid new : State) (block' : List ℕ) {Makes : Store → Type 0} {Allots : Volume → Volume → Type 0} {m n : ℕ}
-      → Reads m old.disk mid.disk 0 → mid.home ≡ old.home → Does causes work n Makes Allots mid.home mid.disk new.disk → (IsTrue old.disk.honest → m + n ≤ cost s task r)
+      → ReadsAtMost m old.disk mid.disk 0 → mid.home ≡ old.home → Does causes work n Makes Allots mid.home mid.disk new.disk → (IsTrue old.disk.honest → m + n ≤ cost s task r)
       → (IsTrue old.disk.honest → first_of causes ≡ first_refusal s task caller r) → (IsTrue old.disk.honest → work ≡ served_work s task caller r block)
       → (IsTrue old.disk.honest → reply ≡ reply_of s task r) → (IsTrue old.disk.honest → Makes (store_of new.disk.image mid.home) → Changes s task caller r block (store_at new))
       → (IsTrue old.disk.honest → block' ≡ block_after s task r block) → new.home ≡ mid.home → Handles task caller r (Ok reply) old block new block'
@@ -194,18 +194,18 @@ module _ (task : ℕ) (caller : Uic) (r : Request) (block : List ℕ) (old : Sta
       (behind work mid new reads home (λ honest. works honest ∙ work-then (none honest)) does.writes fewer) (home' ∙ home)
 
   -- and one that was refused
-  pub handled-refused : (e : Refusal) (causes : List Cause) (work : Work) (mid new : State) (block' : List ℕ) {m n : ℕ} → Reads m old.disk mid.disk 0 → mid.home ≡ old.home → mid.counts ≡ old.counts
+  pub handled-refused : (e : Refusal) (causes : List Cause) (work : Work) (mid new : State) (block' : List ℕ) {m n : ℕ} → ReadsAtMost m old.disk mid.disk 0 → mid.home ≡ old.home → mid.counts ≡ old.counts
       → FailsToWrite false causes n work mid.home e mid.disk new.disk → (is_among causes e ≡ true → is_among (own_causes s task caller r) e ≡ true) → (IsTrue old.disk.honest → m + n ≤ cost s task r)
       → (IsTrue old.disk.honest → first_of causes ≡ first_refusal s task caller r) → (IsTrue old.disk.honest → work ≡ served_work s task caller r block)
-      → new.home ≡ mid.home → new.table ≡ old.table → (is_light e ≡ true → new.counts ≡ mid.counts) → (is_grave e ≡ false → block' ≡ block)
+      → new.home ≡ mid.home → new.table ≡ old.table → (is_clean e ≡ true → new.counts ≡ mid.counts) → (is_fatal e ≡ false → block' ≡ block)
       → Handles task caller r (Err e) old block new block'
   handled-refused e causes work mid new block' reads home counts fails own fewer first works home' table counts' lent =
       handled-fails e causes work mid new block' reads home counts fails own fewer first
       (λ honest. ap (λ o. work_if o work) (first honest) ∙ ap (work_if (first_refusal s task caller r)) (works honest)) home' table counts' lent
 
 -- nothing was read
-pub reads-none : (d : Disk) → Reads 0 d d 0
+pub reads-none : (d : Disk) → ReadsAtMost 0 d d 0
 reads-none d = reads-looked (looked_none d)
 
-pub writes-none : (P : Image → Type 0) (d : Disk) (n : ℕ) → Writes P n d d 0
+pub writes-none : (P : Image → Type 0) (d : Disk) (n : ℕ) → WritesAtMost P n d d 0
 writes-none P d n = record { transfers = 0; went = went_looked P (looked_none d); few = λ _. omega arith }

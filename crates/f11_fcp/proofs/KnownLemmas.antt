@@ -10,26 +10,26 @@ use Rattle.f11_store.specs.Store.{Store}
 use Rattle.f11_store.specs.declared.files.FileId.{FileId}
 use Rattle.f11_store.specs.declared.refusals.Refusal.{Refusal}
 use Rattle.f11_store.specs.declared.refusals.Refusal.TheVariants.{NoSuchFile, EndOfFile, VolumeFailed, DeviceFault, Damaged}
-use Rattle.f11_files.specs.Answers.{Breaks, FailsToRead, FailsToWrite, IsRight, IsUnderWay, Meanwhile, Reads, Writes, faults_of, is_among, is_grave}
+use Rattle.f11_files.specs.Answers.{Breaks, FailsToRead, FailsToWrite, IsRight, IsUnderWay, Meanwhile, ReadsAtMost, WritesAtMost, faults_of, is_among, is_fatal}
 use Rattle.f11_files.specs.Operations.{file_causes, length_causes}
 use Rattle.f11_fcp.specs.Handles.{of_known}
-use Rattle.f11_fcp.proofs.HandleLemmas.{cause-not-grave, light-cause}
+use Rattle.f11_fcp.proofs.HandleLemmas.{cause-not-fatal, clean-cause}
 
 -- what fails the volume is no other refusal
-pub known-grave : (e : Refusal) → is_grave e ≡ true → of_known e ≡ e
-known-grave NoSuchFile h = absurd (cc)
-known-grave EndOfFile h = absurd (cc)
-known-grave _ h = refl
+pub known-fatal : (e : Refusal) → is_fatal e ≡ true → of_known e ≡ e
+known-fatal NoSuchFile h = absurd (cc)
+known-fatal EndOfFile h = absurd (cc)
+known-fatal _ h = refl
 
-pub known-light : (e : Refusal) → is_grave (of_known e) ≡ false → is_grave e ≡ false
-known-light NoSuchFile h = refl
-known-light EndOfFile h = refl
-known-light _ h = h
+pub known-clean : (e : Refusal) → is_fatal (of_known e) ≡ false → is_fatal e ≡ false
+known-clean NoSuchFile h = refl
+known-clean EndOfFile h = refl
+known-clean _ h = h
 
 -- where no transfer failed
-pub light-faults : (e : Refusal) → is_grave e ≡ false → faults_of e ≡ 0
-light-faults DeviceFault h = absurd (cc)
-light-faults _ h = refl
+pub clean-faults : (e : Refusal) → is_fatal e ≡ false → faults_of e ≡ 0
+clean-faults DeviceFault h = absurd (cc)
+clean-faults _ h = refl
 
 -- that the file is gone, or a block of it
 pub known-length : (s : Store) (d : FileId) (blocks : ℕ) (e : Refusal) → is_among (length_causes s d blocks) e ≡ true → of_known e ≡ Damaged
@@ -42,11 +42,11 @@ known-file s d NoSuchFile h = refl
 known-file s d _ h = absurd (cc)
 
 -- a refusal that fails the volume is right, whatever the causes
-pub right-grave : {failed honest : Bool} {causes : List Cause} (others : List Cause) (e : Refusal) → failed ≡ false → is_grave e ≡ true → IsRight failed honest causes e → IsRight false honest others e
-right-grave others e alive grave right = record {
+pub right-fatal : {failed honest : Bool} {causes : List Cause} (others : List Cause) (e : Refusal) → failed ≡ false → is_fatal e ≡ true → IsRight failed honest causes e → IsRight false honest others e
+right-fatal others e alive fatal right = record {
   volume = λ is. sym alive ∙ right.volume is;
-  among = λ cause. absurd (let no : true ≡ false = sym grave ∙ cause-not-grave e cause in cc);
-  cause = λ _ cause. absurd (let no : true ≡ false = sym grave ∙ cause-not-grave e cause in cc);
+  among = λ cause. absurd (let no : true ≡ false = sym fatal ∙ cause-not-fatal e cause in cc);
+  cause = λ _ cause. absurd (let no : true ≡ false = sym fatal ∙ cause-not-fatal e cause in cc);
   undamaged = right.undamaged;
 }
 
@@ -60,46 +60,46 @@ right-damage honest others never = record {
 }
 
 -- it is no honest disk where a cause is answered that doesn't hold
-never : {failed honest : Bool} (causes : List Cause) (e : Refusal) → failed ≡ false → (IsTrue honest → first_of causes ≡ None) → is_grave e ≡ false → IsRight failed honest causes e → IsTrue honest → ⊥
-never causes e alive none light right sure =
+never : {failed honest : Bool} (causes : List Cause) (e : Refusal) → failed ≡ false → (IsTrue honest → first_of causes ≡ None) → is_fatal e ≡ false → IsRight failed honest causes e → IsTrue honest → ⊥
+never causes e alive none clean right sure =
     let other : e ≢ VolumeFailed = λ v. absurd (let no : false ≡ true = sym alive ∙ right.volume v in cc) in
-    let first : first_of causes ≡ Some e = right.cause sure (light-cause e light other).0 in
+    let first : first_of causes ≡ Some e = right.cause sure (clean-cause e clean other).0 in
     let no : None ≡ Some e = sym (none sure) ∙ first in cc
 
-is-damage : {failed honest : Bool} (causes : List Cause) (e : Refusal) → failed ≡ false → (is_among causes e ≡ true → of_known e ≡ Damaged) → is_grave e ≡ false → IsRight failed honest causes e → of_known e ≡ Damaged
-is-damage causes e alive among light right =
+is-damage : {failed honest : Bool} (causes : List Cause) (e : Refusal) → failed ≡ false → (is_among causes e ≡ true → of_known e ≡ Damaged) → is_fatal e ≡ false → IsRight failed honest causes e → of_known e ≡ Damaged
+is-damage causes e alive among clean right =
     let other : e ≢ VolumeFailed = λ v. absurd (let no : false ≡ true = sym alive ∙ right.volume v in cc) in
-    among (right.among (light-cause e light other).0)
+    among (right.among (clean-cause e clean other).0)
 
 -- it was read
 pub known-fails : {failed : Bool} {n : ℕ} {old new : Disk} (causes : List Cause) (e : Refusal) → failed ≡ false → (is_among causes e ≡ true → of_known e ≡ Damaged) → (IsTrue old.honest → first_of causes ≡ None)
     → FailsToRead failed causes n e old new → FailsToRead false [] n (of_known e) old new
-known-fails {n = n} {old = old} {new = new} causes e alive among none fails = by_grave (is_grave e) refl
+known-fails {n = n} {old = old} {new = new} causes e alive among none fails = by_fatal (is_fatal e) refl
   where
-    by_grave : (b : Bool) → is_grave e ≡ b → FailsToRead false [] n (of_known e) old new
-    by_grave true grave = subst (λ (x : Refusal). FailsToRead false [] n x old new) (sym (known-grave e grave)) (record { right = right-grave [] e alive grave fails.right; reads = fails.reads })
-    by_grave false light =
-        subst (λ (x : Refusal). FailsToRead false [] n x old new) (sym (is-damage causes e alive among light fails.right))
-        (record { right = right-damage old.honest [] (never causes e alive none light fails.right); reads = subst (λ (k : ℕ). Reads n old new k) (light-faults e light) fails.reads })
+    by_fatal : (b : Bool) → is_fatal e ≡ b → FailsToRead false [] n (of_known e) old new
+    by_fatal true fatal = subst (λ (x : Refusal). FailsToRead false [] n x old new) (sym (known-fatal e fatal)) (record { right = right-fatal [] e alive fatal fails.right; reads = fails.reads })
+    by_fatal false clean =
+        subst (λ (x : Refusal). FailsToRead false [] n x old new) (sym (is-damage causes e alive among clean fails.right))
+        (record { right = right-damage old.honest [] (never causes e alive none clean fails.right); reads = subst (λ (k : ℕ). ReadsAtMost n old new k) (clean-faults e clean) fails.reads })
 
 -- it was written
 pub known-breaks : {failed : Bool} {n : ℕ} {old new : Disk} (causes : List Cause) (e : Refusal) → failed ≡ false → (is_among causes e ≡ true → of_known e ≡ Damaged) → (IsTrue old.honest → first_of causes ≡ None)
     → (work : Work) (home : HomeFields) → FailsToWrite failed causes n work home e old new → Breaks (Meanwhile work home old) n (of_known e) old new
-known-breaks {n = n} {old = old} {new = new} causes e alive among none work home fails = by_grave (is_grave e) refl
+known-breaks {n = n} {old = old} {new = new} causes e alive among none work home fails = by_fatal (is_fatal e) refl
   where
     under-way : (image : Image) → Meanwhile (work_if (first_of causes) work) home old image → Meanwhile work home old image
     under-way image stands honest = subst (λ (o : Option Refusal). IsUnderWay (work_if o work) home old.image image) (none honest) (stands honest)
 
-    writes : Writes (Meanwhile work home old) n old new (faults_of e)
+    writes : WritesAtMost (Meanwhile work home old) n old new (faults_of e)
     writes = record { transfers = fails.writes.transfers; went = went_weaker (Meanwhile (work_if (first_of causes) work) home old) (Meanwhile work home old) under-way fails.writes.went; few = fails.writes.few }
 
-    by_grave : (b : Bool) → is_grave e ≡ b → Breaks (Meanwhile work home old) n (of_known e) old new
-    by_grave true grave =
-        subst (λ (x : Refusal). Breaks (Meanwhile work home old) n x old new) (sym (known-grave e grave)) (record { grave = grave; undamaged = fails.right.undamaged; writes = writes })
-    by_grave false light =
-        subst (λ (x : Refusal). Breaks (Meanwhile work home old) n x old new) (sym (is-damage causes e alive among light fails.right))
+    by_fatal : (b : Bool) → is_fatal e ≡ b → Breaks (Meanwhile work home old) n (of_known e) old new
+    by_fatal true fatal =
+        subst (λ (x : Refusal). Breaks (Meanwhile work home old) n x old new) (sym (known-fatal e fatal)) (record { fatal = fatal; undamaged = fails.right.undamaged; writes = writes })
+    by_fatal false clean =
+        subst (λ (x : Refusal). Breaks (Meanwhile work home old) n x old new) (sym (is-damage causes e alive among clean fails.right))
         (record {
-          grave = refl;
-          undamaged = λ honest. absurd (never causes e alive none light fails.right honest);
-          writes = subst (λ (k : ℕ). Writes (Meanwhile work home old) n old new k) (light-faults e light) writes;
+          fatal = refl;
+          undamaged = λ honest. absurd (never causes e alive none clean fails.right honest);
+          writes = subst (λ (k : ℕ). WritesAtMost (Meanwhile work home old) n old new k) (clean-faults e clean) writes;
         })

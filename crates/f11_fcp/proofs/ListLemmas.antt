@@ -12,7 +12,7 @@ use Rattle.f11_store.specs.Store.{Store}
 use Rattle.f11_store.specs.declared.refusals.Refusal.{Refusal}
 use Rattle.f11_store.specs.declared.refusals.Refusal.TheVariants.{DeviceFault, Damaged}
 use Rattle.f11_store.specs.declared.requests.Reply.{Reply}
-use Rattle.f11_files.specs.Answers.{is_grave, is_refused}
+use Rattle.f11_files.specs.Answers.{is_fatal, is_refused}
 use Rattle.f11_files.specs.Open.{store_in}
 use Rattle.f11_image_store.proofs.StoreLemmas.{unused-is-empty}
 use Rattle.f11_fcp.specs.Accesses.{Entry, HasAccessed, Table, access_of, held_in, mark_kept, mark_there}
@@ -89,19 +89,19 @@ sound-parts true false h = (refl, refl)
 sound-parts true true h = absurd (cc)
 sound-parts false spent h = absurd (cc)
 
-sound-again : (honest spent spent' grave : Bool) → IsTrue honest → spent ≡ false → grave ≡ false → spent' ≡ (spent || grave) → (honest && not spent') ≡ true
-sound-again true false false false h alive light same = refl
-sound-again true false true false h alive light same = absurd (let never : true ≡ false = same in cc)
-sound-again true true spent' grave h alive light same = absurd (let never : true ≡ false = alive in cc)
-sound-again true false spent' true h alive light same = absurd (let never : true ≡ false = light in cc)
-sound-again false spent spent' grave h alive light same = absurd (let never : false ≡ true = h in cc)
+sound-again : (honest spent spent' fatal : Bool) → IsTrue honest → spent ≡ false → fatal ≡ false → spent' ≡ (spent || fatal) → (honest && not spent') ≡ true
+sound-again true false false false h alive clean same = refl
+sound-again true false true false h alive clean same = absurd (let never : true ≡ false = same in cc)
+sound-again true true spent' fatal h alive clean same = absurd (let never : true ≡ false = alive in cc)
+sound-again true false spent' true h alive clean same = absurd (let never : true ≡ false = clean in cc)
+sound-again false spent spent' fatal h alive clean same = absurd (let never : false ≡ true = h in cc)
 
 -- where no transfer failed, and no damage was met, the volume hasn't failed
-not-grave : (result : Result Reply Refusal) → faults_in result ≡ 0 → is_refused is_damage result ≡ false → is_refused is_grave result ≡ false
-not-grave (Ok reply) none undamaged = refl
-not-grave (Err DeviceFault) none undamaged = absurd (omega (arith, none))
-not-grave (Err Damaged) none undamaged = absurd (cc)
-not-grave (Err _) none undamaged = refl
+not-fatal : (result : Result Reply Refusal) → faults_in result ≡ 0 → is_refused is_damage result ≡ false → is_refused is_fatal result ≡ false
+not-fatal (Ok reply) none undamaged = refl
+not-fatal (Err DeviceFault) none undamaged = absurd (omega (arith, none))
+not-fatal (Err Damaged) none undamaged = absurd (cc)
+not-fatal (Err _) none undamaged = refl
 
 -- what is held is an access to a file that is there
 accessed : (t : Table) (s : Store) → HasAccessed t s → AccessesStand (held_in t s)
@@ -130,9 +130,9 @@ module _ {D : Type 0} {met : Ghosts D} where
       let parts = sound-parts (state_in v).disk.honest (is_spent v) sound in
       let handled = served.serving.handled parts.1 in
       let none : faults_in a.result ≡ 0 = omega (arith, handled.writes.went.failures, same) in
-      let light = not-grave a.result none (handled.undamaged parts.0) in (
-        (unused v, handled.step parts.0 light, unused w),
-        sound-again (state_in w).disk.honest (is_spent v) (is_spent w) (is_refused is_grave a.result) (handled.writes.went.honest ∙ parts.0) parts.1 light served.serving.next,
+      let clean = not-fatal a.result none (handled.undamaged parts.0) in (
+        (unused v, handled.step parts.0 clean, unused w),
+        sound-again (state_in w).disk.honest (is_spent v) (is_spent w) (is_refused is_fatal a.result) (handled.writes.went.honest ∙ parts.0) parts.1 clean served.serving.next,
       )
 
   pub seen-as-steps : IsSeenAs (ServesCall {met = met}) (Within FreeIsEmpty Steps) store_of_volume failures_of is_sound

@@ -13,7 +13,7 @@ use Rattle.f11_store.specs.declared.refusals.Refusal.{Refusal}
 use Rattle.f11_store.specs.Directory.{is_empty, record_in, record_id}
 use Rattle.f11_store.specs.Cost.{header_count}
 use Rattle.f11_dir.specs.Records.{records_in, place_of_name}
-use Rattle.f11_files.specs.Answers.{FailsToRead, Reads}
+use Rattle.f11_files.specs.Answers.{FailsToRead, ReadsAtMost}
 use Rattle.f11_files.specs.Finding.Blocks.{ReadsBlock}
 use Rattle.f11_files.specs.Operations.{length_causes}
 use Rattle.f11_image_store.specs.StoreOf.{store_of}
@@ -38,7 +38,7 @@ directory_in home d old = file_named (store_of old.image home) d
 pub record IsThrough (home : HomeFields) (d : FileId) (name : List ℕ) (number : ℕ) (empty : Option Spot) (block : List ℕ) (old now : Disk) : Type 0 where
   pub known : IsTrue old.honest → LookedAt name (directory_in home d old) number (option_map place_of empty) × IfSome empty (IsInHand (directory_in home d old))
   pub last : IsTrue old.honest → 0 < number → slice_get (directory_in home d old).blocks (number - 1) ≡ Some block
-  pub reads : Reads (number * (header_count (directory_in home d old) + 1)) old now 0
+  pub reads : ReadsAtMost (number * (header_count (directory_in home d old) + 1)) old now 0
 
 pub through-begins : (home : HomeFields) (d : FileId) (name block : List ℕ) (old : Disk) → IsThrough home d name 0 None block old old
 through-begins home d name block old = record {
@@ -57,13 +57,13 @@ module _ {home : HomeFields} {d : FileId} {name : List ℕ} {count number : ℕ}
     pub same-directory : directory_in home d now ≡ f
     same-directory = ap (λ i. file_named (store_of i home) d) through.reads.looked.image
 
-    reads-on : {faults : ℕ} {next : Disk} → Reads (header_count (directory_in home d now) + 1) now next faults → Reads ((number + 1) * (header_count f + 1)) old next faults
+    reads-on : {faults : ℕ} {next : Disk} → ReadsAtMost (header_count (directory_in home d now) + 1) now next faults → ReadsAtMost ((number + 1) * (header_count f + 1)) old next faults
     reads-on {faults = faults} {next = next} read =
         let sum : number * (header_count f + 1) + (header_count f + 1) ≤ (number + 1) * (header_count f + 1) = omega arith in
-        reads-within sum (reads-more through.reads (subst (λ (g : File). Reads (header_count g + 1) now next faults) same-directory read))
+        reads-within sum (reads-more through.reads (subst (λ (g : File). ReadsAtMost (header_count g + 1) now next faults) same-directory read))
 
     -- no more than for all records
-    pub through-stops : {faults : ℕ} {next : Disk} → Reads (header_count (directory_in home d now) + 1) now next faults → Reads (reading_cost f count) old next faults
+    pub through-stops : {faults : ℕ} {next : Disk} → ReadsAtMost (header_count (directory_in home d now) + 1) now next faults → ReadsAtMost (reading_cost f count) old next faults
     through-stops read = reads-within (mul-le (number + 1) (header_count f + 1) ((count + 31) / 32) (header_count f + 1) (omega (arith, more)) (omega arith)) (reads-on read)
 
     -- its next block wasn't read

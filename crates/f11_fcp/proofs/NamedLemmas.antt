@@ -13,12 +13,12 @@ use Rattle.f11_store.specs.declared.files.FileId.{FileId}
 use Rattle.f11_store.specs.declared.refusals.Refusal.{Refusal}
 use Rattle.f11_store.specs.declared.refusals.Refusal.TheVariants.{NoSuchFile, VolumeFailed}
 use Rattle.f11_store.specs.declared.requests.Request.{Request}
-use Rattle.f11_files.specs.Answers.{Reads, FailsToRead, is_among, is_grave, faults_of}
+use Rattle.f11_files.specs.Answers.{ReadsAtMost, FailsToRead, is_among, is_fatal, faults_of}
 use Rattle.f11_files.specs.Operations.{attr_of, file_causes}
 use Rattle.f11_image_store.specs.StoreOf.{store_of}
 use Rattle.f11_files.proofs.AnswerLemmas.{reads-within}
 use Rattle.f11_fcp.specs.Handles.{State, store_at, own_causes, Handles}
-use Rattle.f11_fcp.proofs.HandleLemmas.{light-cause, handled-light, handled-grave}
+use Rattle.f11_fcp.proofs.HandleLemmas.{clean-cause, handled-clean, handled-fatal}
 use Rattle.f11_fcp.proofs.AccessedLemmas.{take-true, among-file, writes-looked}
 
 -- the first cause is that there is no such file
@@ -46,19 +46,19 @@ module _ (task : ℕ) (caller : Uic) (r : Request) (old : State) (id : FileId) w
   pub unread : {failed : Bool} (rest : Option Refusal) (e : Refusal) (mid : State) → failed ≡ false → first_refusal s task caller r ≡ (if is_missing s0 id then Some NoSuchFile else rest)
       → is_among (own_causes s task caller r) NoSuchFile ≡ true → 1 ≤ cost s task r → FailsToRead failed (file_causes s0 id) 1 e old.disk mid.disk
       → mid.home ≡ old.home → mid.table ≡ old.table → mid.counts ≡ old.counts → Handles task caller r (Err e) old [] mid []
-  unread rest e mid alive judged own least fails home table counts = by_grave (is_grave e) refl
+  unread rest e mid alive judged own least fails home table counts = by_fatal (is_fatal e) refl
     where
-      by_grave : (b : Bool) → is_grave e ≡ b → Handles task caller r (Err e) old [] mid []
-      by_grave true grave = handled-grave task caller r [] old e mid [] grave fails.right.undamaged (writes-looked task caller r [] old mid.disk fails.reads least) home
-      by_grave false light =
+      by_fatal : (b : Bool) → is_fatal e ≡ b → Handles task caller r (Err e) old [] mid []
+      by_fatal true fatal = handled-fatal task caller r [] old e mid [] fatal fails.right.undamaged (writes-looked task caller r [] old mid.disk fails.reads least) home
+      by_fatal false clean =
           let other : e ≢ VolumeFailed = λ v. absurd (let no : false ≡ true = sym alive ∙ fails.right.volume v in cc) in
-          let cause = (light-cause e light other).0 in
+          let cause = (clean-cause e clean other).0 in
           let file = among-file (is_missing s0 id) e (fails.right.among cause) in
-          handled-light task caller r [] old e mid light other (subst (λ (x : Refusal). is_among (own_causes s task caller r) x ≡ true) (sym file) own)
+          handled-clean task caller r [] old e mid clean other (subst (λ (x : Refusal). is_among (own_causes s task caller r) x ≡ true) (sym file) own)
           (λ honest. judged ∙ take-true (is_missing s0 id) _ _ (missing-first (is_missing s0 id) (subst (λ (x : Refusal). first_of (file_causes s0 id) ≡ Some x) file (fails.right.cause honest cause)))
           ∙ ap (λ (x : Refusal). Some x) (sym file))
-          (reads-within least (subst (λ (x : Refusal). Reads 1 old.disk mid.disk (faults_of x)) file fails.reads)) home table counts
+          (reads-within least (subst (λ (x : Refusal). ReadsAtMost 1 old.disk mid.disk (faults_of x)) file fails.reads)) home table counts
 
 -- a store after a look is the one before it
-pub same-behind : (old mid : State) {m : ℕ} → Reads m old.disk mid.disk 0 → mid.home ≡ old.home → store_of mid.disk.image mid.home ≡ store_of old.disk.image old.home
+pub same-behind : (old mid : State) {m : ℕ} → ReadsAtMost m old.disk mid.disk 0 → mid.home ≡ old.home → store_of mid.disk.image mid.home ≡ store_of old.disk.image old.home
 same-behind old mid reads home = ap (λ (i : Image). store_of i mid.home) reads.looked.image ∙ ap (λ (h : HomeFields). store_of old.disk.image h) home

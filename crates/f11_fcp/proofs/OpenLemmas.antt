@@ -8,7 +8,7 @@ use Rattle.f11_store.specs.declared.files.FileId.{FileId}
 use Rattle.f11_store.specs.declared.refusals.Refusal.{Refusal}
 use Rattle.f11_store.specs.declared.requests.Reply.{Reply}
 use Rattle.f11_store.specs.declared.requests.Request.{Request}
-use Rattle.f11_files.specs.Answers.{is_grave, is_refused}
+use Rattle.f11_files.specs.Answers.{is_fatal, is_refused}
 use Rattle.f11_files.specs.Open.{has_failed, disk_in, home_in}
 use Rattle.f11_image_store.proofs.StoreLemmas.{unused-is-empty}
 use Rattle.f11_image_store.specs.StoreOf.{store_of}
@@ -41,14 +41,14 @@ kept-by-step t s s' fate kept task lun low small = by_entry (t task lun) refl (k
 
 -- so all stays open where a request left the table as it was
 pub stays-open : {D : Type 0} {met : Ghosts D} (t : Table) (old new : Files D met) (task : ℕ) (caller : Uic) (r : Request) (result : Result Reply Refusal) (block block' : List ℕ)
-    → IsOpen t old → (IsTrue (disk_in old).honest → SimpleIf result (store_at (state_of t old)) r) → Handles task caller r result (state_of t old) block (state_of t new) block' → (is_refused is_grave result ≡ false → has_failed new ≡ false)
+    → IsOpen t old → (IsTrue (disk_in old).honest → SimpleIf result (store_at (state_of t old)) r) → Handles task caller r result (state_of t old) block (state_of t new) block' → (is_refused is_fatal result ≡ false → has_failed new ≡ false)
     → StaysOpen result t new
-stays-open t old new task caller r result block block' is simple handles alive light = record {
-  alive = alive light;
+stays-open t old new task caller r result block block' is simple handles alive clean = record {
+  alive = alive clean;
   kept = λ honest.
       let was : IsTrue (disk_in old).honest = sym handles.writes.went.honest ∙ honest in
       kept-by-step t (store_of (disk_in old).image (home_in old)) (store_of (disk_in new).image (home_in new))
-      (fate-step (store_at (state_of t old)) task caller r block result (store_at (state_of t new)) block' (unused-is-empty (disk_in old).image (home_in old)) (simple was) (handles.step was light)) (is.kept was);
+      (fate-step (store_at (state_of t old)) task caller r block result (store_at (state_of t new)) block' (unused-is-empty (disk_in old).image (home_in old)) (simple was) (handles.step was clean)) (is.kept was);
 }
 
 -- a request that doesn't touch the block
@@ -76,7 +76,7 @@ step-block s task caller r block (Err e) s' is h = record { may_refuse = h.may_r
 pub handles-block : (task : ℕ) (caller : Uic) (r : Request) (result : Result Reply Refusal) (old new : State) (block : List ℕ) → is_blockless r ≡ true → Handles task caller r result old [] new []
     → Handles task caller r result old block new block
 handles-block task caller r result old new block is h = record {
-  step = λ honest light. step-block (store_at old) task caller r block result (store_at new) is (h.step honest light);
+  step = λ honest clean. step-block (store_at old) task caller r block result (store_at new) is (h.step honest clean);
   undamaged = h.undamaged;
   writes = record {
     transfers = h.writes.transfers;
@@ -87,7 +87,7 @@ handles-block task caller r result old new block is h = record {
         }) h.writes.went;
     few = h.writes.few;
   };
-  left = λ light. let u = h.left light in record { image = u.image; table = u.table; counts = u.counts; lent = refl };
+  left = λ clean. let u = h.left clean in record { image = u.image; table = u.table; counts = u.counts; lent = refl };
   among = h.among;
   unfailed = h.unfailed;
   home = h.home;

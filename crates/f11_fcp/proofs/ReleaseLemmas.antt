@@ -17,18 +17,18 @@ use Rattle.f11_store.specs.declared.requests.Reply.{Reply}
 use Rattle.f11_store.specs.declared.requests.Reply.TheVariants as reply
 use Rattle.f11_store.specs.declared.requests.Request.TheVariants as request
 use Rattle.f11_store.proofs.ReleaseLaws.{release_lags, release_goes_on, release_cost_goes_on, release_fits}
-use Rattle.f11_files.specs.Answers.{Writes, is_grave}
+use Rattle.f11_files.specs.Answers.{WritesAtMost, is_fatal}
 use Rattle.f11_image_store.specs.StoreOf.{store_of}
 use Rattle.f11_files.proofs.WriteLemmas.{writes-within}
 use Rattle.f11_fcp.specs.Accesses.{Entry, access_of}
 use Rattle.f11_fcp.specs.Handles.{State, store_at, Meanwhile, faults_in, Handles}
 use Rattle.f11_fcp.proofs.AccessedLemmas.{drop-false}
-use Rattle.f11_fcp.proofs.HandleLemmas.{handled-grave, handled-served, writes-none}
+use Rattle.f11_fcp.proofs.HandleLemmas.{handled-fatal, handled-served, writes-none}
 
 -- the first luns of a task, so many, were given up
 pub record Released (task : ℕ) (caller : Uic) (old now : State) (k : ℕ) : Type 0 where
   pub store : IsTrue old.disk.honest → store_at now ≡ released (store_at old) task k
-  pub writes : Writes (Meanwhile task caller request.Release [] old) (released_cost (store_at old) task k) old.disk now.disk 0
+  pub writes : WritesAtMost (Meanwhile task caller request.Release [] old) (released_cost (store_at old) task k) old.disk now.disk 0
   pub home : now.home ≡ old.home
 
 module _ (task : ℕ) (caller : Uic) (old : State) where
@@ -73,7 +73,7 @@ module _ (task : ℕ) (caller : Uic) (old : State) where
                 (subst (λ (h : HomeFields). LagsBy (work_if (first_refusal (store_at now) task caller (request.Deaccess k)) (deaccess_work (store_at now) task k)) (store_of image h) (store_at now)) so.home u.lags)));
           }
 
-      writes-more : (result : Result Reply Refusal) → Handles task caller (request.Deaccess k) result now [] next [] → Writes P (released_cost s task (k + 1)) old.disk next.disk (faults_in result)
+      writes-more : (result : Result Reply Refusal) → Handles task caller (request.Deaccess k) result now [] next [] → WritesAtMost P (released_cost s task (k + 1)) old.disk next.disk (faults_in result)
       writes-more result handles = record {
         transfers = so.writes.transfers + handles.writes.transfers;
         went = went_more P so.writes.went (went_weaker (Meanwhile task caller (request.Deaccess k) [] now) P under-way handles.writes.went);
@@ -94,9 +94,9 @@ module _ (task : ℕ) (caller : Uic) (old : State) where
       }
 
       -- or the volume failed
-      pub released-fails : (er : Refusal) → is_grave er ≡ true → Handles task caller (request.Deaccess k) (Err er) now [] next [] → Handles task caller request.Release (Err er) old [] next []
-      released-fails er grave handles =
-          handled-grave task caller request.Release [] old er next [] grave
+      pub released-fails : (er : Refusal) → is_fatal er ≡ true → Handles task caller (request.Deaccess k) (Err er) now [] next [] → Handles task caller request.Release (Err er) old [] next []
+      released-fails er fatal handles =
+          handled-fatal task caller request.Release [] old er next [] fatal
           (λ honest is. absurd (let no : true ≡ false = ap (λ (x : Refusal). refusal_number x == 20) (sym is) ∙ handles.undamaged (so.writes.went.honest ∙ honest) in cc))
           (writes-within (release_fits s task (k + 1) (omega (arith, low))) (writes-more (Err er) handles)) (handles.home ∙ so.home)
 

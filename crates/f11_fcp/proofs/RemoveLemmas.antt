@@ -35,7 +35,7 @@ use Rattle.f11_fcp.specs.declared.search.Search.{Search}
 use Rattle.f11_fcp.proofs.AccessLemmas.{barred-same}
 use Rattle.f11_fcp.proofs.AccessedLemmas.{drop-false, take-true, refused-early}
 use Rattle.f11_fcp.proofs.DirectoryLemmas.{opened-there, opening_barred}
-use Rattle.f11_fcp.proofs.HandleLemmas.{behind-by, handled-grave, handled-served, under-way-by}
+use Rattle.f11_fcp.proofs.HandleLemmas.{behind-by, handled-fatal, handled-served, under-way-by}
 use Rattle.f11_fcp.proofs.NamedLemmas.{same-behind}
 use Rattle.f11_fcp.proofs.SearchLemmas.{search-refused, search-answered, search-then}
 
@@ -125,5 +125,5 @@ module _ (task : ℕ) (caller : Uic) (d : FileId) (name : List ℕ) (old : State
 
           pub not-removed : (e : Refusal) (new : State) → BreaksReplacing mid.home d spot empty_record e mid.disk new.disk → new.home ≡ mid.home → Handles task caller r (Err e) old [] new []
           not-removed e new breaks home' =
-              handled-grave task caller r [] old e new [] breaks.grave (λ honest. breaks.undamaged (sure honest))
+              handled-fatal task caller r [] old e new [] breaks.fatal (λ honest. breaks.undamaged (sure honest))
               (behind-by task caller r [] old (Meanwhile (put_work d spot empty_record) mid.home mid.disk) mid new searches.reads weaker breaks.writes enough) (home' ∙ home)

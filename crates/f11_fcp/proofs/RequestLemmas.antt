@@ -11,7 +11,7 @@ use Rattle.f11_store.specs.declared.files.FileId.{FileId}
 use Rattle.f11_store.specs.declared.refusals.Refusal.{Refusal}
 use Rattle.f11_store.specs.declared.requests.Reply.TheVariants as reply
 use Rattle.f11_store.specs.declared.requests.Request.TheVariants as request
-use Rattle.f11_files.specs.Answers.{is_light, FailsToWrite}
+use Rattle.f11_files.specs.Answers.{is_clean, FailsToWrite}
 use Rattle.f11_files.specs.Create.{Creates, FailsToCreate, new_work}
 use Rattle.f11_files.specs.Operations.{create_causes, IsSpaceOf}
 use Rattle.f11_image_store.specs.StoreOf.{store_of}
@@ -61,7 +61,7 @@ module _ (task : ℕ) (caller : Uic) (word : ℕ) (ident attr : List ℕ) where
       (λ _. refl) home
 
   pub not-created : (failed : Bool) → failed ≡ false → (old new : State) (e : Refusal) → FailsToCreate failed old.home caller word ident attr e old.disk new.disk → new.home ≡ old.home → new.table ≡ old.table
-      → (is_light e ≡ true → new.counts ≡ old.counts) → Handles task caller (request.Create word ident attr) (Err e) old [] new []
+      → (is_clean e ≡ true → new.counts ≡ old.counts) → Handles task caller (request.Create word ident attr) (Err e) old [] new []
   not-created failed alive old new e fails home table counts =
       let s0 = store_of old.disk.image old.home in
       handled-refused task caller (request.Create word ident attr) [] old e (create_causes s0) (new_work s0 caller word ident attr) old new []

@@ -8,15 +8,15 @@ use Rattle.f11_store.specs.declared.files.FileId.{FileId}
 use Rattle.f11_store.specs.declared.refusals.Refusal.{Refusal}
 use Rattle.f11_store.specs.declared.refusals.Refusal.TheVariants.{VolumeFailed}
 use Rattle.f11_store.specs.declared.requests.Request.{Request}
-use Rattle.f11_files.specs.Answers.{FailsToRead, Reads, is_among, is_cause, is_grave}
+use Rattle.f11_files.specs.Answers.{FailsToRead, ReadsAtMost, is_among, is_cause, is_fatal}
 use Rattle.f11_image_store.specs.StoreOf.{store_of}
 use Rattle.f11_files.proofs.AnswerLemmas.{reads-within}
 use Rattle.f11_fcp.specs.Directories.{opening_causes}
 use Rattle.f11_fcp.specs.Handles.{State, store_at, own_causes, Handles}
 use Rattle.f11_fcp.specs.declared.purpose.Purpose.{Purpose}
-use Rattle.f11_fcp.proofs.AccessedLemmas.{cause-light, writes-looked}
-use Rattle.f11_fcp.proofs.HandleLemmas.{handled-grave, handled-light, light-cause}
-use Rattle.f11_fcp.proofs.KnownLemmas.{light-faults}
+use Rattle.f11_fcp.proofs.AccessedLemmas.{cause-clean, writes-looked}
+use Rattle.f11_fcp.proofs.HandleLemmas.{handled-fatal, handled-clean, clean-cause}
+use Rattle.f11_fcp.proofs.KnownLemmas.{clean-faults}
 
 -- the first of more causes
 first-step : (b : Bool) (r e : Refusal) (o more : Option Refusal) → (o ≡ Some e → more ≡ Some e) → (if b then Some r else o) ≡ Some e → (if b then Some r else more) ≡ Some e
@@ -46,24 +46,24 @@ module _ (task : ℕ) (caller : Uic) (r : Request) (old : State) (d : FileId) (p
     -- it wasn't opened, or not looked through
     pub search-refused : {m : ℕ} (e : Refusal) (mid : State) → FailsToRead false opening m e old.disk mid.disk → m ≤ cost s task r
         → (is_among opening e ≡ true → is_among (own_causes s task caller r) e ≡ true) → mid.home ≡ old.home → mid.table ≡ old.table → mid.counts ≡ old.counts → Handles task caller r (Err e) old [] mid []
-    search-refused {m = m} e mid fails fewer own home table counts = by_grave (is_grave e) refl
+    search-refused {m = m} e mid fails fewer own home table counts = by_fatal (is_fatal e) refl
       where
-        by_grave : (b : Bool) → is_grave e ≡ b → Handles task caller r (Err e) old [] mid []
-        by_grave true grave = handled-grave task caller r [] old e mid [] grave fails.right.undamaged (writes-looked task caller r [] old mid.disk fails.reads fewer) home
-        by_grave false light =
+        by_fatal : (b : Bool) → is_fatal e ≡ b → Handles task caller r (Err e) old [] mid []
+        by_fatal true fatal = handled-fatal task caller r [] old e mid [] fatal fails.right.undamaged (writes-looked task caller r [] old mid.disk fails.reads fewer) home
+        by_fatal false clean =
             let other : e ≢ VolumeFailed = λ v. absurd (let no : false ≡ true = fails.right.volume v in cc) in
-            let cause = (light-cause e light other).0 in
-            handled-light task caller r [] old e mid light other (own (fails.right.among cause))
+            let cause = (clean-cause e clean other).0 in
+            handled-clean task caller r [] old e mid clean other (own (fails.right.among cause))
             (λ honest. judged ∙ first-within opening rest e (fails.right.cause honest cause))
-            (reads-within fewer (subst (λ (k : ℕ). Reads m old.disk mid.disk k) (light-faults e light) fails.reads)) home table counts
+            (reads-within fewer (subst (λ (k : ℕ). ReadsAtMost m old.disk mid.disk k) (clean-faults e clean) fails.reads)) home table counts
 
     -- what was found stands against it
-    pub search-answered : {m : ℕ} (e : Refusal) (mid : State) → is_cause e ≡ true → is_among (own_causes s task caller r) e ≡ true → Reads m old.disk mid.disk 0 → m ≤ cost s task r
+    pub search-answered : {m : ℕ} (e : Refusal) (mid : State) → is_cause e ≡ true → is_among (own_causes s task caller r) e ≡ true → ReadsAtMost m old.disk mid.disk 0 → m ≤ cost s task r
         → (IsTrue old.disk.honest → first_of opening ≡ None) → (IsTrue old.disk.honest → first_of rest ≡ Some e) → mid.home ≡ old.home → mid.table ≡ old.table → mid.counts ≡ old.counts
         → Handles task caller r (Err e) old [] mid []
     search-answered e mid cause own reads fewer none first home table counts =
-        let light = cause-light e cause in
-        handled-light task caller r [] old e mid light.0 light.1 own (λ honest. judged ∙ first-behind opening rest (none honest) ∙ first honest) (reads-within fewer reads) home table counts
+        let clean = cause-clean e cause in
+        handled-clean task caller r [] old e mid clean.0 clean.1 own (λ honest. judged ∙ first-behind opening rest (none honest) ∙ first honest) (reads-within fewer reads) home table counts
 
     -- what comes behind decides
     pub search-then : first_of opening ≡ None → first_refusal s task caller r ≡ first_of rest

@@ -15,7 +15,7 @@ use Rattle.f11_store.specs.declared.requests.Reply.TheVariants as reply
 use Rattle.f11_store.specs.declared.requests.Request.{Request}
 use Rattle.f11_store.specs.declared.requests.Request.TheVariants as request
 use Rattle.f11_store.proofs.HeldLaws.{cut-held}
-use Rattle.f11_files.specs.Answers.{is_among, is_light}
+use Rattle.f11_files.specs.Answers.{is_among, is_clean}
 use Rattle.f11_files.specs.Removing.Truncate.{Cuts, FailsToCut, cut_work}
 use Rattle.f11_files.specs.Operations.{length_causes}
 use Rattle.f11_image_store.specs.StoreOf.{store_of}
@@ -79,7 +79,7 @@ module _ (task lun : ℕ) (caller : Uic) (old : State) (e : Entry) (held : old.t
             (cut-held (accesses old.table) s0 (store_of new.disk.image old.home) e.file.number to makes))
 
     pub not-cut : {failed : Bool} (new : State) (er res : Refusal) → failed ≡ false → FailsToCut failed old.home e.file to er old.disk new.disk
-        → new.home ≡ old.home → new.table ≡ old.table → (is_light er ≡ true → new.counts ≡ old.counts) → res ≡ of_accessed er → Handles task caller r (Err res) old [] new []
+        → new.home ≡ old.home → new.table ≡ old.table → (is_clean er ≡ true → new.counts ≡ old.counts) → res ≡ of_accessed er → Handles task caller r (Err res) old [] new []
     not-cut new er res alive fails home table counts res_is =
         subst (λ (x : Refusal). Handles task caller r (Err x) old [] new []) (sym res_is)
         (accessed-refused task caller r [] old er (is_missing s0 e.file) rest (cut_work e.file to) old new [] (reads-none old.disk) refl refl

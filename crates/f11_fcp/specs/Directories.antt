@@ -17,7 +17,7 @@ use Rattle.f11_store.specs.declared.refusals.Refusal.TheVariants.{SystemFile, No
 use Rattle.f11_entries.specs.Costs.{look_cost}
 use Rattle.f11_entries.specs.Looks.{Tells, IsLastBlock}
 use Rattle.f11_entries.specs.declared.spot.Looked.{Looked}
-use Rattle.f11_files.specs.Answers.{Reads}
+use Rattle.f11_files.specs.Answers.{ReadsAtMost}
 use Rattle.f11_files.specs.Operations.{attr_of}
 use Rattle.f11_image_store.specs.StoreOf.{store_of}
 use Rattle.f11_fcp.specs.Accesses.{Table, is_held_in}
@@ -58,16 +58,18 @@ pub record Opens (p : Purpose) (t : Table) (caller : Uic) (d : FileId) (attr : A
   pub no_cause : IsTrue old.honest → first_of (opening_causes p t (store_of old.image home) caller d) ≡ None
   pub attr_is : IsTrue old.honest → attr ≡ attr_of (file_named (store_of old.image home) d)
   pub own : 4 ≤ d.number
-  pub reads : Reads 1 old new 0
+  pub reads : ReadsAtMost 1 old new 0
 
 -- Records of a directory were looked through for a name, and a block of it is in hand.
-pub record LooksThrough (home : HomeFields) (d : FileId) (name : List ℕ) (told : Looked) (last : List ℕ) (most : ℕ) (old new : Disk) : Type 0 where
+pub record LooksThrough (home : HomeFields) (d : FileId) (name : List ℕ) (told : Looked) (last : List ℕ) (most : ℕ)
+    (old new : Disk) : Type 0 where
   pub tells : IsTrue old.honest → Tells name (file_named (store_of old.image home) d) told
   pub last_is : IsTrue old.honest → IsLastBlock (file_named (store_of old.image home) d) told last
-  pub reads : Reads most old new 0
+  pub reads : ReadsAtMost most old new 0
 
 -- A directory was opened, and looked through for a name.
-pub record Searches (p : Purpose) (t : Table) (caller : Uic) (d : FileId) (name : List ℕ) (found : Search) (home : HomeFields) (old new : Disk) : Type 0 where
+pub record Searches (p : Purpose) (t : Table) (caller : Uic) (d : FileId) (name : List ℕ) (found : Search)
+    (home : HomeFields) (old new : Disk) : Type 0 where
   pub no_cause : IsTrue old.honest → first_of (opening_causes p t (store_of old.image home) caller d) ≡ None
   pub attr_is : IsTrue old.honest → found.attr ≡ attr_of (file_named (store_of old.image home) d)
   pub length_is : IsTrue old.honest → found.length ≡ length_of (file_named (store_of old.image home) d)
@@ -75,7 +77,7 @@ pub record Searches (p : Purpose) (t : Table) (caller : Uic) (d : FileId) (name 
   pub tells : IsTrue old.honest → Tells name (file_named (store_of old.image home) d) found.looked
   pub last_is : IsTrue old.honest → IsLastBlock (file_named (store_of old.image home) d) found.looked found.last
   pub own : 4 ≤ d.number
-  pub reads : Reads (look_cost (file_named (store_of old.image home) d)) old new 0
+  pub reads : ReadsAtMost (look_cost (file_named (store_of old.image home) d)) old new 0
 
 -- a directory that is there and has so many records
 pub record IsDirectoryOf (count : ℕ) (s : Store) (d : FileId) : Type 0 where

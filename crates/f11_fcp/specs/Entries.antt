@@ -1,5 +1,25 @@
 -- Records that are put into a directory that was looked through, and taken out (profile).
-use Rattle.std.specs.Prelude.{◌≡◌, ℕ, ◌+◌, ◌-◌, ◌/◌, ◌<◌, ◌&&◌, map, Bool, false, IsTrue, List, [], Option, Some, None, option_map, IfSome, ⊤}
+use Rattle.std.specs.Prelude.{
+  ◌≡◌,
+  ℕ,
+  ◌+◌,
+  ◌-◌,
+  ◌/◌,
+  ◌<◌,
+  ◌&&◌,
+  map,
+  Bool,
+  false,
+  IsTrue,
+  List,
+  [],
+  Option,
+  Some,
+  None,
+  option_map,
+  IfSome,
+  ⊤,
+}
 use Rattle.std.specs.List.{slice_get}
 use Rattle.f11_dev.specs.Disk.{Disk}
 use Rattle.f11_dev.specs.Image.{Image}
@@ -17,7 +37,7 @@ use Rattle.f11_entries.specs.Costs.{append_cost, entry_cost}
 use Rattle.f11_entries.specs.Looks.{IsInHand, place_of}
 use Rattle.f11_entries.specs.Writing.{put_in, end_put}
 use Rattle.f11_entries.specs.declared.spot.Spot.{Spot}
-use Rattle.f11_files.specs.Answers.{Breaks, Does, FailsToWrite, Meanwhile, Writes}
+use Rattle.f11_files.specs.Answers.{Breaks, Does, FailsToWrite, Meanwhile, WritesAtMost}
 use Rattle.f11_image_store.specs.StoreOf.{store_of}
 use Rattle.f11_volume.specs.Sound.{HasSoundVolume}
 use Rattle.f11_volume.specs.Volume.{Volume}
@@ -50,7 +70,8 @@ any_allocation old new = ⊤
 abbrev pub ReplacesEntry : HomeFields → FileId → Spot → List ℕ → Disk → Disk → Type 0
 ReplacesEntry home d spot r old new =
     let s = store_of old.image home in
-    Does [] (put_work d spot r) (header_count (file_named s d) + 1) (λ t. t ≡ with_change s d.number (put_at spot r)) any_allocation home old new
+    Does [] (put_work d spot r) (header_count (file_named s d) + 1)
+    (λ t. t ≡ with_change s d.number (put_at spot r)) any_allocation home old new
 
 -- It was not.
 abbrev pub BreaksReplacing : HomeFields → FileId → Spot → List ℕ → Refusal → Disk → Disk → Type 0
@@ -71,9 +92,11 @@ move_at tail d s = end_put (file_named s d) (place_of tail.spot)
 -- What stands while a record is put behind the last one: the volume is sound, and the store lags the one before by the write of the block, or
 -- the one with the record by the write of the header.
 pub data IsAppending (home : HomeFields) (d : FileId) (tail : Tail) (r : List ℕ) (old image : Image) : Type 0 where
-  putting : HasSoundVolume image home → LagsBy (put_work d tail.spot r) (store_of image home) (store_of old home) → IsAppending home d tail r old image
+  putting : HasSoundVolume image home → LagsBy (put_work d tail.spot r) (store_of image home) (store_of old home) →
+      IsAppending home d tail r old image
   moving :
-      HasSoundVolume image home → LagsBy (one_part d.number (file_changes d.number (move_at tail d (store_of old home)))) (store_of image home)
+      HasSoundVolume image home → LagsBy (one_part d.number
+      (file_changes d.number (move_at tail d (store_of old home)))) (store_of image home)
       (with_change (store_of old home) d.number (put_at tail.spot r)) → IsAppending home d tail r old image
 
 -- that of an honest disk
@@ -83,8 +106,9 @@ Appending home d tail r old image = IsTrue old.honest → IsAppending home d tai
 -- A record was put behind the last one, and then the end was moved past it.
 pub record Appends (home : HomeFields) (d : FileId) (tail : Tail) (r : List ℕ) (old new : Disk) : Type 0 where
   pub makes : IsTrue old.honest → store_of new.image home
-      ≡ with_change (with_change (store_of old.image home) d.number (put_at tail.spot r)) d.number (move_at tail d (store_of old.image home))
-  pub writes : Writes (Appending home d tail r old) (append_cost (file_named (store_of old.image home) d)) old new 0
+      ≡ with_change (with_change (store_of old.image home) d.number (put_at tail.spot r)) d.number
+      (move_at tail d (store_of old.image home))
+  pub writes : WritesAtMost (Appending home d tail r old) (append_cost (file_named (store_of old.image home) d)) old new 0
 
 -- A directory was looked through to its end: what is kept of it is so, and the last block with records is in hand.
 pub record IsEndOf (found : Search) (s : Store) (d : FileId) : Type 0 where
@@ -92,7 +116,8 @@ pub record IsEndOf (found : Search) (s : Store) (d : FileId) : Type 0 where
   pub attr_is : found.attr.attr ≡ (file_named s d).attr
   pub length_is : found.length ≡ length_of (file_named s d)
   pub count_is : found.count ≡ entry_count (file_named s d)
-  pub last_is : 0 < entry_count (file_named s d) → slice_get (file_named s d).blocks ((entry_count (file_named s d) - 1) / 32) ≡ Some found.last
+  pub last_is : 0 < entry_count (file_named s d) →
+      slice_get (file_named s d).blocks ((entry_count (file_named s d) - 1) / 32) ≡ Some found.last
 
 -- none of its records is empty, and one more needs one more block or doesn't
 pub record IsFull (needs : Bool) (found : Search) (s : Store) (d : FileId) : Type 0 where

@@ -18,7 +18,7 @@ use Rattle.f11_store.specs.declared.requests.Reply.{Reply}
 use Rattle.f11_store.specs.declared.requests.Request.{Request}
 use Rattle.f11_store.specs.declared.requests.Request.TheVariants as request
 use Rattle.f11_volume.specs.Sound.{HasSoundVolume}
-use Rattle.f11_files.specs.Answers.{Writes, is_among, is_cause, is_grave, is_light, is_refused, faults_of}
+use Rattle.f11_files.specs.Answers.{WritesAtMost, is_among, is_cause, is_fatal, is_clean, is_refused, faults_of}
 use Rattle.f11_files.specs.Open.{disk_in, home_in, counts_in, has_failed, is_honest, store_in}
 use Rattle.f11_image_store.specs.StoreOf.{store_of}
 use Rattle.f11_files.specs.declared.files.Files.{Files}
@@ -78,11 +78,13 @@ pub record IsLeft (old : State) (block : List ℕ) (new : State) (block' : List 
 -- A request was handled. On an honest disk it was a step of the plain store, and no structural fault was met; each image that stood meanwhile is
 -- sound, and lags. Its transfers are within its cost, and of them none failed but where that is the answer. A refusal for a cause is for one of the
 -- request's own, and leaves all.
-pub record Handles (task : ℕ) (caller : Uic) (r : Request) (result : Result Reply Refusal) (old : State) (block : List ℕ) (new : State) (block' : List ℕ) : Type 0 where
-  pub step : IsTrue old.disk.honest → is_refused is_grave result ≡ false → Step (store_at old) task caller r block result (store_at new) block'
+pub record Handles (task : ℕ) (caller : Uic) (r : Request) (result : Result Reply Refusal) (old : State)
+    (block : List ℕ) (new : State) (block' : List ℕ) : Type 0 where
+  pub step : IsTrue old.disk.honest → is_refused is_fatal result ≡ false →
+      Step (store_at old) task caller r block result (store_at new) block'
   pub undamaged : IsTrue old.disk.honest → is_refused is_damage result ≡ false
-  pub writes : Writes (Meanwhile task caller r block old) (cost (store_at old) task r) old.disk new.disk (faults_in result)
-  pub left : is_refused is_light result ≡ true → IsLeft old block new block'
+  pub writes : WritesAtMost (Meanwhile task caller r block old) (cost (store_at old) task r) old.disk new.disk (faults_in result)
+  pub left : is_refused is_clean result ≡ true → IsLeft old block new block'
   pub among : is_refused is_cause result ≡ true → is_refused (is_among (own_causes (store_at old) task caller r)) result ≡ true
   pub unfailed : is_refused is_failed result ≡ false
   pub home : new.home ≡ old.home
@@ -94,7 +96,7 @@ pub record IsOpen {D : Type 0} {met : Ghosts D} (t : Table) (files : Files D met
 
 -- and so they are after a request, unless that has failed the volume
 abbrev pub StaysOpen : {D : Type 0} {met : Ghosts D} → Result Reply Refusal → Table → Files D met → Type 0
-StaysOpen result t files = is_refused is_grave result ≡ false → IsOpen t files
+StaysOpen result t files = is_refused is_fatal result ≡ false → IsOpen t files
 
 -- what a refusal of a call on a file that is accessed is: none has lost it but a disk that isn't honest
 abbrev pub of_accessed : Refusal → Refusal

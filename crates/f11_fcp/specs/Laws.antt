@@ -12,7 +12,8 @@ use Rattle.f11_fcp.specs.Handles.{State, Stands, Handles, is_damage}
 -- an image that stands while a request is handled has no fault
 abbrev pub StandingIsAccepted : Type 0
 StandingIsAccepted =
-    (task : ℕ) (caller : Uic) (r : Request) (block : List ℕ) (old : State) (image : Image) → Stands task caller r block old image → IsAccepted image
+    (task : ℕ) (caller : Uic) (r : Request) (block : List ℕ) (old : State) (image : Image) →
+    Stands task caller r block old image → IsAccepted image
 
 -- no request is answered Damaged while the disk is honest
 abbrev pub HandledIsUndamaged : Type 0

@@ -7,7 +7,7 @@ use Rattle.f11_store.specs.File.{length_of}
 use Rattle.f11_store.specs.Store.{file_held}
 use Rattle.f11_store.specs.declared.refusals.Refusal.{Refusal}
 use Rattle.f11_store.specs.declared.refusals.Refusal.TheVariants.{NoSuchAccess, VolumeFailed}
-use Rattle.f11_files.specs.Answers.{FailsToRead, Reads, is_grave, is_refused}
+use Rattle.f11_files.specs.Answers.{FailsToRead, ReadsAtMost, is_fatal, is_refused}
 use Rattle.f11_files.specs.Finding.Length.{most_blocks}
 use Rattle.f11_fcp.specs.Handles.{State, store_at}
 use Rattle.f11_fcp.specs.Serving.{is_spent, state_in}
@@ -26,7 +26,7 @@ pub record IsLength (task lun blocks : ℕ) (old new : State) : Type 0 where
   pub accessed : holds_none (store_at old) task lun ≡ false
   pub length_is : IsTrue old.disk.honest → blocks ≡ length_of (file_held (store_at old) task lun)
   pub few : blocks ≤ most_blocks
-  pub reads : Reads (length_cost old task lun) old.disk new.disk 0
+  pub reads : ReadsAtMost (length_cost old task lun) old.disk new.disk 0
 
 -- The blocks were counted, or that was refused; what tasks hold and the counts stay, whatever is answered.
 pub record Measures (task lun : ℕ) (result : Result ℕ Refusal) (old new : State) : Type 0 where
@@ -42,4 +42,4 @@ pub record AnswersLength {D : Type 0} {met : Ghosts D} (task lun : ℕ) (result 
   pub refused : is_spent old ≡ true → IsErrOf result VolumeFailed
   pub untouched : is_spent old ≡ true → state_in new ≡ state_in old
   pub measures : is_spent old ≡ false → Measures task lun result (state_in old) (state_in new)
-  pub next : is_spent new ≡ (is_spent old || is_refused is_grave result)
+  pub next : is_spent new ≡ (is_spent old || is_refused is_fatal result)

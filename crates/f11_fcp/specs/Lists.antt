@@ -1,5 +1,25 @@
 -- What serving a list of requests tells (profile).
-use Rattle.std.specs.Prelude.{◌≡◌, ℕ, ◌+◌, ◌≤◌, ◌&&◌, not, Bool, true, IsTrue, if◌then◌else◌, List, [], ◌∷◌, map, Option, Some, None, IsSome, Result}
+use Rattle.std.specs.Prelude.{
+  ◌≡◌,
+  ℕ,
+  ◌+◌,
+  ◌≤◌,
+  ◌&&◌,
+  not,
+  Bool,
+  true,
+  IsTrue,
+  if◌then◌else◌,
+  List,
+  [],
+  ◌∷◌,
+  map,
+  Option,
+  Some,
+  None,
+  IsSome,
+  Result,
+}
 use Rattle.f11_dev.specs.declared.device.Device.{Ghosts}
 use Rattle.f11_runs.specs.Each.{EachCosts, answer_with, call_with}
 use Rattle.f11_runs.specs.Locked.{LocksHold}
@@ -90,7 +110,8 @@ abbrev pub cost_of : {D : Type 0} {met : Ghosts D} → Volume D met → Call →
 cost_of v c = if is_spent v then 0 else cost (store_of_volume v) c.task c.request
 
 -- On an honest disk the transfers of a list are no more than its calls may cost in all.
-pub record KeepsCosts {D : Type 0} {met : Ghosts D} (old : Volume D met) (calls : List Call) (answers : List Answer) (new : Volume D met) : Type 0 where
+pub record KeepsCosts {D : Type 0} {met : Ghosts D} (old : Volume D met) (calls : List Call) (answers : List Answer)
+    (new : Volume D met) : Type 0 where
   pub most : ℕ
   pub costs : EachCosts ServesCall cost_of old calls answers new most
   pub few : IsTrue (state_in old).disk.honest → transfers_of new ≤ transfers_of old + most

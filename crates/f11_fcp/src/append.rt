@@ -2,7 +2,7 @@
 ghost use Rattle.std.specs.Prelude.{◌≡◌, ◌+◌, ◌*◌, ◌/◌, ◌<◌, ◌≤◌, false, true, IfErr, IfOk, OnOk, Some, []};
 ghost use Rattle.std.specs.List.{slice_get};
 ghost use Rattle.f11_entries.specs.Costs.{append_cost};
-ghost use Rattle.f11_files.specs.Answers.{is_grave, is_light, is_refused, Breaks, FailsToRead, Reads};
+ghost use Rattle.f11_files.specs.Answers.{is_fatal, is_clean, is_refused, Breaks, FailsToRead, ReadsAtMost};
 ghost use Rattle.f11_files.specs.Finding.Length.{most_blocks};
 ghost use Rattle.f11_files.specs.Open.{counts_in, disk_in, has_failed, home_in, is_honest, store_in, IsIdFrom};
 ghost use Rattle.f11_fcp.specs.Entries.{Appending, Appends, FailsToPut, HasEmpty, IsEndOf, IsFull, IsTailOf, PutsEntry};
@@ -40,7 +40,7 @@ fn end_block<D: Device>(
     ensures block { IfOk result (λ block. is_honest files.old
         → slice_get (file_named (store_in files.old) directory).blocks (found.now.count / 32)
         ≡ Some block) }
-    ensures reads { OnOk result (Reads (header_count (file_named (store_in files.old) directory) + 1)
+    ensures reads { OnOk result (ReadsAtMost (header_count (file_named (store_in files.old) directory) + 1)
         (disk_in files.old) (disk_in files.new) 0) }
     ensures refused { IfErr result (λ refusal. FailsToRead false []
         (header_count (file_named (store_in files.old) directory) + 1) refusal
@@ -131,7 +131,7 @@ fn append_in_block<D: Device>(
         (disk_in files.old) (disk_in files.new)) }
     ensures refused { IfErr result (λ refusal. FailsToPut (home_in files.old) directory
         (record_bytes file name.now) refusal (disk_in files.old) (disk_in files.new)) }
-    ensures grave { IfErr result (λ refusal. is_grave refusal ≡ true) }
+    ensures fatal { IfErr result (λ refusal. is_fatal refusal ≡ true) }
     ensures alive { OnOk result (has_failed files.new ≡ false) }
     ensures home { home_in files.new ≡ home_in files.old }
 {
@@ -162,8 +162,8 @@ fn append_in_new_block<D: Device>(
         (disk_in files.old) (disk_in files.new)) }
     ensures refused { IfErr result (λ refusal. FailsToPut (home_in files.old) directory
         (record_bytes file name.now) refusal (disk_in files.old) (disk_in files.new)) }
-    ensures counts { is_refused is_light result ≡ true → counts_in files.new ≡ counts_in files.old }
-    ensures alive { is_refused is_grave result ≡ false → has_failed files.new ≡ false }
+    ensures counts { is_refused is_clean result ≡ true → counts_in files.new ≡ counts_in files.old }
+    ensures alive { is_refused is_fatal result ≡ false → has_failed files.new ≡ false }
     ensures home { home_in files.new ≡ home_in files.old }
 {
     match files.extend(directory, 1) {
@@ -198,8 +198,8 @@ pub(crate) fn put_entry<D: Device>(
         (disk_in files.old) (disk_in files.new)) }
     ensures refused { IfErr result (λ refusal. FailsToPut (home_in files.old) directory
         (record_bytes file name.now) refusal (disk_in files.old) (disk_in files.new)) }
-    ensures counts { is_refused is_light result ≡ true → counts_in files.new ≡ counts_in files.old }
-    ensures alive { is_refused is_grave result ≡ false → has_failed files.new ≡ false }
+    ensures counts { is_refused is_clean result ≡ true → counts_in files.new ≡ counts_in files.old }
+    ensures alive { is_refused is_fatal result ≡ false → has_failed files.new ≡ false }
     ensures home { home_in files.new ≡ home_in files.old }
 {
     match empty {

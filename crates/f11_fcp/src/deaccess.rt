@@ -2,7 +2,7 @@
 ghost use Rattle.std.specs.Prelude.{[], ◌≡◌, IfErr, Some, true};
 ghost use Rattle.f11_fcp.specs.Handles.{Handles, IsOpen, StaysOpen, state_of};
 ghost use Rattle.f11_fcp.specs.Places.{entry_of, table_of};
-ghost use Rattle.f11_files.specs.Answers.{is_grave};
+ghost use Rattle.f11_files.specs.Answers.{is_fatal};
 ghost use Rattle.f11_store.specs.declared.requests.Request.TheVariants as asked;
 
 use crate::answer::of_accessed;
@@ -50,7 +50,7 @@ impl Accesses {
         ensures handles { Handles task caller (asked.Deaccess lun) result
             (state_of (table_of self.old) files.old) [] (state_of (table_of self.new) files.new) [] }
         ensures open { StaysOpen result (table_of self.new) files.new }
-        ensures grave { IfErr result (λ refusal. is_grave refusal ≡ true) }
+        ensures fatal { IfErr result (λ refusal. is_fatal refusal ≡ true) }
     {
         self.set(task, lun, None);
         if !held.marked {

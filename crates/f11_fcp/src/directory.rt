@@ -1,6 +1,6 @@
 //! A directory that is opened for a request, and looked through.
 ghost use Rattle.std.specs.Prelude.{◌≡◌, ◌≤◌, false, IfErr, IfOk};
-ghost use Rattle.f11_files.specs.Answers.{is_grave, is_refused, FailsToRead};
+ghost use Rattle.f11_files.specs.Answers.{is_fatal, is_refused, FailsToRead};
 ghost use Rattle.f11_files.specs.Open.{counts_in, disk_in, has_failed, home_in, store_in};
 ghost use Rattle.f11_entries.specs.Costs.{look_cost};
 ghost use Rattle.f11_fcp.specs.Directories.{lacks_for_purpose, is_barred_to, opening_causes, Opens, Searches};
@@ -60,7 +60,7 @@ impl Accesses {
         ensures refused { IfErr result (λ refusal. FailsToRead false
             (opening_causes purpose (table_of self.now) (store_in files.old) caller directory)
             1 refusal (disk_in files.old) (disk_in files.new)) }
-        ensures alive { is_refused is_grave result ≡ false → has_failed files.new ≡ false }
+        ensures alive { is_refused is_fatal result ≡ false → has_failed files.new ≡ false }
         ensures told { counts_in files.new ≡ counts_in files.old }
         ensures home { home_in files.new ≡ home_in files.old }
     {
@@ -108,7 +108,7 @@ impl Accesses {
             (opening_causes purpose (table_of self.now) (store_in files.old) caller directory)
             (look_cost (file_named (store_in files.old) directory)) refusal
             (disk_in files.old) (disk_in files.new)) }
-        ensures alive { is_refused is_grave result ≡ false → has_failed files.new ≡ false }
+        ensures alive { is_refused is_fatal result ≡ false → has_failed files.new ≡ false }
         ensures told { counts_in files.new ≡ counts_in files.old }
         ensures home { home_in files.new ≡ home_in files.old }
     {

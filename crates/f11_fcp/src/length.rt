@@ -1,11 +1,11 @@
 //! How long files are that are accessed.
 ghost use Rattle.std.specs.Prelude.{◌≡◌, false};
-ghost use Rattle.f11_files.specs.Answers.{is_grave, is_refused};
+ghost use Rattle.f11_files.specs.Answers.{is_fatal, is_refused};
 ghost use Rattle.f11_fcp.specs.Handles.{IsOpen, state_of};
 ghost use Rattle.f11_fcp.specs.Lengths.{Measures};
 ghost use Rattle.f11_fcp.specs.Places.{table_of};
 
-use crate::answer::{is_grave, of_accessed};
+use crate::answer::{is_fatal, of_accessed};
 use crate::table::Accesses;
 use crate::volume::Volume;
 use f11_dev::Device;
@@ -27,7 +27,7 @@ impl Accesses {
         requires open { IsOpen (table_of self.now) files.old }
         ensures measures { Measures task lun result (state_of (table_of self.now) files.old)
             (state_of (table_of self.now) files.new) }
-        ensures open { is_refused is_grave result ≡ false → IsOpen (table_of self.now) files.new }
+        ensures open { is_refused is_fatal result ≡ false → IsOpen (table_of self.now) files.new }
     {
         let held = match self.held(task, lun) {
             Some(held) => held,
@@ -60,7 +60,7 @@ impl<D: Device> Volume<D> {
             return Err(Refusal::VolumeFailed);
         }
         let answer = self.accesses.length(&mut self.files, task, lun);
-        self.failed = is_grave(&answer);
+        self.failed = is_fatal(&answer);
         answer
     }
 }

@@ -4,7 +4,7 @@ ghost use Rattle.f11_files.specs.Open.{has_failed, is_honest, store_in};
 ghost use Rattle.f11_fcp.specs.Accesses.{HasAccessed};
 ghost use Rattle.f11_fcp.specs.Places.{table_of};
 
-use crate::answer::is_grave;
+use crate::answer::is_fatal;
 use crate::table::Accesses;
 use f11_bytes::Block;
 use f11_dev::Device;
@@ -61,7 +61,7 @@ impl<D: Device> Volume<D> {
         let answer = self
             .accesses
             .answer(&mut self.files, task, caller, request, block);
-        self.failed = is_grave(&answer);
+        self.failed = is_fatal(&answer);
         answer
     }
 

@@ -8,7 +8,7 @@ use Rattle.f11_store.specs.Causes.{Cause, first_of}
 use Rattle.f11_store.specs.Refusal.{refusal_number}
 use Rattle.f11_store.specs.declared.refusals.Refusal.{Refusal}
 use Rattle.f11_store.specs.declared.refusals.Refusal.TheVariants.{VolumeFailed, DeviceFault, Damaged}
-use Rattle.f11_files.specs.Answers.{FailsToRead, is_among, IsRight, Reads}
+use Rattle.f11_files.specs.Answers.{FailsToRead, is_among, IsRight, ReadsAtMost}
 
 -- an error that is handed on
 pub handed : {T E : Type 0} (P : E → Type 0) (r : Result T E) (x : E) → IsErrAnd r (λ y. y ≡ x) → P x → IfErr r P
@@ -48,11 +48,11 @@ right-damaged honest causes never = record {
 }
 
 -- blocks were read
-pub reads-looked : {old new : Disk} {most faults : ℕ} → Looked old new most faults → Reads most old new faults
+pub reads-looked : {old new : Disk} {most faults : ℕ} → Looked old new most faults → ReadsAtMost most old new faults
 reads-looked {most = most} looked = record { reads = most; looked = looked; few = λ _. omega arith }
 
 -- and more of them
-pub reads-more : {a b c : Disk} {m n faults : ℕ} → Reads m a b 0 → Reads n b c faults → Reads (m + n) a c faults
+pub reads-more : {a b c : Disk} {m n faults : ℕ} → ReadsAtMost m a b 0 → ReadsAtMost n b c faults → ReadsAtMost (m + n) a c faults
 reads-more {a = a} first then = record {
   reads = first.reads + then.reads;
   looked = looked_more first.looked then.looked;
@@ -60,7 +60,7 @@ reads-more {a = a} first then = record {
 }
 
 -- fewer than may be
-pub reads-within : {old new : Disk} {m n faults : ℕ} → m ≤ n → Reads m old new faults → Reads n old new faults
+pub reads-within : {old new : Disk} {m n faults : ℕ} → m ≤ n → ReadsAtMost m old new faults → ReadsAtMost n old new faults
 reads-within fewer reads = record { reads = reads.reads; looked = reads.looked; few = λ honest. let here = reads.few honest in omega (arith, here, fewer) }
 
 -- what a refusal to read says where there are other causes behind

@@ -2,7 +2,7 @@
 pub mod Loss
 pub mod Freeing
 pub mod Giving
-pub mod Bury
+pub mod FreeSlot
 pub mod Drop
 pub mod Behind
 pub mod Dropping

@@ -17,13 +17,13 @@ use Rattle.f11_store.specs.declared.refusals.Refusal.TheVariants.{VolumeFailed}
 use Rattle.f11_volume.specs.Sound.{HasSoundVolume}
 use Rattle.f11_volume.specs.Volume.{Volume}
 use Rattle.f11_writes.specs.Kept.{KeepsVolume}
-use Rattle.f11_files.specs.Answers.{Reads, Writes, FailsToRead, FailsToWrite, IsRight, IsUnderWay, Meanwhile, is_grave, faults_of}
-use Rattle.f11_files.specs.Structure.{home_of, Lies, Keeps, IsFor, StaysFor}
+use Rattle.f11_files.specs.Answers.{ReadsAtMost, WritesAtMost, FailsToRead, FailsToWrite, IsRight, IsUnderWay, Meanwhile, is_fatal, faults_of}
+use Rattle.f11_files.specs.Structure.{home_of, Lies, IsStructureOf, IsStructureFor, StaysFor}
 use Rattle.f11_files.specs.declared.structure.Structure.{Structure}
 use Rattle.f11_image_store.proofs.StoreLemmas.{free-count}
 
 -- where headers, storage bitmap and free blocks stay, so does what is kept
-pub keeps-volume : (s : Structure) (old new : Image) → KeepsVolume (home_of s) old new → Keeps s old → Keeps s new
+pub keeps-volume : (s : Structure) (old new : Image) → KeepsVolume (home_of s) old new → IsStructureOf s old → IsStructureOf s new
 keeps-volume s old new kept keeps = record {
   index_is = keeps.index_is ∙ sym kept.index_file.index;
   bitmap_is = keeps.bitmap_is ∙ sym kept.bitmap;
@@ -39,7 +39,7 @@ sound-went work home old new sound went honest =
     went_last P (went_weaker (Meanwhile work home old) P (λ image under sure. (under sure).sound) went) sound (sym went.honest ∙ honest)
 
 -- where a call has failed the volume, no more is said of what is kept
-pub failed-stays : (s t : Structure) (work : Work) (old new : Disk) {most faults : ℕ} → IsFor s old → home_of t ≡ home_of s → Went (Meanwhile work (home_of s) old) old new most faults → StaysFor true s t new
+pub failed-stays : (s t : Structure) (work : Work) (old new : Disk) {most faults : ℕ} → IsStructureFor s old → home_of t ≡ home_of s → Went (Meanwhile work (home_of s) old) old new most faults → StaysFor true s t new
 failed-stays s t work old new for home went = record {
   home = home;
   lies = λ not. absurd cc;
@@ -48,8 +48,8 @@ failed-stays s t work old new for home went = record {
 }
 
 -- where what is kept is the image's, the volume stays open
-pub served-stays : (s : Structure) (work : Work) (old new : Disk) {most faults : ℕ} (failed : Bool) → IsFor s old → Went (Meanwhile work (home_of s) old) old new most faults
-    → (IsTrue old.honest → Keeps s new.image) → StaysFor failed s s new
+pub served-stays : (s : Structure) (work : Work) (old new : Disk) {most faults : ℕ} (failed : Bool) → IsStructureFor s old → Went (Meanwhile work (home_of s) old) old new most faults
+    → (IsTrue old.honest → IsStructureOf s new.image) → StaysFor failed s s new
 served-stays s work old new failed for went keeps = record {
   home = refl;
   lies = λ _. subst (λ (n : ℕ). Lies s n) (sym went.size) for.lies;
@@ -58,16 +58,16 @@ served-stays s work old new failed for went keeps = record {
 }
 
 -- and where it was only read
-pub looked-stays : (s : Structure) (failed : Bool) (old new : Disk) {most faults : ℕ} → IsFor s old → Looked old new most faults → StaysFor failed s s new
+pub looked-stays : (s : Structure) (failed : Bool) (old new : Disk) {most faults : ℕ} → IsStructureFor s old → Looked old new most faults → StaysFor failed s s new
 looked-stays s failed old new for looked = record {
   home = refl;
   lies = λ _. subst (λ (i : Image). Lies s (length i)) (sym looked.image) for.lies;
   sound = λ honest. subst (λ (i : Image). HasSoundVolume i (home_of s)) (sym looked.image) (for.sound (sym looked.honest ∙ honest));
-  keeps = λ _ honest. subst (Keeps s) (sym looked.image) (for.keeps (sym looked.honest ∙ honest));
+  keeps = λ _ honest. subst (IsStructureOf s) (sym looked.image) (for.keeps (sym looked.honest ∙ honest));
 }
 
 -- blocks were read, and then written
-pub writes-behind : {P : Image → Type 0} {a b c : Disk} {m n faults : ℕ} → Reads m a b 0 → Went P b c n faults → Writes P (m + n) a c faults
+pub writes-behind : {P : Image → Type 0} {a b c : Disk} {m n faults : ℕ} → ReadsAtMost m a b 0 → Went P b c n faults → WritesAtMost P (m + n) a c faults
 writes-behind {P = P} {n = n} reads went = record {
   transfers = reads.reads + n;
   went = went_more P (went_looked P reads.looked) went;
@@ -75,7 +75,7 @@ writes-behind {P = P} {n = n} reads went = record {
 }
 
 -- fewer than may be
-pub writes-within : {P : Image → Type 0} {a b : Disk} {m n faults : ℕ} → m ≤ n → Writes P m a b faults → Writes P n a b faults
+pub writes-within : {P : Image → Type 0} {a b : Disk} {m n faults : ℕ} → m ≤ n → WritesAtMost P m a b faults → WritesAtMost P n a b faults
 writes-within fewer writes = record { transfers = writes.transfers; went = writes.went; few = λ honest. let few = writes.few honest in omega (arith, few, fewer) }
 
 -- where there was no cause against a call, the work that is under way is its own
@@ -84,16 +84,16 @@ pub unless-refused : (causes : List Cause) (work : Work) (home : HomeFields) (ol
 unless-refused causes work home old none image is honest = subst (λ (o : Option Refusal). IsUnderWay (work_if o work) home old.image image) (sym (none honest)) (is honest)
 
 -- a call against which there was no cause broke off
-pub breaks-off : {causes : List Cause} {m : ℕ} {work : Work} {home : HomeFields} {r : Refusal} {old new : Disk} → (IsTrue old.honest → first_of causes ≡ None) → is_grave r ≡ true
-    → IsRight false old.honest causes r → Writes (Meanwhile work home old) m old new (faults_of r) → FailsToWrite false causes m work home r old new
-breaks-off {causes = causes} {work = work} {home = home} {old = old} none grave right writes = record {
+pub breaks-off : {causes : List Cause} {m : ℕ} {work : Work} {home : HomeFields} {r : Refusal} {old new : Disk} → (IsTrue old.honest → first_of causes ≡ None) → is_fatal r ≡ true
+    → IsRight false old.honest causes r → WritesAtMost (Meanwhile work home old) m old new (faults_of r) → FailsToWrite false causes m work home r old new
+breaks-off {causes = causes} {work = work} {home = home} {old = old} none fatal right writes = record {
   right = right;
   writes = record {
     transfers = writes.transfers;
     went = went_weaker (Meanwhile work home old) (Meanwhile (work_if (first_of causes) work) home old) (unless-refused causes work home old none) writes.went;
     few = writes.few;
   };
-  unchanged = λ light. let no : true ≡ false = sym grave ∙ light in absurd cc;
+  unchanged = λ clean. let no : true ≡ false = sym fatal ∙ clean in absurd cc;
 }
 
 -- a refusal to read is one to write
@@ -106,18 +106,18 @@ fails-unread {causes = causes} {work = work} {home = home} {r = r} {old = old} {
     went = went_looked (Meanwhile (work_if (first_of causes) work) home old) fails.reads.looked;
     few = λ honest. let few = fails.reads.few honest in omega (arith, few, fewer);
   };
-  unchanged = λ light. record {
+  unchanged = λ clean. record {
     reads = fails.reads.reads;
-    looked = subst (λ (n : ℕ). Looked old new fails.reads.reads n) (no-fault r light) fails.reads.looked;
+    looked = subst (λ (n : ℕ). Looked old new fails.reads.reads n) (no-fault r clean) fails.reads.looked;
     few = λ honest. let few = fails.reads.few honest in omega (arith, few, fewer);
   };
 }
   where
-    no-fault : (r : Refusal) → is_grave r ≡ false → faults_of r ≡ 0
-    no-fault r light = go (cases_eq (refusal_number r) 19)
+    no-fault : (r : Refusal) → is_fatal r ≡ false → faults_of r ≡ 0
+    no-fault r clean = go (cases_eq (refusal_number r) 19)
       where
         go : (refusal_number r ≡ 19) ⊎ (refusal_number r ≢ 19) → faults_of r ≡ 0
-        go (inl is) = let heavy = lt-ltb 18 (refusal_number r) (omega (arith, is)) in let no : true ≡ false = sym heavy ∙ light in absurd cc
+        go (inl is) = let heavy = lt-ltb 18 (refusal_number r) (omega (arith, is)) in let no : true ≡ false = sym heavy ∙ clean in absurd cc
         go (inr other) = ap (λ (b : Bool). cond b 1 0) (ne_eqb (refusal_number r) 19 other)
 
 -- the volume had failed, and nothing is done

@@ -1,5 +1,6 @@
 -- What the answer of a call on files tells, whatever the call (profile).
-use Rattle.std.specs.Prelude.{◌≡◌, ◌≢◌, ℕ, ◌≤◌, ◌==◌, ◌&&◌, Bool, true, false, nat_lt, IsTrue, if◌then◌else◌, List, [], Some, None, Result, Ok, Err}
+use Rattle.std.specs.Prelude.{◌≡◌, ◌≢◌, ℕ, ◌≤◌, ◌==◌, ◌&&◌, Bool, true, false, nat_lt, IsTrue}
+use Rattle.std.specs.Prelude.{if◌then◌else◌, List, [], Some, None, Result, Ok, Err}
 use Rattle.std.specs.List.{list_any}
 use Rattle.f11_chain.specs.FileHeaders.{file_blocks}
 use Rattle.f11_chain.specs.declared.fault.ChainFault.{ChainFault}
@@ -28,12 +29,12 @@ use Rattle.f11_image_store.specs.Confines.{Confines, no_header, only_header, new
 use Rattle.f11_image_store.specs.StoreOf.{store_of}
 
 -- DeviceFault and Damaged fail the volume
-abbrev pub is_grave : Refusal → Bool
-is_grave refusal = nat_lt 18 (refusal_number refusal)
+abbrev pub is_fatal : Refusal → Bool
+is_fatal refusal = nat_lt 18 (refusal_number refusal)
 
 -- any other refusal leaves all as it was
-abbrev pub is_light : Refusal → Bool
-is_light refusal = nat_lt (refusal_number refusal) 19
+abbrev pub is_clean : Refusal → Bool
+is_clean refusal = nat_lt (refusal_number refusal) 19
 
 -- a transfer failed
 abbrev pub is_fault : Refusal → Bool
@@ -57,20 +58,20 @@ abbrev pub faults_of : Refusal → ℕ
 faults_of refusal = if is_fault refusal then 1 else 0
 
 -- Blocks were read: no more than so many where the disk is honest. So many transfers failed.
-pub record Reads (most : ℕ) (old new : Disk) (faults : ℕ) : Type 0 where
+pub record ReadsAtMost (most : ℕ) (old new : Disk) (faults : ℕ) : Type 0 where
   pub reads : ℕ
   pub looked : Looked old new reads faults
   pub few : IsTrue old.honest → reads ≤ most
 
 -- Blocks were read and written: no more than so many where the disk is honest. So many transfers failed.
-pub record Writes (P : Image → Type 0) (most : ℕ) (old new : Disk) (faults : ℕ) : Type 0 where
+pub record WritesAtMost (P : Image → Type 0) (most : ℕ) (old new : Disk) (faults : ℕ) : Type 0 where
   pub transfers : ℕ
   pub went : Went P old new transfers faults
   pub few : IsTrue old.honest → transfers ≤ most
 
 -- A refusal is right, where these are the causes against a call, on an honest disk or not, and an earlier call had failed the volume or
--- hadn't: it is that of one of the causes, and on an honest disk of the first that holds; or the volume had failed, or a transfer did; and no
--- honest disk is damaged.
+-- hadn't: it is that of one of the causes, and on an honest disk of the first that holds; or the volume had failed, or a transfer
+-- did; and no honest disk is damaged.
 pub record IsRight (failed honest : Bool) (causes : List Cause) (refusal : Refusal) : Type 0 where
   pub volume : refusal ≡ VolumeFailed → failed ≡ true
   pub among : is_cause refusal ≡ true → is_among causes refusal ≡ true
@@ -79,14 +80,14 @@ pub record IsRight (failed honest : Bool) (causes : List Cause) (refusal : Refus
 
 -- A part of a call broke off: a transfer failed, or on a disk that isn't honest something wasn't as it should be.
 pub record Breaks (P : Image → Type 0) (most : ℕ) (refusal : Refusal) (old new : Disk) : Type 0 where
-  pub grave : is_grave refusal ≡ true
+  pub fatal : is_fatal refusal ≡ true
   pub undamaged : IsTrue old.honest → refusal ≢ Damaged
-  pub writes : Writes P most old new (faults_of refusal)
+  pub writes : WritesAtMost P most old new (faults_of refusal)
 
 -- A call that only reads was refused.
 pub record FailsToRead (failed : Bool) (causes : List Cause) (most : ℕ) (refusal : Refusal) (old new : Disk) : Type 0 where
   pub right : IsRight failed old.honest causes refusal
-  pub reads : Reads most old new (faults_of refusal)
+  pub reads : ReadsAtMost most old new (faults_of refusal)
 
 -- An image that stands while work is done: its volume is sound, and its store lags the one before by the work.
 pub record IsUnderWay (work : Work) (home : HomeFields) (old image : Image) : Type 0 where
@@ -97,21 +98,24 @@ pub record IsUnderWay (work : Work) (home : HomeFields) (old image : Image) : Ty
 abbrev pub Meanwhile : Work → HomeFields → Disk → Image → Type 0
 Meanwhile work home old image = IsTrue old.honest → IsUnderWay work home old.image image
 
--- A call that writes was served: there was no cause against it; the store after it is as `Makes` says, and which blocks are named and free is as
--- `Allots` says.
+-- A call that writes was served: there was no cause against it; the store after it is as `Makes` says, and which blocks are named
+-- and free is as `Allots` says.
 pub record Does
-    (causes : List Cause) (work : Work) (most : ℕ) (Makes : Store → Type 0) (Allots : Volume → Volume → Type 0) (home : HomeFields) (old new : Disk) : Type 0
+    (causes : List Cause) (work : Work) (most : ℕ) (Makes : Store → Type 0) (Allots : Volume → Volume → Type 0) (home : HomeFields)
+    (old new : Disk) : Type 0
   where
     pub no_cause : IsTrue old.honest → first_of causes ≡ None
     pub makes : IsTrue old.honest → Makes (store_of new.image home)
     pub allots : IsTrue old.honest → Allots (volume_of old.image home) (volume_of new.image home)
-    pub writes : Writes (Meanwhile work home old) most old new 0
+    pub writes : WritesAtMost (Meanwhile work home old) most old new 0
 
--- A call that writes was refused: unless it failed the volume, no block was written; where there was a cause against it, no work was under way.
-pub record FailsToWrite (failed : Bool) (causes : List Cause) (most : ℕ) (work : Work) (home : HomeFields) (refusal : Refusal) (old new : Disk) : Type 0 where
+-- A call that writes was refused: unless it failed the volume, no block was written; where there was a cause against it, no work
+-- was under way.
+pub record FailsToWrite (failed : Bool) (causes : List Cause) (most : ℕ) (work : Work) (home : HomeFields) (refusal : Refusal)
+    (old new : Disk) : Type 0 where
   pub right : IsRight failed old.honest causes refusal
-  pub writes : Writes (Meanwhile (work_if (first_of causes) work) home old) most old new (faults_of refusal)
-  pub unchanged : is_grave refusal ≡ false → Reads most old new 0
+  pub writes : WritesAtMost (Meanwhile (work_if (first_of causes) work) home old) most old new (faults_of refusal)
+  pub unchanged : is_fatal refusal ≡ false → ReadsAtMost most old new 0
 
 -- Where the disk is honest, no block was changed but these headers, the index bitmap, the storage bitmap, and these: each image that stood
 -- meanwhile spares all others.
@@ -138,7 +142,8 @@ WritesBlocksOf f home old new = WritesOnly no_header (file_blocks (table_of old.
 -- of headers, those of file f and those whose slots weren't in use; and blocks that were free
 abbrev pub WritesMoreOf : ℕ → HomeFields → Disk → Disk → Type 0
 WritesMoreOf f home old new =
-    WritesOnly (either (is_in (headers_of (table_of old.image home) f)) (new_header (index_of old.image home))) (free_list (volume_of old.image home)) home
+    WritesOnly (either (is_in (headers_of (table_of old.image home) f)) (new_header (index_of old.image home)))
+    (free_list (volume_of old.image home)) home
     old new
 
 -- what a fault of a walk along a file's headers is to those who ask

@@ -7,7 +7,7 @@ use Rattle.f11_store.specs.Store.{Store}
 use Rattle.f11_store.specs.declared.files.FileId.{FileId}
 use Rattle.f11_store.specs.declared.refusals.Refusal.{Refusal}
 use Rattle.f11_store.specs.declared.refusals.Refusal.TheVariants.{VolumeFailed}
-use Rattle.f11_files.specs.Answers.{is_grave, is_light, is_refused}
+use Rattle.f11_files.specs.Answers.{is_fatal, is_clean, is_refused}
 use Rattle.f11_image_store.specs.StoreOf.{store_of}
 use Rattle.f11_files.specs.Structure.{counts_of, home_of}
 use Rattle.f11_files.specs.declared.files.Files.{Files}
@@ -47,9 +47,9 @@ pub record IsIdFrom (least : ℕ) (f : FileId) : Type 0 where
 
 -- A call fails the volume where it answers DeviceFault or Damaged, and no other way; where an earlier one did, it answers VolumeFailed and
 -- makes no transfer. Where it is refused and doesn't fail the volume, the counts that are told stay.
-pub record Answers {D T : Type 0} {met : Ghosts D} (result : Result T Refusal) (old new : Files D met) : Type 0 where
+pub record AnswersCall {D T : Type 0} {met : Ghosts D} (result : Result T Refusal) (old new : Files D met) : Type 0 where
   pub failed : has_failed old ≡ true → IsErrOf result VolumeFailed
   pub untouched : has_failed old ≡ true → disk_in new ≡ disk_in old
-  pub next : has_failed new ≡ (has_failed old || is_refused is_grave result)
+  pub next : has_failed new ≡ (has_failed old || is_refused is_fatal result)
   pub home : home_in new ≡ home_in old
-  pub counts : is_refused is_light result ≡ true → counts_in new ≡ counts_in old
+  pub counts : is_refused is_clean result ≡ true → counts_in new ≡ counts_in old

@@ -5,8 +5,8 @@ use Rattle.f11_bits.specs.Storage.{bitmap_of, count_of}
 use Rattle.f11_dev.specs.Disk.{Disk}
 use Rattle.f11_dev.specs.Image.{Image}
 use Rattle.f11_home.specs.Home.{HomeFields, IsHomeOf}
-use Rattle.f11_index.specs.IndexFile.{Index, index_of, free_slots, slots}
-use Rattle.f11_index.specs.Kept.{index_kept, LiesWithin}
+use Rattle.f11_index.specs.IndexFile.{Index, index_of, free_slots_in, slots}
+use Rattle.f11_index.specs.Kept.{index_kept, IndexLiesWithin}
 use Rattle.f11_store.specs.Changes.{is_in}
 use Rattle.f11_store.specs.Store.{Store}
 use Rattle.f11_volume.specs.Sound.{HasSoundVolume}
@@ -31,16 +31,16 @@ store_on s disk = store_of disk.image (home_of s)
 
 -- the counts that are kept: of free blocks, of free headers, and of slots
 abbrev pub counts_of : Structure → ℕ × ℕ × ℕ
-counts_of s = (count_of s.storage, length (free_slots (index_in s)), slots (index_in s))
+counts_of s = (count_of s.storage, length (free_slots_in (index_in s)), slots (index_in s))
 
 -- They are on a device of so many blocks.
 pub record Lies (s : Structure) (blocks : ℕ) : Type 0 where
-  pub index : LiesWithin (index_in s) blocks
+  pub index : IndexLiesWithin (index_in s) blocks
   pub bitmap : BitmapLiesWithin (bitmap_in s) blocks
   pub volume : (bitmap_in s).size ≤ blocks
 
 -- They are those of an image.
-pub record Keeps (s : Structure) (image : Image) : Type 0 where
+pub record IsStructureOf (s : Structure) (image : Image) : Type 0 where
   pub index_is : index_in s ≡ index_of image (home_of s)
   pub bitmap_is : bitmap_in s ≡ storage_bitmap image (home_of s)
   pub free : s.storage.free ≡ free_blocks image (bitmap_in s)
@@ -50,10 +50,10 @@ abbrev pub HasNoOtherHome : Image → HomeFields → Type 0
 HasNoOtherHome image home = (other : HomeFields) → IsHomeOf image other → other ≡ home
 
 -- It is for this disk: it lies there, and where the disk is honest the volume is sound, and this is its structure.
-pub record IsFor (s : Structure) (disk : Disk) : Type 0 where
+pub record IsStructureFor (s : Structure) (disk : Disk) : Type 0 where
   pub lies : Lies s (length disk.image)
   pub sound : IsTrue disk.honest → HasSoundVolume disk.image (home_of s)
-  pub keeps : IsTrue disk.honest → Keeps s disk.image
+  pub keeps : IsTrue disk.honest → IsStructureOf s disk.image
 
 -- It is for the disk after a call, unless that failed the volume: the home block is the same, and where the disk is honest the volume
 -- is sound even so. Of what is kept nothing more is known once a call has failed.
@@ -61,7 +61,7 @@ pub record StaysFor (failed : Bool) (old new : Structure) (disk : Disk) : Type 0
   pub home : home_of new ≡ home_of old
   pub lies : failed ≡ false → Lies new (length disk.image)
   pub sound : IsTrue disk.honest → HasSoundVolume disk.image (home_of new)
-  pub keeps : failed ≡ false → IsTrue disk.honest → Keeps new disk.image
+  pub keeps : failed ≡ false → IsTrue disk.honest → IsStructureOf new disk.image
 
 -- Calls changed no block but these headers, the bitmaps, and these.
 abbrev pub ConfinesTo : Structure → (ℕ → Bool) → List ℕ → Disk → Disk → Type 0
@@ -75,7 +75,8 @@ WritesParts s headers old new = ConfinesTo s headers [] old new
 -- afterwards.
 abbrev pub StandsWithin : Structure → (ℕ → Bool) → List ℕ → Structure → (ℕ → Bool) → Type 0
 StandsWithin s headers others after later =
-    (lbn : ℕ) → IsNoPart headers (index_in s) (bitmap_in s) lbn → is_in others lbn ≡ false → IsNoPart later (index_in after) (bitmap_in after) lbn
+    (lbn : ℕ) → IsNoPart headers (index_in s) (bitmap_in s) lbn → is_in others lbn ≡ false →
+    IsNoPart later (index_in after) (bitmap_in after) lbn
 
 -- Its parts are where they were.
 abbrev pub StandsAlike : Structure → Structure → Type 0

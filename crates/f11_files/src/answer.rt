@@ -1,14 +1,14 @@
 //! What is answered where a walk along headers fails, and which answers fail the volume.
 ghost use Rattle.std.specs.Prelude.{◌≡◌, ◌==◌};
-ghost use Rattle.f11_files.specs.Answers.{is_refused, is_grave, refusal_for};
+ghost use Rattle.f11_files.specs.Answers.{is_refused, is_fatal, refusal_for};
 ghost use Rattle.f11_store.specs.Refusal.{refusal_number};
 
 use f11_chain::ChainFault;
 use f11_store::Refusal;
 
 /// Whether an answer fails the volume: a transfer failed, or its structure was met broken.
-pub(crate) fn is_grave<T>(answer: &Result<T, Refusal>) -> bool
-    ensures { result ≡ is_refused is_grave answer.now }
+pub(crate) fn is_fatal<T>(answer: &Result<T, Refusal>) -> bool
+    ensures { result ≡ is_refused is_fatal answer.now }
 {
     matches!(answer, Err(Refusal::DeviceFault) | Err(Refusal::Damaged))
 }

@@ -1,15 +1,15 @@
 //! A new file.
 ghost use Rattle.std.specs.Prelude.{◌≡◌, ◌<◌, false, IfErr, IfOk, true};
-ghost use Rattle.f11_files.specs.Answers.{is_grave, is_light, is_refused, WritesNewHeaders};
+ghost use Rattle.f11_files.specs.Answers.{is_fatal, is_clean, is_refused, WritesNewHeaders};
 ghost use Rattle.f11_image_store.specs.Confines.{new_header};
 ghost use Rattle.f11_files.specs.Create.{Creates, FailsToCreate};
 ghost use Rattle.f11_image_store.specs.NewFileLaws.{IsNewFirst};
-ghost use Rattle.f11_files.specs.Structure.{counts_of, home_of, index_in, IsFor, StaysFor, WritesParts};
+ghost use Rattle.f11_files.specs.Structure.{counts_of, home_of, index_in, IsStructureFor, StaysFor, WritesParts};
 ghost use Rattle.f11_header.specs.Fields.{file_sequence};
 ghost use Rattle.f11_header.specs.Writing.{blank_header};
 ghost use Rattle.f11_store.specs.Changes.{next_sequence};
 
-use crate::answer::is_grave;
+use crate::answer::is_fatal;
 use crate::files::Files;
 use crate::structure::Structure;
 use f11_bytes::{BLOCK_SIZE, Block};
@@ -61,14 +61,14 @@ impl Structure {
         ident: &[u8; 46],
         attr: &[u8; 32],
     ) -> Result<FileId, Refusal>
-        requires is_for { IsFor self.old (D.disk device.old) }
+        requires is_for { IsStructureFor self.old (D.disk device.old) }
         ensures created { IfOk result (λ f. Creates (home_of self.old) owner protection ident.now
             attr.now f (D.disk device.old) (D.disk device.new)) }
         ensures refused { IfErr result (λ refusal. FailsToCreate false (home_of self.old) owner
             protection ident.now attr.now refusal (D.disk device.old) (D.disk device.new)) }
-        ensures stays { StaysFor (is_refused is_grave result) self.old self.new
+        ensures stays { StaysFor (is_refused is_fatal result) self.old self.new
             (D.disk device.new) }
-        ensures counts { is_refused is_light result ≡ true → counts_of self.new ≡ counts_of
+        ensures counts { is_refused is_clean result ≡ true → counts_of self.new ≡ counts_of
             self.old }
         ensures confined { WritesParts self.old (new_header (index_in self.old)) (D.disk device.old)
             (D.disk device.new) }
@@ -100,7 +100,7 @@ impl Structure {
 }
 
 impl<D: Device> Files<D> {
-    ghost use Rattle.f11_files.specs.Open.{disk_in, has_failed, home_in, Answers};
+    ghost use Rattle.f11_files.specs.Open.{disk_in, has_failed, home_in, AnswersCall};
 
     /// Makes a file without blocks in the least free slot from 6 on, with the slot's next sequence number (profile), and gives its
     /// identification. Its owner, protection, ident area and attributes are those given, and its characteristics 0. The slot's block
@@ -117,7 +117,7 @@ impl<D: Device> Files<D> {
         ident: &[u8; 46],
         attr: &[u8; 32],
     ) -> Result<FileId, Refusal>
-        ensures answers { Answers result self.old self.new }
+        ensures answers { AnswersCall result self.old self.new }
         ensures created { IfOk result (λ f. Creates (home_in self.old) owner protection ident.now
             attr.now f (disk_in self.old) (disk_in self.new)) }
         ensures refused { IfErr result (λ refusal. FailsToCreate (has_failed self.old)
@@ -131,7 +131,7 @@ impl<D: Device> Files<D> {
         let answer = self
             .structure
             .create(&mut self.device, owner, protection, ident, attr);
-        self.failed = is_grave(&answer);
+        self.failed = is_fatal(&answer);
         answer
     }
 }

@@ -1,6 +1,6 @@
 //! The files of a volume.
 ghost use Rattle.std.specs.Prelude.{◌≡◌, false, length, IsTrue};
-ghost use Rattle.f11_files.specs.Structure.{home_of, Lies, Keeps, HasNoOtherHome};
+ghost use Rattle.f11_files.specs.Structure.{home_of, Lies, IsStructureOf, HasNoOtherHome};
 ghost use Rattle.f11_volume.specs.Verdict.{IsAccepted};
 
 use crate::structure::Structure;
@@ -23,7 +23,7 @@ pub struct Files<D: Device> {
     /// and its home block is the one that is kept.
     pub ghost home: { IsTrue (D.disk device).honest → HasNoOtherHome (D.disk device).image (home_of structure) },
     /// While no call has failed, what is kept is the image's, too.
-    pub ghost keeps: { IsTrue (D.disk device).honest → failed ≡ false → Keeps structure (D.disk device).image },
+    pub ghost keeps: { IsTrue (D.disk device).honest → failed ≡ false → IsStructureOf structure (D.disk device).image },
 }
 
 impl<D: Device> Files<D> {

@@ -1,7 +1,8 @@
 //! The index file of a Files-11 volume that grows.
 use crate::calls::{Call, Given, Row, go, is_accepted, opened, transfers};
-use f11_dev::{Device, FailOnce};
-use f11_fixtures::{has_words, volumes};
+use f11_bytes::read_word;
+use f11_dev::{Device, FailOnce, Memory};
+use f11_fixtures::{get, has_words, put_words, volumes};
 use f11_store::Refusal;
 use std::alloc::Global;
 use std::test::Fail;
@@ -53,5 +54,46 @@ fn a_transfer_of_growing_the_index_file_fails(rt: HostRuntime) -> Result<(), Fai
         let at = opening.saturating_add(k);
         assert!(rt; grows(rt.alloc(), at, lands, k < 7)?, "{k}");
     }
+    Ok(())
+}
+
+/// As many slots as the home block allows, of which a fresh volume has 16: 1,224 more may need 12 headers, and 11 are free.
+const ALL_SLOTS: [Row; 7] = [
+    (Call::GrowIndex(3985), Err(Refusal::IndexLimit), Some(0)),
+    (Call::GrowIndex(1224), Err(Refusal::NoHeader), None),
+    (Call::GrowIndex(1223), Ok(Given::Count(1239)), None),
+    (Call::GrowIndex(2761), Ok(Given::Count(4000)), None),
+    (Call::Space, Ok(Given::Space(90, 3995, 4000)), Some(0)),
+    (Call::Create, Ok(Given::File(6, 1)), None),
+    (Call::GrowIndex(1), Err(Refusal::IndexLimit), Some(0)),
+];
+
+#[test]
+fn an_index_file_gets_all_slots(rt: HostRuntime) -> Result<(), Fail> {
+    let device = volumes::fresh(rt.alloc(), 4096)?;
+    let (_, wrong) = go(rt.alloc(), device, &ALL_SLOTS)?;
+    assert_eq!(rt; wrong, None);
+    Ok(())
+}
+
+/// A fresh volume whose index file has the contiguous mark.
+fn contiguous(alloc: Global) -> Result<Memory, Fail> {
+    let mut device = volumes::fresh(alloc, volumes::BLOCKS)?;
+    let sum = read_word(&get(&mut device, 3)?, 510).wrapping_add(0x80);
+    put_words(&mut device, 3, &[(12, 0x80), (510, sum)])?;
+    Ok(device)
+}
+
+/// A slot more, and then one that finds no mark to take away.
+const A_SLOT_MORE: [Row; 2] = [
+    (Call::GrowIndex(1), Ok(Given::Count(17)), None),
+    (Call::GrowIndex(1), Ok(Given::Count(18)), None),
+];
+
+#[test]
+fn an_index_file_that_grows_is_not_contiguous(rt: HostRuntime) -> Result<(), Fail> {
+    let (mut device, wrong) = go(rt.alloc(), contiguous(rt.alloc())?, &A_SLOT_MORE)?;
+    assert_eq!(rt; wrong, None);
+    assert!(rt; has_words(&mut device, 3, &[(2, 1), (12, 0)])?);
     Ok(())
 }

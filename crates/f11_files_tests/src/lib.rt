@@ -13,4 +13,8 @@ mod files;
 #[cfg(test)]
 mod grows;
 #[cfg(test)]
+mod opens;
+#[cfg(test)]
+mod reclaims;
+#[cfg(test)]
 mod volumes;

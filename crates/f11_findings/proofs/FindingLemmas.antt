@@ -7,7 +7,7 @@ use Rattle.std.proofs.lemmas.List.{take-append-drop}
 use Rattle.std.proofs.lemmas.List.Edits.{length-insert, get_or-insert_below, get_or-insert_at, get_or-insert_above}
 use Rattle.std.proofs.lemmas.List.Elements.{All-contains, Contains-get_or, Contains-append_left, Contains-append_right, Contains-append_cases}
 use Rattle.f11_findings.specs.declared.finding.Finding.{Finding}
-use Rattle.f11_findings.specs.Finding.{finding, IsBefore, IsInOrder, IsExactly, Adds, IsPlaceFor, gather, if_so}
+use Rattle.f11_findings.specs.Finding.{finding, IsBefore, IsInOrder, IsExactly, AddsFindings, IsPlaceFor, gather, if_so}
 
 -- findings that are found to be equal are one
 pub same_finding : (f g : Finding) → (f.code == g.code && (f.a == g.a && f.b == g.b)) ≡ true → f ≡ g
@@ -100,7 +100,7 @@ Contains-insert_cases found f g at le has = go (Contains-append_cases (take at f
     go (inr rest) = behind rest
 
 -- a finding is added at its place
-pub Adds-insert : (found : List Finding) (f : Finding) (at : ℕ) → IsPlaceFor found f at → Adds found (insert found at f) (f ∷ [])
+pub Adds-insert : (found : List Finding) (f : Finding) (at : ℕ) → IsPlaceFor found f at → AddsFindings found (insert found at f) (f ∷ [])
 Adds-insert found f at place = record {
   kept = λ g is. kept_in g is;
   added = λ g one. subst (Contains (insert found at f)) (one_is g one) (Contains-append_right (take at found) (f ∷ drop at found) f (0, omega arith, refl));
@@ -125,7 +125,7 @@ Adds-insert found f at place = record {
     ]
 
 -- none was added
-pub Adds-none : (found : List Finding) → Adds found found []
+pub Adds-none : (found : List Finding) → AddsFindings found found []
 Adds-none found = record {
   kept = λ g is. is;
   added = λ g none. absurd (omega arith);
@@ -134,7 +134,7 @@ Adds-none found = record {
 }
 
 -- some and then more
-pub Adds-more : {a b c more then : List Finding} → Adds a b more → Adds b c then → Adds a c (more ++ then)
+pub Adds-more : {a b c more then : List Finding} → AddsFindings a b more → AddsFindings b c then → AddsFindings a c (more ++ then)
 Adds-more {a = a} {c = c} {more = more} {then = then} one two = record {
   kept = λ g is. two.kept g (one.kept g is);
   added = λ g is. elim (Contains-append_cases more then g is) [
@@ -152,7 +152,7 @@ Adds-more {a = a} {c = c} {more = more} {then = then} one two = record {
 }
 
 -- A list to which just what is found was added, from none on, is exactly what is found.
-pub IsExactly-added : (R : ℕ → ℕ → ℕ → Type 0) (found more : List Finding) → Adds [] found more → All (λ f. R f.code f.a f.b) more
+pub IsExactly-added : (R : ℕ → ℕ → ℕ → Type 0) (found more : List Finding) → AddsFindings [] found more → All (λ f. R f.code f.a f.b) more
     → ((code a b : ℕ) → R code a b → Contains more (finding code a b)) → IsExactly R found
 IsExactly-added R found more adds each all = record {
   each = λ k d within. elim (adds.no_others (get_or found k d) (Contains-get_or found k d within)) [
@@ -164,14 +164,14 @@ IsExactly-added R found more adds each all = record {
 }
 
 -- none so far
-pub Adds-gather_none : (f : ℕ → List Finding) (found : List Finding) → Adds found found (gather f 0)
+pub Adds-gather_none : (f : ℕ → List Finding) (found : List Finding) → AddsFindings found found (gather f 0)
 unfolding gather
 Adds-gather_none f found = Adds-none found
 
 -- those of one more
-pub Adds-gather_more : (f : ℕ → List Finding) (n : ℕ) {a b c : List Finding} → Adds a b (gather f n) → Adds b c (f n) → Adds a c (gather f (n + 1))
+pub Adds-gather_more : (f : ℕ → List Finding) (n : ℕ) {a b c : List Finding} → AddsFindings a b (gather f n) → AddsFindings b c (f n) → AddsFindings a c (gather f (n + 1))
 unfolding gather
-Adds-gather_more f n {a = a} {c = c} so_far then = subst (λ (m : ℕ). Adds a c (gather f m)) (sym (add-one n)) (Adds-more so_far then)
+Adds-gather_more f n {a = a} {c = c} so_far then = subst (λ (m : ℕ). AddsFindings a c (gather f m)) (sym (add-one n)) (Adds-more so_far then)
 
 -- what is found of one of them is found of all, and the other way round
 pub Contains-gather : (f : ℕ → List Finding) (n k : ℕ) (g : Finding) → k < n → Contains (f k) g → Contains (gather f n) g
@@ -202,8 +202,8 @@ if_so_is true f g (suc k, within, is) = absurd (omega arith)
 if_so_is false f g (k, within, is) = absurd (omega arith)
 
 -- as findings that are these
-pub Adds-same : {a b more same : List Finding} → more ≡ same → Adds a b more → Adds a b same
-Adds-same {a = a} {b = b} is adds = subst (Adds a b) is adds
+pub Adds-same : {a b more same : List Finding} → more ≡ same → AddsFindings a b more → AddsFindings a b same
+Adds-same {a = a} {b = b} is adds = subst (AddsFindings a b) is adds
 
-pub Adds-if_so : {a b : List Finding} {was holds : Bool} {f g : Finding} → was ≡ holds → f ≡ g → Adds a b (if_so was f) → Adds a b (if_so holds g)
-Adds-if_so {a = a} {b = b} test is adds = subst (Adds a b) (λ i. if_so (test i) (is i)) adds
+pub Adds-if_so : {a b : List Finding} {was holds : Bool} {f g : Finding} → was ≡ holds → f ≡ g → AddsFindings a b (if_so was f) → AddsFindings a b (if_so holds g)
+Adds-if_so {a = a} {b = b} test is adds = subst (AddsFindings a b) (λ i. if_so (test i) (is i)) adds

@@ -1,5 +1,6 @@
 -- What a verifier finds (profile).
-use Rattle.std.specs.Prelude.{◌≡◌, ◌⊎◌, ℕ, zero, suc, ◌+◌, ◌<◌, ◌≤◌, Bool, if◌then◌else◌, List, [], ◌∷◌, ◌++◌, length, All, AllPairs, Contains, slice_index_or}
+use Rattle.std.specs.Prelude.{◌≡◌, ◌⊎◌, ℕ, zero, suc, ◌+◌, ◌<◌, ◌≤◌, Bool, if◌then◌else◌, List, [], ◌∷◌}
+use Rattle.std.specs.Prelude.{◌++◌, length, All, AllPairs, Contains, slice_index_or}
 use Rattle.f11_findings.specs.declared.finding.Finding.{Finding}
 
 -- the finding of this code and these numbers
@@ -24,7 +25,7 @@ pub record IsExactly (R : ℕ → ℕ → ℕ → Type 0) (found : List Finding)
   pub order : IsInOrder found
 
 -- The new list has the findings of the old one and these more, and no others, in order if the old one is.
-pub record Adds (old new more : List Finding) : Type 0 where
+pub record AddsFindings (old new more : List Finding) : Type 0 where
   pub kept : (f : Finding) → Contains old f → Contains new f
   pub added : (f : Finding) → Contains more f → Contains new f
   pub no_others : (f : Finding) → Contains new f → Contains old f ⊎ Contains more f

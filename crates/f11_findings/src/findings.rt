@@ -1,7 +1,7 @@
 //! Findings in their order.
 ghost use Rattle.std.specs.Prelude.{◌≡◌, ◌==◌, List, [], ◌∷◌, length, slice_get, OnOk, OnErr, MatchOption, Contains};
 ghost use Rattle.f11_findings.specs.declared.finding.Finding.{Finding as OneFinding};
-ghost use Rattle.f11_findings.specs.Finding.{IsInOrder, Adds, if_so, IsPlaceFor};
+ghost use Rattle.f11_findings.specs.Finding.{IsInOrder, AddsFindings, if_so, IsPlaceFor};
 
 use crate::Finding;
 use f11_bytes::NoMemory;
@@ -60,7 +60,7 @@ impl Findings {
     ///
     /// `NoMemory` where there was no memory for it, and then nothing changes.
     pub fn add(&mut self, finding: Finding) -> Result<(), NoMemory>
-        ensures adds { OnOk result (Adds self.old self.new (finding ∷ [])) }
+        ensures adds { OnOk result (AddsFindings self.old self.new (finding ∷ [])) }
         ensures kept { OnErr result (self.new ≡ self.old) }
     {
         if let Some(at) = place_for(&self.list, &finding) {
@@ -75,7 +75,7 @@ impl Findings {
     ///
     /// `NoMemory` where there was no memory for it, and then nothing changes.
     pub fn add_if(&mut self, holds: bool, finding: Finding) -> Result<(), NoMemory>
-        ensures adds { OnOk result (Adds self.old self.new (if_so holds finding)) }
+        ensures adds { OnOk result (AddsFindings self.old self.new (if_so holds finding)) }
         ensures kept { OnErr result (self.new ≡ self.old) }
     {
         if holds {

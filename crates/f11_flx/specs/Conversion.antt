@@ -23,7 +23,11 @@ pub record Copy : Type 0 where
 abbrev pub copied_lines : List (List ℕ) → Copy
 copied_lines lines =
     let bytes = variable_records lines in
-    record { content = in_whole_blocks bytes; attr = text_attributes (longest_of lines) (length (in_whole_blocks bytes) / 512) (length bytes) }
+    record {
+      content = in_whole_blocks bytes;
+      attr =
+          text_attributes (longest_of lines) (length (in_whole_blocks bytes) / 512) (length bytes);
+    }
 
 -- the copy of an RT-11 file of these blocks: the blocks as they are, or the lines of the text; none where a line is too long
 abbrev pub copied_from_rt : CopyMode → List (List ℕ) → Option Copy

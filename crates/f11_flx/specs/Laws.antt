@@ -102,7 +102,8 @@ ImageEndsWithBlocks = (blocks : ℕ) → stated_end (image_attributes blocks) �
 
 -- blocks that were copied as they are, and back, are the same
 abbrev pub ImageComesBack : Type 0
-ImageComesBack = (file : File) (copy : Copy) → copied_from_rt Image file.blocks ≡ Some copy → Holds file copy → copied_to_rt Image file ≡ Some (concat file.blocks)
+ImageComesBack = (file : File) (copy : Copy) → copied_from_rt Image file.blocks ≡ Some copy → Holds file copy →
+    copied_to_rt Image file ≡ Some (concat file.blocks)
 
 -- and so is a text of lines each of which is one, none too long
 abbrev pub TextComesBack : Type 0

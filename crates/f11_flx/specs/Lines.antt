@@ -1,5 +1,28 @@
 -- The lines of an RT-11 text (RT-11 Volume and File Formats Manual; RSX-11M Utilities manual, FLX).
-use Rattle.std.specs.Prelude.{ℕ, zero, suc, ◌-◌, ◌%◌, ◌==◌, ◌&&◌, ◌||◌, Bool, false, not, nat_lt, if◌then◌else◌, List, [], ◌∷◌, ◌++◌, length, drop, replicate, filter, flat_map}
+use Rattle.std.specs.Prelude.{
+  ℕ,
+  zero,
+  suc,
+  ◌-◌,
+  ◌%◌,
+  ◌==◌,
+  ◌&&◌,
+  ◌||◌,
+  Bool,
+  false,
+  not,
+  nat_lt,
+  if◌then◌else◌,
+  List,
+  [],
+  ◌∷◌,
+  ◌++◌,
+  length,
+  drop,
+  replicate,
+  filter,
+  flat_map,
+}
 use Rattle.std.specs.List.{list_any}
 
 -- zero bytes fill a text up, and stand for nothing

@@ -1,5 +1,26 @@
 -- The text that is still to come of a file's records, at each place where reading them may stop (profile).
-use Rattle.std.specs.Prelude.{◌≡◌, ℕ, ◌+◌, ◌≤◌, ◌==◌, Bool, true, false, IsTrue, if◌then◌else◌, List, ◌∷◌, ◌++◌, length, take, drop, Option, None, option_map, option_to_list}
+use Rattle.std.specs.Prelude.{
+  ◌≡◌,
+  ℕ,
+  ◌+◌,
+  ◌≤◌,
+  ◌==◌,
+  Bool,
+  true,
+  false,
+  IsTrue,
+  if◌then◌else◌,
+  List,
+  ◌∷◌,
+  ◌++◌,
+  length,
+  take,
+  drop,
+  Option,
+  None,
+  option_map,
+  option_to_list,
+}
 use Rattle.f11_flx.specs.Lines.{text_of}
 use Rattle.f11_flx.specs.Records.{records_in}
 use Rattle.f11_flx.specs.declared.layout.Layout.{Layout}
@@ -20,7 +41,8 @@ pads pad = if pad then 1 else 0
 abbrev pub text_from : Layout → Place → List ℕ → Option (List ℕ)
 text_from layout place.Record bytes = text_in layout bytes
 text_from layout (place.High low) bytes = text_in layout (low ∷ bytes)
-text_from layout (place.Within left pad) bytes = option_map (λ more. take left bytes ++ (13 ∷ 10 ∷ more)) (text_in layout (drop (left + pads pad) bytes))
+text_from layout (place.Within left pad) bytes = option_map (λ more. take left bytes ++ (13 ∷ 10 ∷ more))
+    (text_in layout (drop (left + pads pad) bytes))
 text_from layout (place.LineFeed pad) bytes = option_map (λ more. 10 ∷ more) (text_in layout (drop (pads pad) bytes))
 text_from layout place.Pad bytes = text_in layout (drop 1 bytes)
 
@@ -59,7 +81,9 @@ has_place Variable p = true
 
 -- A byte was read with so many behind it: the text to come is what was given for it, and then what is to come behind it.
 pub record ReadsByte (layout : Layout) (old new : Place) (byte rest : ℕ) (given : Option ℕ) : Type 0 where
-  pub text : (bytes : List ℕ) → length bytes ≡ rest → text_from layout old (byte ∷ bytes) ≡ option_map (λ more. option_to_list given ++ more) (text_from layout new bytes)
+  pub text : (bytes : List ℕ) → length bytes ≡ rest →
+      text_from layout old (byte ∷ bytes) ≡ option_map (λ more. option_to_list given ++ more)
+      (text_from layout new bytes)
   pub wanted : wanted_at new ≤ rest
   pub placed : IsTrue (has_place layout new)
   pub few : length (option_to_list given) + ending_at new ≤ 3

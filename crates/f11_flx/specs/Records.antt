@@ -1,5 +1,27 @@
 -- The records of a file (RSX-11M Utilities manual, FLX; Files-11 On-Disk Structure Level 1, file attributes).
-use Rattle.std.specs.Prelude.{ℕ, zero, suc, ◌+◌, ◌%◌, ◌==◌, ◌&&◌, nat_lt, if◌then◌else◌, List, [], ◌∷◌, length, take, drop, slice_index, slice_range, Option, Some, None, option_and_then}
+use Rattle.std.specs.Prelude.{
+  ℕ,
+  zero,
+  suc,
+  ◌+◌,
+  ◌%◌,
+  ◌==◌,
+  ◌&&◌,
+  nat_lt,
+  if◌then◌else◌,
+  List,
+  [],
+  ◌∷◌,
+  length,
+  take,
+  drop,
+  slice_index,
+  slice_range,
+  Option,
+  Some,
+  None,
+  option_and_then,
+}
 use Rattle.std.specs.Option.{option_map}
 use Rattle.std.specs.Int.{bit_at}
 use Rattle.std.specs.List.{concat}
@@ -50,7 +72,8 @@ unfoldable pub records_upto : ℕ → Layout → List ℕ → Option (List (List
 records_upto n layout [] = Some []
 records_upto zero layout (byte ∷ bytes) = None
 records_upto (suc n) layout (byte ∷ bytes) =
-    option_and_then (λ (first : List ℕ × List ℕ). option_map (λ (more : List (List ℕ)). first.0 ∷ more) (records_upto n layout first.1)) (first_record layout (byte ∷ bytes))
+    option_and_then (λ (first : List ℕ × List ℕ). option_map (λ (more : List (List ℕ)). first.0 ∷ more)
+    (records_upto n layout first.1)) (first_record layout (byte ∷ bytes))
 
 -- all of them: there are no more than bytes
 abbrev pub records_in : Layout → List ℕ → Option (List (List ℕ))

@@ -1,5 +1,24 @@
 -- What the conversion of a text into records gives (RSX-11M Utilities manual, FLX).
-use Rattle.std.specs.Prelude.{◌≡◌, ◌⊎◌, ℕ, ◌+◌, ◌≤◌, Bool, true, false, List, [], ◌∷◌, ◌++◌, length, drop, max, slice_range, Option, option_to_list}
+use Rattle.std.specs.Prelude.{
+  ◌≡◌,
+  ◌⊎◌,
+  ℕ,
+  ◌+◌,
+  ◌≤◌,
+  Bool,
+  true,
+  false,
+  List,
+  [],
+  ◌∷◌,
+  ◌++◌,
+  length,
+  drop,
+  max,
+  slice_range,
+  Option,
+  option_to_list,
+}
 use Rattle.f11_flx.specs.Lines.{has_long_line, without_zeros}
 use Rattle.f11_flx.specs.Spelled.{variable_records, longest_of}
 use Rattle.f11_flx.specs.Stage.{given_in, is_given, lines_from, text_so_far}

@@ -1,5 +1,25 @@
 -- What the conversion of records into a text gives (RSX-11M Utilities manual, FLX).
-use Rattle.std.specs.Prelude.{◌≡◌, ◌⊎◌, ℕ, ◌+◌, ◌*◌, ◌≤◌, false, Bool, List, ◌∷◌, ◌++◌, length, take, drop, slice_range, Option, None, option_map, option_to_list}
+use Rattle.std.specs.Prelude.{
+  ◌≡◌,
+  ◌⊎◌,
+  ℕ,
+  ◌+◌,
+  ◌*◌,
+  ◌≤◌,
+  false,
+  Bool,
+  List,
+  ◌∷◌,
+  ◌++◌,
+  length,
+  take,
+  drop,
+  slice_range,
+  Option,
+  None,
+  option_map,
+  option_to_list,
+}
 use Rattle.f11_store.specs.File.{File}
 use Rattle.f11_flx.specs.Lines.{text_of}
 use Rattle.f11_flx.specs.Place.{text_from, is_ending, ending_at}
@@ -30,7 +50,9 @@ ending_of s = ending_at s.place
 -- was these bytes, and then what is to come for the rest of the source and what follows it. For a byte that was read there are
 -- three at most: itself, CR and LF.
 pub record Converts (old new : ToText) (source : List ℕ) (used : ℕ) (target : List ℕ) (from to : ℕ) : Type 0 where
-  pub text : (more : List ℕ) → rest_of old ≤ length (source ++ more) → text_left old (source ++ more) ≡ option_map (λ text. slice_range target from to ++ text) (text_left new (drop used source ++ more))
+  pub text : (more : List ℕ) → rest_of old ≤ length (source ++ more) →
+      text_left old (source ++ more) ≡ option_map (λ text. slice_range target from to ++ text)
+      (text_left new (drop used source ++ more))
   pub read : rest_of new + used ≡ rest_of old
   pub within : used ≤ length source
   pub order : from ≤ to
@@ -56,7 +78,8 @@ pub record EndsRecord (old new : ToText) (byte : ℕ) : Type 0 where
 
 -- a byte of the file was read
 pub record ReadsOn (old new : ToText) (byte : ℕ) (given : Option ℕ) : Type 0 where
-  pub text : (bytes : List ℕ) → rest_of new ≤ length bytes → text_left old (byte ∷ bytes) ≡ option_map (λ text. option_to_list given ++ text) (text_left new bytes)
+  pub text : (bytes : List ℕ) → rest_of new ≤ length bytes →
+      text_left old (byte ∷ bytes) ≡ option_map (λ text. option_to_list given ++ text) (text_left new bytes)
   pub rest : rest_of new + 1 ≡ rest_of old
   pub few : length (option_to_list given) + ending_of new ≤ 3
 
@@ -66,7 +89,9 @@ RefusesOn old byte = (bytes : List ℕ) → rest_of old ≤ length bytes + 1 →
 
 -- one step: CR or LF was given, or a byte of the source was read
 pub record Steps (old new : ToText) (source : List ℕ) (used next : ℕ) (given : Option ℕ) : Type 0 where
-  pub text : (more : List ℕ) → rest_of old ≤ length (drop used source ++ more) → text_left old (drop used source ++ more) ≡ option_map (λ text. option_to_list given ++ text) (text_left new (drop next source ++ more))
+  pub text : (more : List ℕ) → rest_of old ≤ length (drop used source ++ more) →
+      text_left old (drop used source ++ more) ≡ option_map (λ text. option_to_list given ++ text)
+      (text_left new (drop next source ++ more))
   pub read : rest_of new + next ≡ rest_of old + used
   pub within : next ≤ length source
   pub order : used ≤ next

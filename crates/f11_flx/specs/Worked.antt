@@ -28,7 +28,8 @@ LengthWordCut = records_in Variable (1 ∷ 0 ∷ 65 ∷ 0 ∷ 1 ∷ []) ≡ None
 -- attributes by which the records can't be read: record type 3, fixed records of an odd size and of none, record attribute 8
 abbrev pub BadLayouts : Type 0
 BadLayouts =
-    (layout_of (3 ∷ 0 ∷ 4 ∷ 0 ∷ []) ≡ None) × (layout_of (1 ∷ 0 ∷ 3 ∷ 0 ∷ []) ≡ None) × (layout_of (1 ∷ 0 ∷ 0 ∷ 0 ∷ []) ≡ None) × (layout_of (2 ∷ 8 ∷ 4 ∷ 0 ∷ []) ≡ None)
+    (layout_of (3 ∷ 0 ∷ 4 ∷ 0 ∷ []) ≡ None) × (layout_of (1 ∷ 0 ∷ 3 ∷ 0 ∷ []) ≡ None) ×
+    (layout_of (1 ∷ 0 ∷ 0 ∷ 0 ∷ []) ≡ None) × (layout_of (2 ∷ 8 ∷ 4 ∷ 0 ∷ []) ≡ None)
 
 -- the text of two records
 abbrev pub TextOfRecords : Type 0
@@ -86,7 +87,8 @@ abbrev pub TextFromRt : Type 0
 TextFromRt =
     (copied_from_rt Text (block_of (65 ∷ 13 ∷ 10 ∷ 66 ∷ []) ∷ []) ≡ Some (copied_lines two_lines))
     × (copied_lines two_lines ≡ record { content = block_of (1 ∷ 0 ∷ 65 ∷ 0 ∷ 1 ∷ 0 ∷ 66 ∷ 0 ∷ []); attr = text_attributes 1 1 8 })
-    × (copied_to_rt Text (file_with (text_attributes 1 1 8) (block_of (1 ∷ 0 ∷ 65 ∷ 0 ∷ 1 ∷ 0 ∷ 66 ∷ 0 ∷ []) ∷ [])) ≡ Some (block_of (65 ∷ 13 ∷ 10 ∷ 66 ∷ 13 ∷ 10 ∷ [])))
+    × (copied_to_rt Text (file_with (text_attributes 1 1 8) (block_of (1 ∷ 0 ∷ 65 ∷ 0 ∷ 1 ∷ 0 ∷ 66 ∷ 0 ∷ []) ∷ [])) ≡
+    Some (block_of (65 ∷ 13 ∷ 10 ∷ 66 ∷ 13 ∷ 10 ∷ [])))
 
 -- a block of zeros has no line, and a file without blocks is one of no blocks
 abbrev pub NothingCopied : Type 0

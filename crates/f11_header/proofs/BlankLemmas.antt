@@ -52,6 +52,7 @@ IsEmptyHeader-blank_header id owner protects number group member few = record {
   protection_is = let is : protection (blank_header id owner protects number) ≡ protects % 256 + 256 * (protects / 256) = refl in omega (arith, is);
   no_characteristics = refl;
   no_attributes = refl;
+  no_ident = refl;
   segment_is = let is : segment (map_area (blank_header id owner protects number)) ≡ number % 256 = refl in omega (arith, is);
   room = refl;
   no_pointer = refl;

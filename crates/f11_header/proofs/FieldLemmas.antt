@@ -7,7 +7,7 @@ use Rattle.std.proofs.lemmas.List.{length-set, get_or-set_same, get_or-set_other
 use Rattle.f11_bytes.specs.Words.{word, with_word, word_sum}
 use Rattle.f11_bytes.proofs.WordLemmas.{length-with_word, word-with_word, word-with_word_apart, word_sum-with_word}
 use Rattle.f11_bytes.proofs.PartLemmas.{slice_range-same, slice_range-with_bytes}
-use Rattle.f11_header.specs.Fields.{ident_offset, map_offset, file_number, file_sequence, level, owner, protection, characteristics, attributes, ident_area, ident_end, ident_words, map_area, HeaderFields, header_fields}
+use Rattle.f11_header.specs.Fields.{ident_offset, map_offset, file_number, file_sequence, level, owner, protection, characteristics, attributes, ident_area, ident_end, ident_room, ident_words, map_area, HeaderFields, header_fields}
 use Rattle.f11_header.specs.MapFields.{segment, holds_pointers, IsMapArea}
 use Rattle.f11_header.specs.Header.{holds_header, header_in, header_with, IsHeader}
 use Rattle.f11_header.specs.Writing.{ChangesFields, KeepsHeader, owner_word, with_id, with_owner, with_protection, with_characteristics, with_attributes, with_ident, with_map, with_check_word, dead_header}
@@ -313,6 +313,26 @@ keeps-with_map b put long held size same_segment valid =
     } in
     let keeps : KeepsHeader b new = record { holds = holds_header-from new facts ∙ sym held; number = number } in
     (keeps, header_in-written b new (λ h. record h { map = put }) keeps.holds (λ holds. fields))
+
+-- the bytes in front of the map area stay where that is put and the block is sealed
+pub ident_room-with_map : (b put : List ℕ) → length b ≡ 512 → IsTrue (holds_header b) → length put ≡ length (map_area b)
+    → ident_room (with_check_word (with_map b put)) ≡ ident_room b
+ident_room-with_map b put long held size =
+    let was : HeaderFacts b = header_facts b held in
+    let mid : List ℕ = with_map b put in
+    let new : List ℕ = with_check_word mid in
+    let from : ℕ = 2 * map_offset b in
+    let low : map_offset b ≤ 250 = was.map_within in
+    let end : 510 ≡ from + length put = omega (arith, size, length-map_area b long) in
+    let first : ChangesFrom from 510 b mid = changes-with_bytes b from 510 put end (omega arith) in
+    let second : ChangesFrom 510 512 mid new = changes-with_word mid 510 (word_sum mid 255) in
+    let behind : 46 ≤ from = omega (arith, was.ident_placed, was.map_placed) in
+    let byte : (i : ℕ) → i < from → slice_index new i ≡ slice_index b i =
+    λ i below. second.others i (inl (omega arith)) ∙ first.others i (inl below) in
+    let ident_at : ident_offset new ≡ ident_offset b = byte 0 (omega arith) in
+    let map_at : map_offset new ≡ map_offset b = byte 1 (omega arith) in
+    let moved : ident_room new ≡ slice_range new (2 * ident_offset b) from = λ k. slice_range new (2 * ident_at k) (2 * map_at k) in
+    moved ∙ slice_range-same new b (2 * ident_offset b) from (second.size ∙ first.size) (λ i above below. byte i below)
 
 -- a dead header keeps its map area
 pub map_area-dead_header : (b : List ℕ) → length b ≡ 512 → IsTrue (holds_header b) → map_area (dead_header b) ≡ map_area b

@@ -64,6 +64,10 @@ ident_end b = ident_offset b + ident_words (segment (map_area b))
 abbrev pub ident_area : List ℕ → List ℕ
 ident_area b = slice_range b (2 * ident_offset b) (2 * ident_end b)
 
+-- the bytes from there to the map area: in a file's first header they begin with its ident area
+abbrev pub ident_room : List ℕ → List ℕ
+ident_room b = slice_range b (2 * ident_offset b) (2 * map_offset b)
+
 -- what a header says
 pub record HeaderFields : Type 0 where
   pub number : ℕ

@@ -1,7 +1,9 @@
 -- When a block is a file header (Files-11 On-Disk Structure Level 1, "File Header"; profile: which fields are tested).
-use Rattle.std.specs.Prelude.{◌≡◌, ℕ, ◌==◌, nat_lt, nat_le, Bool, ◌&&◌, IsTrue, if◌then◌else◌, List, Option, Some, None, option_map, replicate}
+use Rattle.std.specs.Prelude.{◌≡◌, ℕ, ◌==◌, nat_lt, nat_le, Bool, ◌&&◌, IsTrue, if◌then◌else◌}
+use Rattle.std.specs.Prelude.{List, Option, Some, None, option_map, replicate}
 use Rattle.f11_bytes.specs.Words.{word_sum}
-use Rattle.f11_header.specs.Fields.{ident_offset, map_offset, file_number, file_sequence, level, owner, protection, characteristics, attributes, check_word, map_area, ident_end, HeaderFields, header_fields}
+use Rattle.f11_header.specs.Fields.{ident_offset, map_offset, file_number, file_sequence, level, owner, protection, characteristics}
+use Rattle.f11_header.specs.Fields.{attributes, check_word, map_area, ident_end, ident_room, HeaderFields, header_fields}
 use Rattle.f11_header.specs.MapFields.{segment, link, words_in_use, places, holds_pointers}
 use Rattle.f11_store.specs.declared.callers.Uic.{Uic}
 use Rattle.f11_store.specs.declared.files.FileId.{FileId}
@@ -36,7 +38,8 @@ pub record IsHeader (b : List ℕ) (n : ℕ) : Type 0 where
 abbrev pub IsDead : List ℕ → Type 0
 IsDead b = file_number b ≡ 0
 
--- An empty header: these fields, no characteristics, attributes of zeros, 102 places and no pointer in use, and no link.
+-- An empty header: these fields, no characteristics, attributes and an ident area of zeros, 102 places and no pointer in use,
+-- and no link.
 pub record IsEmptyHeader (b : List ℕ) (id : FileId) (owned : Uic) (protects number : ℕ) : Type 0 where
   pub number_is : file_number b ≡ id.number
   pub sequence_is : file_sequence b ≡ id.sequence
@@ -44,6 +47,7 @@ pub record IsEmptyHeader (b : List ℕ) (id : FileId) (owned : Uic) (protects nu
   pub protection_is : protection b ≡ protects
   pub no_characteristics : characteristics b ≡ 0
   pub no_attributes : attributes b ≡ replicate 32 0
+  pub no_ident : ident_room b ≡ replicate 46 0
   pub segment_is : segment (map_area b) ≡ number
   pub room : places (map_area b) ≡ 102
   pub no_pointer : words_in_use (map_area b) ≡ 0

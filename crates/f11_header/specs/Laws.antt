@@ -14,7 +14,8 @@ CheckWordMakesValid = (b : List ℕ) → length b ≡ 512 → IsTrue (holds_head
 -- number, the sequence number and the map area as they were
 abbrev pub FieldsKeepHeader : Type 0
 FieldsKeepHeader = (old new : List ℕ) → ChangesFields old new → IsTrue (holds_header old)
-    → IsTrue (holds_header new) × (file_number new ≡ file_number old) × (file_sequence new ≡ file_sequence old) × (map_area new ≡ map_area old)
+    → IsTrue (holds_header new) × (file_number new ≡ file_number old) × (file_sequence new ≡ file_sequence old) ×
+    (map_area new ≡ map_area old)
 
 -- a block that holds a header holds a map area
 abbrev pub HeaderHasMapArea : Type 0

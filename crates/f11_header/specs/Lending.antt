@@ -12,7 +12,8 @@ over h b = record h { block = record h.block { now = b } }
 
 -- the header ends with the ident area as it was left
 abbrev pub LendsIdent : MutBor HeaderMut → MutBor (List ℕ) → Fml
-LendsIdent h r = Lends (the_row (record { mir = named 1; lft = [] })) (Array u8 0) h r (λ ident. over h.now (with_ident h.now.block.now ident))
+LendsIdent h r = Lends (the_row (record { mir = named 1; lft = [] })) (Array u8 0) h r
+    (λ ident. over h.now (with_ident h.now.block.now ident))
 
 -- the header ends with the map area as it was left
 abbrev pub LendsMap : MutBor HeaderMut → MutBor (List ℕ) → Fml

@@ -9,7 +9,8 @@ use crate::fields::{
     PROTECTION, SEQUENCE,
 };
 use crate::lifecycle::owner_word;
-use f11_bytes::{Block, bytes_mut, put_bytes, sum_words, write_word};
+use f11_bits::word_sum;
+use f11_bytes::{Block, bytes_mut, put_bytes, write_word};
 use f11_store::{FileId, Uic};
 
 /// A file header, written in the block that holds it, without a copy. Each writer changes its field alone, and what is
@@ -144,7 +145,7 @@ impl<'a> HeaderMut<'a> {
         ensures fields { header_in (written_block self.new) ≡ header_in (written_block self.old) }
         ensures same_reference { block_loan self.new ≡ block_loan self.old }
     {
-        let sum = sum_words(self.block, CHECK_WORD / 2);
+        let sum = word_sum(self.block);
         write_word(self.block, CHECK_WORD, sum);
     }
 }

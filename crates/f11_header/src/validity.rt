@@ -8,7 +8,8 @@ ghost use Rattle.f11_header.specs.Header.{IsHeader, IsDead};
 use crate::fields::{CHECK_WORD, IDENT_OFFSET, LEVEL, MAP_OFFSET, NUMBER, SEQUENCE};
 use crate::header::Header;
 use crate::map_fields::{COUNT_SIZE, IN_USE, LBN_SIZE, MOST};
-use f11_bytes::{Block, read_word, sum_words};
+use f11_bits::word_sum as sum_of_words;
+use f11_bytes::{Block, read_word};
 use std::error::Error;
 use std::fmt;
 
@@ -64,7 +65,7 @@ fn is_numbered(block: &Block, n: u16) -> bool
     read_word(block, NUMBER) == n
         && read_word(block, SEQUENCE) != 0
         && read_word(block, LEVEL) == 0o401
-        && read_word(block, CHECK_WORD) == sum_words(block, CHECK_WORD / 2)
+        && read_word(block, CHECK_WORD) == sum_of_words(block)
 }
 
 /// The words of the ident area of a header with this segment number.

@@ -6,6 +6,7 @@ ghost use Rattle.f11_home.specs.HomeBlock.{HasHomeSums, IsHomeBlock, index_block
 use crate::fields::{
     CLUSTER, FIRST_SUM, FORMAT, FORMAT_NAME, INDEX_BLOCKS, INDEX_LBN, LEVEL, SECOND_SUM,
 };
+use f11_bits::word_sum;
 use f11_bytes::{Block, read_long, read_word, sum_words, write_word};
 
 /// Whether the block is a valid home block of a device of so many blocks.
@@ -42,7 +43,7 @@ fn has_sums(block: &Block) -> bool
     ensures { IsTrue result ↔ HasHomeSums block.now }
 {
     read_word(block, FIRST_SUM) == sum_words(block, FIRST_SUM / 2)
-        && read_word(block, SECOND_SUM) == sum_words(block, SECOND_SUM / 2)
+        && read_word(block, SECOND_SUM) == word_sum(block)
 }
 
 /// H.IBLB.
@@ -61,6 +62,6 @@ pub fn seal(block: &mut Block)
 {
     let first = sum_words(block, FIRST_SUM / 2);
     write_word(block, FIRST_SUM, first);
-    let second = sum_words(block, SECOND_SUM / 2);
+    let second = word_sum(block);
     write_word(block, SECOND_SUM, second);
 }

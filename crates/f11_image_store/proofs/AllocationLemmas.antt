@@ -7,7 +7,7 @@ use Rattle.std.proofs.lemmas.List.{append-nil, drop-drop}
 use Rattle.std.proofs.lemmas.List.Elements.{filter-append}
 use Rattle.std.proofs.lemmas.List.FromFn.{length-range_with_len}
 use Rattle.f11_dev.specs.Image.{Image}
-use Rattle.f11_header.specs.Fields.{file_number, check_word, owner, protection, characteristics, attributes, ident_area}
+use Rattle.f11_header.specs.Fields.{file_number, check_word, owner, protection, characteristics, attributes, ident_area, ident_room}
 use Rattle.f11_header.specs.Header.{holds_header}
 use Rattle.f11_bytes.specs.Words.{word_sum}
 use Rattle.f11_home.specs.Home.{HomeFields}
@@ -26,7 +26,7 @@ use Rattle.f11_volume.specs.Volume.{Volume}
 use Rattle.f11_writes.specs.Kept.{KeepsButSlot}
 use Rattle.f11_writes.specs.OtherSlots.{KeepsOtherSlots}
 use Rattle.f11_writes.proofs.OtherSlotLemmas.{file-was, live-was, next-was, nowhere, turned}
-use Rattle.f11_image_store.specs.Allocation.{named_by, free_list, ownership_in, AddsHeaders, AddsLoose, BeginsWith, GainsBlocksAs, KeepsBlocks, KeepsSaying, LinksLoose, NamesMore, SaysOnly}
+use Rattle.f11_image_store.specs.Allocation.{named_by, free_list, ownership_in, AddsHeaders, AddsFileless, BeginsWith, GainsBlocksAs, KeepsBlocks, KeepsSaying, LinksFileless, NamesMore, SaysOnly}
 use Rattle.f11_image_store.specs.ExtensionLaws.{EntersExtension}
 use Rattle.f11_image_store.specs.FileLaws.{LinksOnTo, NamesMoreOf, SaysAlike}
 use Rattle.f11_image_store.proofs.FileLemmas.{HasWritten, linked, longer, m-stays, of-now, last-linked}
@@ -82,6 +82,7 @@ said-again same = record {
   protection_is = ap protection same;
   characteristics_are = ap characteristics same;
   ident_is = ap ident_area same;
+  ident_room_is = ap ident_room same;
   attributes_are = ap attributes same;
 }
 
@@ -91,6 +92,7 @@ said-then one two = record {
   protection_is = two.protection_is ∙ one.protection_is;
   characteristics_are = two.characteristics_are ∙ one.characteristics_are;
   ident_is = two.ident_is ∙ one.ident_is;
+  ident_room_is = two.ident_room_is ∙ one.ident_room_is;
   attributes_are = two.attributes_are ∙ one.attributes_are;
 }
 
@@ -102,6 +104,7 @@ only-still says alike = record {
   ownership_is = ownership-stay alike ∙ says.ownership_is;
   no_characteristics = alike.characteristics_are ∙ says.no_characteristics;
   no_attributes = alike.attributes_are ∙ says.no_attributes;
+  no_ident = alike.ident_room_is ∙ says.no_ident;
 }
 
 -- one slot was written, and its header says what it said
@@ -209,8 +212,8 @@ module _ (old new : Image) (home : HomeFields) (f n m : ℕ) (block : List ℕ) 
   one-more (first _) = inl (first (file_of-header may.stands.of))
   one-more (next {n = a} {m = b} of goes) = one-next a b (one-more of) goes (cases_eq b n) (cases_eq a n)
 
-  pub links-loose : LinksLoose f m v w
-  links-loose = record {
+  pub links-fileless : LinksFileless f m v w
+  links-fileless = record {
     blocks = (linked old new home f n m block wrote may).blocks ∙ ap (λ (b : List ℕ). file_blocks v f ++ blocks_named b) (m-stays old new home f n m block wrote may);
     headers = λ k of. headers-stay v w f n wrote.slot.others (record { of = may.stands.of; no_link = may.last }) of-linking of;
     linked = (last-linked old new home f n m block wrote may).of;
@@ -231,10 +234,10 @@ module _ (t u : Table) (f n : ℕ) (others : KeepsOtherSlots n t u) (file : IsFi
       next before (next-was t u n others a b from to goes)
 
 -- a header was written and entered, which is no file's yet
-pub adds-loose : (f n m : ℕ) (ownership : Uic × ℕ) (block : List ℕ) (after : Index) (home : HomeFields) (old mid new : Image) → IsLastOf (table_of old home) f n
+pub adds-fileless : (f n m : ℕ) (ownership : Uic × ℕ) (block : List ℕ) (after : Index) (home : HomeFields) (old mid new : Image) → IsLastOf (table_of old home) f n
     → (table_of old home).in_use m ≡ false → SaysOnly ownership block → EntersExtension m block after home old mid new
-    → AddsLoose f m ownership (table_of old home) (table_of new home)
-adds-loose f n m ownership block after home old mid new last unused says enters =
+    → AddsFileless f m ownership (table_of old home) (table_of new home)
+adds-fileless f n m ownership block after home old mid new last unused says enters =
     let t : Table = table_of old home in
     let u : Table = table_of new home in
     let file : IsFile t f = file_of-header last.of in
@@ -255,7 +258,7 @@ adds-loose f n m ownership block after home old mid new last unused says enters 
     }
 
 -- and then the file has it
-adds-header : (f m : ℕ) (ownership : Uic × ℕ) (t u w : Table) → IsLive u m → AddsLoose f m ownership t u → LinksLoose f m u w → AddsHeaders f ownership t w
+adds-header : (f m : ℕ) (ownership : Uic × ℕ) (t u w : Table) → IsLive u m → AddsFileless f m ownership t u → LinksFileless f m u w → AddsHeaders f ownership t w
 adds-header f m ownership t u w live adds links = adds-saying f ownership t w adds.file (λ n of. has n (links.one_more n of)) (record {
   live = λ n was. links.stay.live n (adds.stay.live n was);
   alike = λ n was. said-then (adds.stay.alike n was) (links.stay.alike n (adds.stay.live n was));
@@ -265,7 +268,7 @@ adds-header f m ownership t u w live adds links = adds-saying f ownership t w ad
     has n (inl of) = inl (adds.none_more n of)
     has n (inr same) = inr (subst (λ (k : ℕ). SaysOnly ownership (w.header k)) (sym same) (only-still adds.says (links.stay.alike m live)))
 
-pub adds-linked : (f m : ℕ) (ownership : Uic × ℕ) (t u w : Table) → IsLive u m → AddsLoose f m ownership t u → LinksLoose f m u w
+pub adds-linked : (f m : ℕ) (ownership : Uic × ℕ) (t u w : Table) → IsLive u m → AddsFileless f m ownership t u → LinksFileless f m u w
     → NamesMore f ownership (blocks_named (u.header m)) t w
 adds-linked f m ownership t u w live adds links = record {
   blocks = links.blocks ∙ ap (λ (l : List ℕ). l ++ blocks_named (u.header m)) adds.blocks;

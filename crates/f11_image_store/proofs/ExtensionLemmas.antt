@@ -17,20 +17,20 @@ use Rattle.f11_volume.proofs.FileLemmas.{image-files}
 use Rattle.f11_volume.specs.Sound.{HasSoundVolume}
 use Rattle.f11_volume.specs.Volume.{Volume, volume_of}
 use Rattle.f11_writes.specs.Kept.{WritesHeader, WritesSlotBit}
-use Rattle.f11_writes.specs.NameLaws.{AreSpare}
+use Rattle.f11_writes.specs.NameLaws.{AreUnreferenced}
 use Rattle.f11_writes.specs.Volumes.{MayName, MayBecome, links_to_none}
 use Rattle.f11_writes.specs.Worked.{with_new_header}
 use Rattle.f11_writes.proofs.BitLemmas.{set-keeps}
 use Rattle.f11_writes.proofs.HeaderLemmas.{unused-keeps}
-use Rattle.f11_writes.proofs.NameLemmas.{spare-names, unentered-spare}
+use Rattle.f11_writes.proofs.NameLemmas.{unreferenced-names, unentered-unreferenced}
 use Rattle.f11_writes.proofs.OtherSlotLemmas.{entered-unlinked, file-kept}
 use Rattle.f11_image_store.specs.ExtensionLaws.{IsNewExtension, EntersExtension}
-use Rattle.f11_image_store.specs.SlotLaws.{with_use, IsLoose}
+use Rattle.f11_image_store.specs.SlotLaws.{with_use, IsFileless}
 use Rattle.f11_image_store.specs.StoreOf.{store_of}
-use Rattle.f11_image_store.proofs.InstanceLemmas.{unused-given, loose-set, unlive-loose}
+use Rattle.f11_image_store.proofs.InstanceLemmas.{unused-given, fileless-set, unlive-fileless}
 
 module _ (image : Image) (home : HomeFields) (n lbn count : ℕ) (block : List ℕ) (after : Index) (is : HasSoundVolume image home) (new : IsNewExtension (index_of image home) n lbn count block)
-    (spare : AreSpare (volume_of image home) lbn count) (bit : SetsBit true n (index_of image home) after) where
+    (unreferenced : AreUnreferenced (volume_of image home) lbn count) (bit : SetsBit true n (index_of image home) after) where
   abbrev t : Table
   t = table_of image home
 
@@ -61,7 +61,7 @@ module _ (image : Image) (home : HomeFields) (n lbn count : ℕ) (block : List �
       subst (MayBecome v n) (sym one.index_file.header) (record {
         valid = new.valid;
         good = λ live. absurd (both_ways _ unused-then live.in_use);
-        names = subst (MayName v n) (sym new.names) (spare-names v n lbn count (unentered-spare image written home n lbn count one.slot spare unused-then));
+        names = subst (MayName v n) (sym new.names) (unreferenced-names v n lbn count (unentered-unreferenced image written home n lbn count one.slot unreferenced unused-then));
         link = links_to_none new.no_link;
       })
 
@@ -89,9 +89,9 @@ module _ (image : Image) (home : HomeFields) (n lbn count : ℕ) (block : List �
   unlinked m =
       entered-unlinked (volume_of written home) (volume_of entered home) n m one.slot.sound.sound two.slot.others unused-then (ap (λ (b : List ℕ). (link_of b).number) here ∙ new.no_link)
 
-  loose : IsLoose u n
-  loose f (first file) = let segment = ap segment_number here in omega (arith, segment, file.first, new.later)
-  loose f (next {n = m} of goes) = unlinked m (record { file = f; of = of }) goes
+  fileless : IsFileless u n
+  fileless f (first file) = let segment = ap segment_number here in omega (arith, segment, file.first, new.later)
+  fileless f (next {n = m} of goes) = unlinked m (record { file = f; of = of }) goes
 
   not-in : (f : ℕ) → ¬ IsHeaderOf t f n
   not-in f of = both_ways _ unused (live_of-header of).in_use
@@ -115,7 +115,7 @@ module _ (image : Image) (home : HomeFields) (n lbn count : ℕ) (block : List �
     header = one;
     bit = two;
     store =
-        loose-set written entered home n after two (unlive-loose w n (λ live. both_ways _ unused-then live.in_use)) loose
+        fileless-set written entered home n after two (unlive-fileless w n (λ live. both_ways _ unused-then live.in_use)) fileless
         ∙ ap (with_use (store_of written home) n) used
         ∙ ap (λ (s : Store). with_use s n true) (unused-given image written home n block one new.some new.slot new.unused);
     live = record { in_use = used; valid = subst (λ (b : List ℕ). IsHeader b n) (sym here) new.valid };

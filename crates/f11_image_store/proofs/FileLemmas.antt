@@ -7,7 +7,7 @@ use Rattle.std.proofs.Math.Seq.{take-append_seam}
 use Rattle.std.proofs.lemmas.List.Sums.{sum_by-append, sum_by-cons}
 use Rattle.std.proofs.lemmas.Option.{slice_get_within, get_or_from_slice_get}
 use Rattle.f11_dev.specs.Image.{Image}
-use Rattle.f11_header.specs.Fields.{file_sequence, owner, protection, characteristics, attributes, ident_area, map_area}
+use Rattle.f11_header.specs.Fields.{file_sequence, owner, protection, characteristics, attributes, ident_area, ident_room, map_area}
 use Rattle.f11_header.specs.Header.{IsHeader}
 use Rattle.f11_header.specs.MapFields.{places}
 use Rattle.f11_home.specs.Home.{HomeFields}
@@ -99,6 +99,7 @@ module _ (old new : Image) (home : HomeFields) (f n : ℕ) (block : List ℕ) (w
         protection_is = ap protection stays;
         characteristics_are = ap characteristics stays;
         ident_is = ap ident_area stays;
+        ident_room_is = ap ident_room stays;
         attributes_are = ap attributes stays;
       }
 

@@ -3,10 +3,13 @@ use Rattle.std.proofs.Common.{◌≡◌, ◌⊎◌, ◌<◌, ◌≤◌, ℕ, zer
 use Rattle.std.proofs.lemmas.Bool.{cases_eq, cases_lt}
 use Rattle.f11_bits.specs.Bitmap.{Bitmap, count_below, free_blocks, is_free, KeepsOthers}
 use Rattle.f11_bits.proofs.CountLemmas.{count_below-zero, count_below-suc}
+use Rattle.f11_bytes.specs.Words.{with_word}
 use Rattle.f11_dev.specs.Disk.{Disk}
 use Rattle.f11_dev.specs.Image.{Image}
 use Rattle.f11_header.specs.Fields.{file_sequence}
 use Rattle.f11_header.specs.Header.{IsDead, IsHeader}
+use Rattle.f11_header.specs.Writing.{dead_header}
+use Rattle.f11_header.proofs.AreaLemmas.{changes-with_word, word-kept}
 use Rattle.f11_header.proofs.HeaderFacts.{dead-not-valid}
 use Rattle.f11_home.specs.Home.{HomeFields}
 use Rattle.f11_index.specs.Calls.{SetsBit, with_bitmap_block}
@@ -26,10 +29,14 @@ use Rattle.f11_writes.proofs.BitLemmas.{clear-keeps}
 use Rattle.f11_writes.proofs.BitmapLemmas.{bitmap-keeps}
 use Rattle.f11_writes.proofs.HeaderLemmas.{kill-keeps}
 use Rattle.f11_image_store.specs.Freeing.{FreesMore, IsFreeing, Freeing}
-use Rattle.f11_image_store.specs.SlotLaws.{IsLoose, with_use}
+use Rattle.f11_image_store.specs.SlotLaws.{IsFileless, with_use}
 use Rattle.f11_image_store.specs.StoreOf.{store_of}
-use Rattle.f11_image_store.proofs.InstanceLemmas.{unlive-loose, loose-written, loose-set}
+use Rattle.f11_image_store.proofs.InstanceLemmas.{unlive-fileless, fileless-written, fileless-set}
 use Rattle.f11_image_store.proofs.StoreLemmas.{marks-counted}
+
+-- a header that is killed keeps its sequence number
+pub dead-sequence : (b : List ℕ) → file_sequence (dead_header b) ≡ file_sequence b
+dead-sequence b = word-kept {old = with_word b 2 0} {new = dead_header b} (changes-with_word (with_word b 2 0) 510 0) 4 (inl (omega arith)) ∙ word-kept {old = b} {new = with_word b 2 0} (changes-with_word b 2 0) 4 (inr (omega arith))
 
 pub frees-none : (s : Store) → FreesMore s s
 frees-none s = record {
@@ -121,20 +128,20 @@ module _ (image : Image) (home : HomeFields) (n : ℕ) (is : HasSoundVolume imag
   unfolding table_in
   slot-of used = (in_use-some (index_of image home) n used, in_use-slot (index_of image home) n used)
 
-  module _ (block : List ℕ) (live : IsLive t n) (loose : IsLoose t n) (dead : IsDead block) (sequence : file_sequence block ≡ last_sequence t n) where
+  module _ (block : List ℕ) (live : IsLive t n) (fileless : IsFileless t n) (dead : IsDead block) (sequence : file_sequence block ≡ last_sequence t n) where
     abbrev killed : Image
     killed = with_header image home n block
 
     late : 5 ≤ n
     late = elim (cases_lt n 5) [
-      | inl few ↦ absurd (loose n (first (own-in-file image home n is (slot-of live.in_use).0 few)))
+      | inl few ↦ absurd (fileless n (first (own-in-file image home n is (slot-of live.in_use).0 few)))
       | inr above ↦ above
     ]
 
     unlinked : (m : ℕ) → IsInFile t m → ¬ IsNext t m n
-    unlinked m in_file goes = loose in_file.file (next in_file.of goes)
+    unlinked m in_file goes = fileless in_file.file (next in_file.of goes)
 
-    wrote : WritesHeader n block home image killed
+    pub wrote : WritesHeader n block home image killed
     wrote = kill-keeps image home is n block late (slot-of live.in_use).1 dead unlinked
 
     not-live : ¬ IsLive (table_of killed home) n
@@ -143,7 +150,7 @@ module _ (image : Image) (home : HomeFields) (n : ℕ) (is : HasSoundVolume imag
     pub orphan-killed : IsFreeing home (store_of image home) killed
     orphan-killed = record {
       sound = wrote.slot.sound;
-      frees = subst (FreesMore (store_of image home)) (sym (loose-written image killed home n block wrote sequence loose (unlive-loose (table_of killed home) n not-live)))
+      frees = subst (FreesMore (store_of image home)) (sym (fileless-written image killed home n block wrote sequence fileless (unlive-fileless (table_of killed home) n not-live)))
           (frees-none (store_of image home));
     }
 
@@ -154,7 +161,7 @@ module _ (image : Image) (home : HomeFields) (n : ℕ) (is : HasSoundVolume imag
     some : 0 < n
     some = (slot-of dead.in_use).0
 
-    bit-wrote : WritesSlotBit n after home image cleared
+    pub bit-wrote : WritesSlotBit n after home image cleared
     bit-wrote = clear-keeps image home n after is dead bit
 
     unused-now : (table_of cleared home).in_use n ≡ false
@@ -165,8 +172,8 @@ module _ (image : Image) (home : HomeFields) (n : ℕ) (is : HasSoundVolume imag
 
     store-cleared : store_of cleared home ≡ with_use (store_of image home) n false
     store-cleared =
-        loose-set image cleared home n after bit-wrote (unlive-loose t n dead-unlive)
-        (unlive-loose (table_of cleared home) n (λ now. let used = sym unused-now ∙ now.in_use in cc))
+        fileless-set image cleared home n after bit-wrote (unlive-fileless t n dead-unlive)
+        (unlive-fileless (table_of cleared home) n (λ now. let used = sym unused-now ∙ now.in_use in cc))
         ∙ ap (with_use (store_of image home) n) unused-now
 
     pub dead-freed : IsFreeing home (store_of image home) cleared

@@ -16,7 +16,7 @@ use Rattle.f11_volume.proofs.FileLemmas.{image-files}
 use Rattle.f11_header.proofs.HeaderFacts.{dead-not-valid}
 use Rattle.f11_writes.specs.Kept.{file_in, WritesHeader, WritesSlotBit}
 use Rattle.f11_image_store.specs.StoreOf.{as_seen, file_at, last_given, store_of}
-use Rattle.f11_image_store.specs.SlotLaws.{with_use, with_last, KeepsOtherBlocks, ConcernsFile, IsLoose}
+use Rattle.f11_image_store.specs.SlotLaws.{with_use, with_last, KeepsOtherBlocks, ConcernsFile, IsFileless}
 use Rattle.f11_image_store.proofs.StoreLemmas.{file-at, seen-own}
 use Rattle.f11_image_store.proofs.SlotLemmas.{slot-stored}
 
@@ -52,11 +52,11 @@ not-first : (v : Table) (f n : ℕ) → n ≢ f → IsHeaderOf v f n → ¬ IsFi
 not-first v f n apart of file = first-alone v f n (λ same. apart (sym same)) file of
 
 -- a header out of use, or a dead one, is one of no file
-pub unlive-loose : (v : Table) (n : ℕ) → ¬ IsLive v n → IsLoose v n
-unlive-loose v n none f of = none (live_of-header of)
+pub unlive-fileless : (v : Table) (n : ℕ) → ¬ IsLive v n → IsFileless v n
+unlive-fileless v n none f of = none (live_of-header of)
 
-loose-no-file : (v : Table) (n : ℕ) → IsLoose v n → ¬ IsFile v n
-loose-no-file v n loose file = loose n (first file)
+fileless-no-file : (v : Table) (n : ℕ) → IsFileless v n → ¬ IsFile v n
+fileless-no-file v n fileless file = fileless n (first file)
 
 module _ (old new : Image) (home : HomeFields) (n : ℕ) where
   abbrev t : Table
@@ -73,13 +73,13 @@ module _ (old new : Image) (home : HomeFields) (n : ℕ) where
   stored f = with_last (with_use (with_file s f (file_at new u f)) n (u.in_use n)) n (last_given u n)
 
   -- where header n is one of no file before and after
-  module _ (before : IsLoose t n) (now : IsLoose u n) where
-    loose-concerns : ConcernsFile n n t u
-    loose-concerns = record { no_other = λ g apart. now g; not_first = λ apart. absurd (apart refl) }
+  module _ (before : IsFileless t n) (now : IsFileless u n) where
+    fileless-concerns : ConcernsFile n n t u
+    fileless-concerns = record { no_other = λ g apart. now g; not_first = λ apart. absurd (apart refl) }
 
-    loose-file : with_file s n (file_at new u n) ≡ s
+    fileless-file : with_file s n (file_at new u n) ≡ s
     unfolding store_of
-    loose-file = with_file-same s n (file_at new u n)
+    fileless-file = with_file-same s n (file_at new u n)
         (file-at old t n _ (λ file. absurd (before n (first file))) (λ _. refl) ∙ sym (file-at new u n None (λ file. absurd (now n (first file))) (λ _. refl)))
 
   -- a file that has changed so
@@ -115,9 +115,9 @@ module _ (old new : Image) (home : HomeFields) (n : ℕ) where
 
     pub unused-given : 0 < n → n ≤ t.slots → t.in_use n ≡ false → store_of new home ≡ with_last s n (file_sequence block)
     unused-given some within unused =
-        let before = unlive-loose t n (λ live. both_ways _ unused live.in_use) in
-        let now = unlive-loose u n (λ live. both_ways _ unused (used-stays ∙ live.in_use)) in
-        header-stored n (loose-concerns before now) ∙ ap (λ (x : Store). with_last x n (last_given u n)) (loose-file before now)
+        let before = unlive-fileless t n (λ live. both_ways _ unused live.in_use) in
+        let now = unlive-fileless u n (λ live. both_ways _ unused (used-stays ∙ live.in_use)) in
+        header-stored n (fileless-concerns before now) ∙ ap (λ (x : Store). with_last x n (last_given u n)) (fileless-file before now)
         ∙ ap (with_last s n) (last-at u n some (omega (arith, within, blocks-but.slots)) ∙ sequence-is)
 
     module _ (sequence : file_sequence block ≡ last_sequence t n) where
@@ -127,13 +127,13 @@ module _ (old new : Image) (home : HomeFields) (n : ℕ) where
       file-changed f concerns =
           header-stored f concerns ∙ with_last-same (with_file s f (file_at new u f)) n (last_given u n) (sym (last-kept blocks-but.slots (sequence-is ∙ sequence)))
 
-      pub loose-written : IsLoose t n → IsLoose u n → store_of new home ≡ s
-      loose-written before now = file-changed n (loose-concerns before now) ∙ loose-file before now
+      pub fileless-written : IsFileless t n → IsFileless u n → store_of new home ≡ s
+      fileless-written before now = file-changed n (fileless-concerns before now) ∙ fileless-file before now
 
       pub file-killed : IsFile t n → IsDead block → store_of new home ≡ with_file s n None
       file-killed file dead =
           let gone : ¬ IsLive u n = λ live. dead-not-valid block n dead (subst (λ (b : List ℕ). IsHeader b n) wrote.index_file.header live.valid) in
-          file-changed n (record { no_other = λ g apart. unlive-loose u n gone g; not_first = λ apart. absurd (apart refl) })
+          file-changed n (record { no_other = λ g apart. unlive-fileless u n gone g; not_first = λ apart. absurd (apart refl) })
           ∙ ap (with_file s n) (file-at new u n None (λ is. absurd (gone is.live)) (λ _. refl))
 
       pub file-rewritten : (f : ℕ) → IsHeaderOf t f n → IsHeaderOf u f n → store_of new home ≡ with_file s f (Some (as_seen f (file_in home f new)))
@@ -175,5 +175,5 @@ module _ (old new : Image) (home : HomeFields) (n : ℕ) where
         ∙ ap (λ (f : Option File). with_use (with_file s n f) n (u.in_use n)) (file-at new u n _ (λ _. refl) (λ none. absurd (none file)))
         ∙ ap (with_use (with_file s n (Some (as_seen n (file_in home n new)))) n) file.live.in_use
 
-    pub loose-set : IsLoose t n → IsLoose u n → store_of new home ≡ with_use s n (u.in_use n)
-    loose-set before now = bit-stored n (loose-concerns before now) ∙ ap (λ (x : Store). with_use x n (u.in_use n)) (loose-file before now)
+    pub fileless-set : IsFileless t n → IsFileless u n → store_of new home ≡ with_use s n (u.in_use n)
+    fileless-set before now = bit-stored n (fileless-concerns before now) ∙ ap (λ (x : Store). with_use x n (u.in_use n)) (fileless-file before now)

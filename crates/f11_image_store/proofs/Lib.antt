@@ -10,6 +10,7 @@ pub mod NewFileLemmas
 pub mod FreshStoreLemmas
 pub mod StepLemmas
 pub mod ExtensionLemmas
-pub mod LooseLemmas
+pub mod FilelessLemmas
 pub mod SparedLemmas
 pub mod FreeingLemmas
+pub mod ConfinesLemmas

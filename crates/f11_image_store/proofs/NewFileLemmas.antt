@@ -14,7 +14,7 @@ use Rattle.f11_map.specs.MapArea.{run_at, runs_of, blocks_in}
 use Rattle.f11_index.specs.Calls.{SetsBit}
 use Rattle.f11_index.specs.Growth.{with_header}
 use Rattle.f11_map.specs.HeaderBlock.{segment_number, link_of, blocks_named}
-use Rattle.f11_index.specs.IndexFile.{Index, index_of, slots, is_in_use, free_slots as free_in_index}
+use Rattle.f11_index.specs.IndexFile.{Index, index_of, slots, is_in_use, free_slots_in as free_in_index}
 use Rattle.f11_index.specs.Slots.{IsLeastFree}
 use Rattle.f11_index.specs.Table.{Table, table_in, table_of, last_sequence, IsFile, IsWholeFile, first}
 use Rattle.f11_store.specs.Changes.{new_file, file_created, next_sequence, with_file, with_new_file, with_slots}

@@ -7,7 +7,7 @@ use Rattle.f11_chain.specs.FileHeaders.{file_blocks}
 use Rattle.f11_chain.proofs.FileOneLemmas.{file-one}
 use Rattle.f11_dev.specs.Image.{Image, image_block}
 use Rattle.f11_home.specs.Home.{HomeFields}
-use Rattle.f11_index.specs.IndexFile.{index_file, index_of, header_lbn}
+use Rattle.f11_index.specs.IndexFile.{index_file_blocks, index_of, header_lbn}
 use Rattle.f11_index.specs.Table.{Table, table_of, IsFile}
 use Rattle.f11_index.proofs.PlaceLemmas.{slice_get-header}
 use Rattle.f11_volume.specs.FileLaws.{AreSoundFiles}
@@ -25,7 +25,7 @@ module _ (image : Image) (home : HomeFields) (is : HasSoundVolume image home) wh
   files : AreSoundFiles t (length image)
   files = image-files image home is
 
-  as-file-one : (i lbn : ℕ) → slice_get (index_file image home) i ≡ Some lbn → slice_get (file_blocks t 1) i ≡ Some lbn
+  as-file-one : (i lbn : ℕ) → slice_get (index_file_blocks image home) i ≡ Some lbn → slice_get (file_blocks t 1) i ≡ Some lbn
   as-file-one i lbn at = ap (λ (xs : List ℕ). slice_get xs i) (file-one image home is.framed.indexed.file) ∙ at
 
   one : IsFile t 1
@@ -35,12 +35,12 @@ module _ (image : Image) (home : HomeFields) (is : HasSoundVolume image home) wh
   two = is.framed.bitmap.sound.whole.file
 
   -- behind the home block in the index file, or behind the control block in the storage bitmap file, stands each block of those
-  spared : (lbn : ℕ) → ((i : ℕ) → slice_get (index_file image home) (2 + i) ≢ Some lbn) → ((i : ℕ) → slice_get (bitmap_file t) (1 + i) ≢ Some lbn) → IsSpared image home lbn
+  spared : (lbn : ℕ) → ((i : ℕ) → slice_get (index_file_blocks image home) (2 + i) ≢ Some lbn) → ((i : ℕ) → slice_get (bitmap_file t) (1 + i) ≢ Some lbn) → IsSpared image home lbn
   unfolding index_of header_lbn
   spared lbn none_one none_two headers = record {
     header = λ n may some slot at.
         let place : 2 + (home.index_blocks + (n - 1)) ≡ 2 + home.index_blocks + (n - 1) = omega arith in
-        none_one (home.index_blocks + (n - 1)) (ap (slice_get (index_file image home)) place ∙ slice_get-header (index_file image home) (2 + home.index_blocks) _ (n - 1) lbn 0 (omega (arith, some, slot)) (sym at));
+        none_one (home.index_blocks + (n - 1)) (ap (slice_get (index_file_blocks image home)) place ∙ slice_get-header (index_file_blocks image home) (2 + home.index_blocks) _ (n - 1) lbn 0 (omega (arith, some, slot)) (sym at));
     index_bitmap = λ k within at.
         let few : k < home.index_blocks = omega (arith, within, length-map (range_with_len home.index_lbn home.index_blocks) (image_block image), length-range_with_len home.index_lbn home.index_blocks) in
         none_one k (is.framed.indexed.file.placed.bitmap_and_headers k (omega (arith, few)) ∙ ap Some at);
@@ -48,7 +48,7 @@ module _ (image : Image) (home : HomeFields) (is : HasSoundVolume image home) wh
   }
 
   -- a block of one of the two files that stands before those
-  pub first-spared : (i lbn : ℕ) → i < 2 → slice_get (index_file image home) i ≡ Some lbn → IsSpared image home lbn
+  pub first-spared : (i lbn : ℕ) → i < 2 → slice_get (index_file_blocks image home) i ≡ Some lbn → IsSpared image home lbn
   first-spared i lbn early at =
       spared lbn (λ j there. let same = (files.one_owner 1 1 i (2 + j) lbn one one (as-file-one i lbn at) (as-file-one (2 + j) lbn there)).1 in omega (arith, same, early))
       (λ j there. let same = (files.one_owner 1 2 i (1 + j) lbn one two (as-file-one i lbn at) there).0 in omega (arith, same))

@@ -14,7 +14,7 @@ use Rattle.f11_store.specs.File.{File}
 use Rattle.f11_volume.specs.Sound.{HasSoundVolume}
 use Rattle.f11_volume.specs.Volume.{Volume, volume_of}
 use Rattle.f11_writes.specs.Kept.{file_in, WritesHeader}
-use Rattle.f11_writes.specs.NameLaws.{AreSpare}
+use Rattle.f11_writes.specs.NameLaws.{AreUnreferenced}
 use Rattle.f11_writes.specs.Volumes.{MayName, MayLink, links_to_none, links_anew}
 use Rattle.f11_writes.proofs.HeaderLemmas.{file-rewrite-keeps}
 use Rattle.f11_writes.proofs.NameLemmas.{own-names, more-names, fewer-names}
@@ -53,17 +53,17 @@ module _ (image : Image) (home : HomeFields) (f n : ℕ) (block : List ℕ) (is 
   unfolding volume_of
   wrote stands names link = file-rewrite-keeps image home is n block f late stands.of (record { valid = stands.good.valid; good = λ _. stands.good; names = names; link = link })
 
-  pub names-more : (more lbn count : ℕ) → NamesMoreOf t f n block more lbn count → AreSpare v lbn count
+  pub names-more : (more lbn count : ℕ) → NamesMoreOf t f n block more lbn count → AreUnreferenced v lbn count
       → ChangesFileAt f n block (with_more_blocks more (held_from image lbn count)) home image new
   unfolding volume_of
-  names-more more lbn count may spare =
-      let writes = wrote may.stands (subst (MayName v n) (sym may.blocks) (more-names v n lbn count is.sound (live may.stands.of) spare)) (links_to_none may.no_link) in
+  names-more more lbn count may unreferenced =
+      let writes = wrote may.stands (subst (MayName v n) (sym may.blocks) (more-names v n lbn count is.sound (live may.stands.of) unreferenced)) (links_to_none may.no_link) in
       record { header = writes; store = file-grows image new home f n block more lbn count late writes may }
 
   pub links-on : (m : ℕ) → LinksOnTo t f n m block → (link_of block).volume ≡ 0 → ((other : ℕ) → IsInFile t other → ¬ IsNext t other m)
       → ChangesFileAt f n block (with_header_more image t m) home image new
   unfolding volume_of
-  links-on m may here loose =
+  links-on m may here fileless =
       let writes = wrote may.stands (subst (MayName v n) (sym may.blocks) (own-names v n is.sound (live may.stands.of)))
       (links_anew (record {
         not_last = omega (arith, may.early, may.stands.good.segment);
@@ -72,7 +72,7 @@ module _ (image : Image) (home : HomeFields) (f n : ℕ) (block : List ℕ) (is 
         sequence = may.sequence ∙ ap (λ (k : ℕ). file_sequence (t.header k)) (sym may.number);
         segment = ap (λ (k : ℕ). segment_number (t.header k)) may.number ∙ may.next_segment ∙ ap (λ (s : ℕ). s + 1) (sym may.stands.good.segment);
         no_link = ap (λ (k : ℕ). (link_of (t.header k)).number) may.number ∙ may.no_link;
-        no_other = λ other in_file goes. loose other in_file (subst (IsNext t other) may.number goes);
+        no_other = λ other in_file goes. fileless other in_file (subst (IsNext t other) may.number goes);
       })) in
       record {
         header = writes;

@@ -1,9 +1,10 @@
--- Which blocks the headers of a volume name, and which are free, where files are made, grow, are cut and go (Files-11 On-Disk Structure Level 1,
--- "Map Area" and "Storage Bitmap File"; profile: the lowest free blocks are taken).
-use Rattle.std.specs.Prelude.{◌≡◌, ◌≢◌, ◌⊎◌, ℕ, suc, ◌<◌, ◌≤◌, ◌||◌, true, false, List, [], ◌++◌, Some, length, replicate, take, drop, filter, if◌then◌else◌}
+-- Which blocks the headers of a volume name, and which are free, where files are made, grow, are cut and go (Files-11 On-Disk
+-- Structure Level 1, "Map Area" and "Storage Bitmap File"; profile: the lowest free blocks are taken).
+use Rattle.std.specs.Prelude.{◌≡◌, ◌≢◌, ◌⊎◌, ℕ, suc, ◌<◌, ◌≤◌, ◌||◌, true, false, List, [], ◌++◌, Some}
+use Rattle.std.specs.Prelude.{length, replicate, take, drop, filter, if◌then◌else◌}
 use Rattle.std.specs.List.{range_with_len, slice_get}
 use Rattle.f11_bytes.specs.Block.{zero_block}
-use Rattle.f11_header.specs.Fields.{owner, protection, characteristics, attributes}
+use Rattle.f11_header.specs.Fields.{owner, protection, characteristics, attributes, ident_room}
 use Rattle.f11_header.specs.Writing.{dead_header}
 use Rattle.f11_map.specs.HeaderBlock.{link_of, blocks_named}
 use Rattle.f11_index.specs.Headers.{headers_of, is_live}
@@ -37,19 +38,21 @@ pub record KeepsBlocks (old new : Volume) : Type 0 where
 abbrev pub ownership_in : List ℕ → Uic × ℕ
 ownership_in block = (owner block, protection block)
 
--- A header says of its file that it has this owner and this protection, and no more: no characteristics, and attributes of zeros.
+-- A header says of its file that it has this owner and this protection, and no more: no characteristics, and attributes and an
+-- ident area of zeros.
 pub record SaysOnly (ownership : Uic × ℕ) (block : List ℕ) : Type 0 where
   pub ownership_is : ownership_in block ≡ ownership
   pub no_characteristics : characteristics block ≡ 0
   pub no_attributes : attributes block ≡ replicate 32 0
+  pub no_ident : ident_room block ≡ replicate 46 0
 
 -- Each header that was live is, and says of its file what it said.
 pub record KeepsSaying (old new : Table) : Type 0 where
   pub live : (n : ℕ) → IsLive old n → IsLive new n
   pub alike : (n : ℕ) → IsLive old n → SaysAlike (old.header n) (new.header n)
 
--- Each header of file f is one that it had, or says this owner and this protection alone. Each that was live is, and says what it said, but for
--- the file's first: that says the owner and the protection that it said.
+-- Each header of file f is one that it had, or says this owner and this protection alone. Each that was live is, and says what it
+-- said, but for the file's first: that says the owner and the protection that it said.
 pub record AddsHeaders (f : ℕ) (ownership : Uic × ℕ) (old new : Table) : Type 0 where
   pub file : IsFile old f
   pub added : (n : ℕ) → IsHeaderOf new f n → IsHeaderOf old f n ⊎ SaysOnly ownership (new.header n)
@@ -66,9 +69,9 @@ pub record NamesMore (f : ℕ) (ownership : Uic × ℕ) (lbns : List ℕ) (old n
   pub others : (n : ℕ) → ¬ IsHeaderOf new f n → named_by new n ≡ named_by old n
   pub says : AddsHeaders f ownership old new
 
--- Header m, which named none, is there and says this ownership alone. File f has the headers and the blocks that it had, and each other header names
--- what it named.
-pub record AddsLoose (f m : ℕ) (ownership : Uic × ℕ) (old new : Table) : Type 0 where
+-- Header m, which named none, is there and says this ownership alone. File f has the headers and the blocks that it had, and each
+-- other header names what it named.
+pub record AddsFileless (f m : ℕ) (ownership : Uic × ℕ) (old new : Table) : Type 0 where
   pub blocks : file_blocks new f ≡ file_blocks old f
   pub headers : (n : ℕ) → IsHeaderOf old f n → IsHeaderOf new f n
   pub none : named_by old m ≡ []
@@ -79,7 +82,7 @@ pub record AddsLoose (f m : ℕ) (ownership : Uic × ℕ) (old new : Table) : Ty
   pub stay : KeepsSaying old new
 
 -- Header m is one of file f's now, with its blocks behind those of the others, and each header names what it named.
-pub record LinksLoose (f m : ℕ) (old new : Table) : Type 0 where
+pub record LinksFileless (f m : ℕ) (old new : Table) : Type 0 where
   pub blocks : file_blocks new f ≡ file_blocks old f ++ blocks_named (old.header m)
   pub headers : (n : ℕ) → IsHeaderOf old f n → IsHeaderOf new f n
   pub linked : IsHeaderOf new f m
@@ -104,8 +107,8 @@ pub record AddsZeroSlots (old new : Table) : Type 0 where
   pub unused : (n : ℕ) → 0 < n → n ≤ old.slots → new.in_use n ≡ false → old.in_use n ≡ false
   pub held : (n : ℕ) → 0 < n → n ≤ old.slots → new.in_use n ≡ false → new.header n ≡ old.header n
 
--- The index file has the n lowest free blocks more, which aren't free now: as slots they hold zeros. The headers that it has more say this ownership
--- alone.
+-- The index file has the n lowest free blocks more, which aren't free now: as slots they hold zeros. The headers that it has more
+-- say this ownership alone.
 pub record GainsSlotsAs (ownership : Uic × ℕ) (n : ℕ) (old new : Volume) : Type 0 where
   pub blocks : GainsBlocksAs 1 ownership n old new
   pub slots : AddsZeroSlots old.table new.table
@@ -134,9 +137,9 @@ pub record IsEnd (old new : List ℕ) : Type 0 where
   pub alike : SaysAlike old new
   pub no_link : link_of new ≡ no_id
 
--- File f has the first of its blocks alone, so many, and the others are free. It has its first header, and those after it before which it has
--- fewer blocks than stay; they name the first of what they named, all but the last stay as they were, and that is the end. Its other headers were
--- killed.
+-- File f has the first of its blocks alone, so many, and the others are free. It has its first header, and those after it before
+-- which it has fewer blocks than stay; they name the first of what they named, all but the last stay as they were, and that is
+-- the end. Its other headers were killed.
 pub record LosesBlocks (f to : ℕ) (old new : Volume) : Type 0 where
   pub blocks : file_blocks new.table f ≡ take to (file_blocks old.table f)
   pub more : ℕ

@@ -1,5 +1,5 @@
--- Which blocks calls on files change: those of the volume's structure, and others that are told (Files-11 On-Disk Structure Level 1, "Index File"
--- and "Storage Bitmap File").
+-- Which blocks calls on files change: those of the volume's structure, and others that are told (Files-11 On-Disk Structure Level
+-- 1, "Index File" and "Storage Bitmap File").
 use Rattle.std.specs.Prelude.{◌≡◌, ◌≢◌, ℕ, ◌+◌, ◌<◌, ◌≤◌, ◌==◌, ◌||◌, Bool, true, false, not, List, ◌++◌, All, length, slice_index}
 use Rattle.std.specs.List.{slice_get}
 use Rattle.f11_bits.specs.Bitmap.{Bitmap}

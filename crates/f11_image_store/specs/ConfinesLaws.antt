@@ -1,5 +1,5 @@
--- Which blocks of a sound volume calls on files don't change on their own account (Files-11 On-Disk Structure Level 1, "Index File" and "Storage
--- Bitmap File").
+-- Which blocks of a sound volume calls on files don't change on their own account (Files-11 On-Disk Structure Level 1, "Index
+-- File" and "Storage Bitmap File").
 use Rattle.std.specs.Prelude.{◌≡◌, ℕ, ◌≤◌, Bool, Some}
 use Rattle.std.specs.List.{slice_get}
 use Rattle.f11_chain.specs.FileHeaders.{file_blocks}
@@ -38,8 +38,10 @@ FileBlockIsSpared =
 
 -- nor one that no header names, free or lost,
 abbrev pub UnnamedBlockIsSpared : Type 0
-UnnamedBlockIsSpared = (image : Image) (home : HomeFields) (lbn : ℕ) → HasSoundVolume image home → ¬ IsNamed (table_of image home) lbn → IsSpared image home lbn
+UnnamedBlockIsSpared = (image : Image) (home : HomeFields) (lbn : ℕ) → HasSoundVolume image home → ¬ IsNamed (table_of image home) lbn →
+    IsSpared image home lbn
 
 -- nor one behind the volume.
 abbrev pub BlockBehindIsSpared : Type 0
-BlockBehindIsSpared = (image : Image) (home : HomeFields) (lbn : ℕ) → HasSoundVolume image home → (volume_of image home).size ≤ lbn → IsSpared image home lbn
+BlockBehindIsSpared = (image : Image) (home : HomeFields) (lbn : ℕ) → HasSoundVolume image home → (volume_of image home).size ≤ lbn →
+    IsSpared image home lbn

@@ -1,5 +1,5 @@
--- A header for a file that grows past its last one: it is written into a slot that isn't in use, and then the slot's bit is set. No file has it
--- until the file's last header links to it (Files-11 On-Disk Structure Level 1, "Index File" and "File Header").
+-- A header for a file that grows past its last one: it is written into a slot that isn't in use, and then the slot's bit is set.
+-- No file has it until the file's last header links to it (Files-11 On-Disk Structure Level 1, "Index File" and "File Header").
 use Rattle.std.specs.Prelude.{◌≡◌, ℕ, ◌<◌, ◌≤◌, true, false, List, [], ◌∷◌}
 use Rattle.std.specs.List.{range_with_len}
 use Rattle.f11_dev.specs.Image.{Image}
@@ -17,14 +17,15 @@ use Rattle.f11_store.specs.Store.{Store}
 use Rattle.f11_volume.specs.Sound.{HasSoundVolume}
 use Rattle.f11_volume.specs.Volume.{volume_of}
 use Rattle.f11_writes.specs.Kept.{WritesHeader, WritesSlotBit}
-use Rattle.f11_writes.specs.NameLaws.{AreSpare}
+use Rattle.f11_writes.specs.NameLaws.{AreUnreferenced}
 use Rattle.f11_writes.specs.Worked.{with_new_header}
 use Rattle.f11_image_store.specs.SlotLaws.{with_use, with_last}
 use Rattle.f11_image_store.specs.StoreOf.{store_of}
 
 -- a slot that comes into use with its next sequence number is one that was taken
 abbrev pub SlotIsTaken : Type 0
-SlotIsTaken = (s : Store) (n sequence : ℕ) → sequence ≡ next_sequence (s.last n) → with_use (with_last s n sequence) n true ≡ with_slots s (n ∷ [])
+SlotIsTaken = (s : Store) (n sequence : ℕ) → sequence ≡ next_sequence (s.last n) →
+    with_use (with_last s n sequence) n true ≡ with_slots s (n ∷ [])
 
 -- A block is a valid header for a slot that isn't in use, and no file's first: it names these blocks and links to none.
 pub record IsNewExtension (index : Index) (n lbn count : ℕ) (block : List ℕ) : Type 0 where
@@ -36,8 +37,8 @@ pub record IsNewExtension (index : Index) (n lbn count : ℕ) (block : List ℕ)
   pub no_link : (link_of block).number ≡ 0
   pub names : blocks_named block ≡ range_with_len lbn count
 
--- It was written, and then its bit set: the volume is sound after each write, the header is live and no file's, and each header of a file is one
--- of it still and as it was. In the store its slot alone has changed.
+-- It was written, and then its bit set: the volume is sound after each write, the header is live and no file's, and each header
+-- of a file is one of it still and as it was. In the store its slot alone has changed.
 pub record EntersExtension (n : ℕ) (block : List ℕ) (after : Index) (home : HomeFields) (old first second : Image) : Type 0 where
   pub header : WritesHeader n block home old first
   pub bit : WritesSlotBit n after home first second
@@ -48,9 +49,10 @@ pub record EntersExtension (n : ℕ) (block : List ℕ) (after : Index) (home : 
   pub files : (f m : ℕ) → IsHeaderOf (table_of old home) f m → IsHeaderOf (table_of second home) f m
   pub others : (m : ℕ) → (table_of old home).in_use m ≡ true → (table_of second home).header m ≡ (table_of old home).header m
 
--- where the blocks are spare, it may be
+-- where the blocks are unreferenced, it may be
 abbrev pub ExtensionMayBeEntered : Type 0
 ExtensionMayBeEntered =
     (image : Image) (home : HomeFields) (n lbn count : ℕ) (block : List ℕ) (after : Index) → HasSoundVolume image home →
-    IsNewExtension (index_of image home) n lbn count block → AreSpare (volume_of image home) lbn count → SetsBit true n (index_of image home) after →
+    IsNewExtension (index_of image home) n lbn count block → AreUnreferenced (volume_of image home) lbn count →
+    SetsBit true n (index_of image home) after →
     EntersExtension n block after home image (with_header image home n block) (with_new_header image home n block after)

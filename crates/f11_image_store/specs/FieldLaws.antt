@@ -3,7 +3,8 @@
 use Rattle.std.specs.Prelude.{◌≡◌, ℕ, ◌≤◌, IsTrue, List}
 use Rattle.f11_bytes.specs.Words.{word_sum}
 use Rattle.f11_dev.specs.Image.{Image}
-use Rattle.f11_header.specs.Fields.{HeaderFields, file_number, file_sequence, owner, protection, characteristics, attributes, ident_area, map_area, check_word}
+use Rattle.f11_header.specs.Fields.{HeaderFields, file_number, file_sequence, owner, protection}
+use Rattle.f11_header.specs.Fields.{characteristics, attributes, ident_area, map_area, check_word}
 use Rattle.f11_header.specs.Header.{holds_header, header_in, header_with}
 use Rattle.f11_home.specs.Home.{HomeFields}
 use Rattle.f11_index.specs.Growth.{with_header}
@@ -37,7 +38,8 @@ pub record SaysBut (change : File → File) (old new : List ℕ) : Type 0 where
 -- so does one that is sealed with fields written anew, where these change the file so
 abbrev pub WrittenSays : (HeaderFields → HeaderFields) → (File → File) → List ℕ → Type 0
 WrittenSays fields change old =
-    (new : List ℕ) → IsTrue (holds_header old) → header_in new ≡ header_with fields old → check_word new ≡ word_sum new 255 → SaysBut change old new
+    (new : List ℕ) → IsTrue (holds_header old) → header_in new ≡ header_with fields old → check_word new ≡ word_sum new 255 →
+    SaysBut change old new
 
 abbrev pub AttributesAreReplaced : Type 0
 AttributesAreReplaced = (old attr : List ℕ) → WrittenSays (λ h. record h { attributes = attr }) (with_replacement (change.Attr attr)) old
@@ -46,13 +48,15 @@ abbrev pub IdentIsReplaced : Type 0
 IdentIsReplaced = (old ident : List ℕ) → WrittenSays (λ h. record h { ident = ident }) (with_replacement (change.Ident ident)) old
 
 abbrev pub ProtectionIsReplaced : Type 0
-ProtectionIsReplaced = (old : List ℕ) (protects : ℕ) → WrittenSays (λ h. record h { protection = protects }) (with_replacement (change.Protect protects)) old
+ProtectionIsReplaced = (old : List ℕ) (protects : ℕ) →
+    WrittenSays (λ h. record h { protection = protects }) (with_replacement (change.Protect protects)) old
 
 abbrev pub DeleteMarkIsSet : Type 0
 DeleteMarkIsSet = (old : List ℕ) → WrittenSays (λ h. record h { characteristics = with_mark (characteristics old) }) with_delete_mark old
 
 abbrev pub ContiguousMarkIsCleared : Type 0
-ContiguousMarkIsCleared = (old : List ℕ) → WrittenSays (λ h. record h { characteristics = without_contiguous (characteristics old) }) with_no_mark old
+ContiguousMarkIsCleared = (old : List ℕ) →
+    WrittenSays (λ h. record h { characteristics = without_contiguous (characteristics old) }) with_no_mark old
 
 -- the first header of file f was written, and the store has the file with this change
 abbrev pub ChangesFile : ℕ → List ℕ → (File → File) → HomeFields → Image → Image → Type 0
@@ -61,7 +65,8 @@ ChangesFile f = ChangesFileAt f f
 -- such a block may be written over the first header of a file from 4 on
 abbrev pub FirstHeaderMayChange : Type 0
 FirstHeaderMayChange =
-    (image : Image) (home : HomeFields) (f : ℕ) (block : List ℕ) (change : File → File) → HasSoundVolume image home → 4 ≤ f → IsFile (table_of image home) f →
+    (image : Image) (home : HomeFields) (f : ℕ) (block : List ℕ) (change : File → File) → HasSoundVolume image home → 4 ≤ f →
+    IsFile (table_of image home) f →
     SaysBut change ((table_of image home).header f) block → ChangesFile f block change home image (with_header image home f block)
 
 -- and over that of the index file

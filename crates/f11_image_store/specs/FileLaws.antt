@@ -2,7 +2,7 @@
 use Rattle.std.specs.Prelude.{◌≡◌, ◌≢◌, ℕ, ◌+◌, ◌-◌, ◌<◌, ◌≤◌, List, [], ◌∷◌, ◌++◌, length, map, take, sum_by}
 use Rattle.std.specs.List.{range_with_len}
 use Rattle.f11_dev.specs.Image.{Image}
-use Rattle.f11_header.specs.Fields.{file_sequence, owner, protection, characteristics, attributes, ident_area, map_area}
+use Rattle.f11_header.specs.Fields.{file_sequence, owner, protection, characteristics, attributes, ident_area, ident_room, map_area}
 use Rattle.f11_header.specs.MapFields.{places}
 use Rattle.f11_home.specs.Home.{HomeFields}
 use Rattle.f11_map.specs.MapArea.{runs_of}
@@ -17,7 +17,7 @@ use Rattle.f11_volume.specs.Contents.{block_or_zeros, pointer_count}
 use Rattle.f11_volume.specs.Sound.{HasSoundVolume}
 use Rattle.f11_volume.specs.Volume.{volume_of}
 use Rattle.f11_writes.specs.Kept.{file_in, WritesHeader, WritesGrowth}
-use Rattle.f11_writes.specs.NameLaws.{AreSpare}
+use Rattle.f11_writes.specs.NameLaws.{AreUnreferenced}
 use Rattle.f11_image_store.specs.StoreOf.{store_of}
 use Rattle.f11_store.specs.Pieces.{with_more_blocks}
 
@@ -27,6 +27,7 @@ pub record SaysAlike (old new : List ℕ) : Type 0 where
   pub protection_is : protection new ≡ protection old
   pub characteristics_are : characteristics new ≡ characteristics old
   pub ident_is : ident_area new ≡ ident_area old
+  pub ident_room_is : ident_room new ≡ ident_room old
   pub attributes_are : attributes new ≡ attributes old
 
 -- It has so many retrieval pointers more, in as many places.
@@ -84,11 +85,17 @@ with_header_linked t m f = record f {
 
 -- and what its blocks hold
 abbrev pub with_header_more : Image → Table → ℕ → File → File
-with_header_more image t m f = record (with_header_linked t m f) { blocks = f.blocks ++ map (block_or_zeros image) (blocks_named (t.header m)) }
+with_header_more image t m f = record
+    (with_header_linked t m f) { blocks = f.blocks ++ map (block_or_zeros image) (blocks_named (t.header m)) }
 
 -- a file with the first of its headers, so many pointers and places, and the first of its blocks
 abbrev pub with_first_headers : ℕ → ℕ → ℕ → ℕ → File → File
-with_first_headers headers pointers room blocks f = record f { held = take headers f.held; pointers = pointers; room = room; blocks = take blocks f.blocks }
+with_first_headers headers pointers room blocks f = record f {
+  held = take headers f.held;
+  pointers = pointers;
+  room = room;
+  blocks = take blocks f.blocks;
+}
 
 -- how many pointers the headers of file f before header n have
 abbrev pub pointers_before : Table → ℕ → ℕ → ℕ
@@ -124,10 +131,12 @@ FileHasHeaderMore =
 -- and one that ends at a header has those up to it
 abbrev pub FileEndsThere : Type 0
 FileEndsThere =
-    (old new : Image) (home : HomeFields) (f n : ℕ) (block : List ℕ) (left : ℕ) → 2 ≤ f → WritesHeader n block home old new → HasSoundVolume old home →
+    (old new : Image) (home : HomeFields) (f n : ℕ) (block : List ℕ) (left : ℕ) → 2 ≤ f → WritesHeader n block home old new →
+    HasSoundVolume old home →
     EndsThere (table_of old home) f n block left →
     file_in home f new ≡
-    with_first_headers (segment_number ((table_of old home).header n) + 1) (pointers_before (table_of old home) f n + pointers_in block) (room_in block)
+    with_first_headers (segment_number ((table_of old home).header n) + 1) (pointers_before (table_of old home) f n + pointers_in block)
+    (room_in block)
     (blocks_before (table_of old home) f n + left) (file_in home f old)
 
 -- This was written as header n of file f: the volume is sound, and its store has the file with this change.
@@ -135,26 +144,29 @@ pub record ChangesFileAt (f n : ℕ) (block : List ℕ) (change : File → File)
   pub header : WritesHeader n block home old new
   pub store : store_of new home ≡ with_change (store_of old home) f change
 
--- a block that names spare blocks more may be written over the last header of a file from 4 on
+-- a block that names unreferenced blocks more may be written over the last header of a file from 4 on
 abbrev pub LastMayNameMore : Type 0
 LastMayNameMore =
     (image : Image) (home : HomeFields) (f n : ℕ) (block : List ℕ) (more lbn count : ℕ) → HasSoundVolume image home → 4 ≤ f →
-    NamesMoreOf (table_of image home) f n block more lbn count → AreSpare (volume_of image home) lbn count →
+    NamesMoreOf (table_of image home) f n block more lbn count → AreUnreferenced (volume_of image home) lbn count →
     ChangesFileAt f n block (with_more_blocks more (held_from image lbn count)) home image (with_header image home n block)
 
 -- and so may one that links on to a header which is no other's next
 abbrev pub LastMayLinkOn : Type 0
 LastMayLinkOn =
-    (image : Image) (home : HomeFields) (f n m : ℕ) (block : List ℕ) → HasSoundVolume image home → 4 ≤ f → LinksOnTo (table_of image home) f n m block →
+    (image : Image) (home : HomeFields) (f n m : ℕ) (block : List ℕ) → HasSoundVolume image home → 4 ≤ f →
+    LinksOnTo (table_of image home) f n m block →
     (link_of block).volume ≡ 0 → ((other : ℕ) → IsInFile (table_of image home) other → ¬ IsNext (table_of image home) other m) →
     ChangesFileAt f n block (with_header_more image (table_of image home) m) home image (with_header image home n block)
 
 -- and one that ends the file over any of its headers
 abbrev pub HeaderMayEnd : Type 0
 HeaderMayEnd =
-    (image : Image) (home : HomeFields) (f n : ℕ) (block : List ℕ) (left : ℕ) → HasSoundVolume image home → 4 ≤ f → EndsThere (table_of image home) f n block left →
+    (image : Image) (home : HomeFields) (f n : ℕ) (block : List ℕ) (left : ℕ) → HasSoundVolume image home → 4 ≤ f →
+    EndsThere (table_of image home) f n block left →
     ChangesFileAt f n block
-    (with_first_headers (segment_number ((table_of image home).header n) + 1) (pointers_before (table_of image home) f n + pointers_in block) (room_in block)
+    (with_first_headers (segment_number ((table_of image home).header n) + 1)
+    (pointers_before (table_of image home) f n + pointers_in block) (room_in block)
     (blocks_before (table_of image home) f n + left))
     home image (with_header image home n block)
 

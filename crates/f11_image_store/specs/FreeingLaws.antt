@@ -13,14 +13,14 @@ use Rattle.f11_volume.specs.Sound.{HasSoundVolume}
 use Rattle.f11_volume.specs.Space.{storage_bitmap}
 use Rattle.f11_volume.specs.Volume.{IsNamed}
 use Rattle.f11_image_store.specs.Freeing.{IsFreeing}
-use Rattle.f11_image_store.specs.SlotLaws.{IsLoose}
+use Rattle.f11_image_store.specs.SlotLaws.{IsFileless}
 use Rattle.f11_image_store.specs.StoreOf.{store_of}
 
 -- a dead header with the same sequence number may be written over a live one of no file: the files stay
 abbrev pub OrphanMayBeKilled : Type 0
 OrphanMayBeKilled =
     (image : Image) (home : HomeFields) (n : ℕ) (block : List ℕ) → HasSoundVolume image home → IsLive (table_of image home) n →
-    IsLoose (table_of image home) n → IsDead block → file_sequence block ≡ last_sequence (table_of image home) n →
+    IsFileless (table_of image home) n → IsDead block → file_sequence block ≡ last_sequence (table_of image home) n →
     IsFreeing home (store_of image home) (with_header image home n block)
 
 -- a slot whose header is dead may leave use: they stay

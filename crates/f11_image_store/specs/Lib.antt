@@ -10,6 +10,6 @@ pub mod FieldLaws
 pub mod NewFileLaws
 pub mod FreshStore
 pub mod ExtensionLaws
-pub mod LooseLaws
+pub mod FilelessLaws
 pub mod Freeing
 pub mod FreeingLaws

@@ -32,7 +32,8 @@ pub record ConcernsFile (n f : ℕ) (old new : Table) : Type 0 where
 -- where a slot was written, the store has file f and the slot as they are now, and all else as it was
 abbrev pub SlotIsStored : Type 0
 SlotIsStored =
-    (old new : Image) (home : HomeFields) (n f : ℕ) → KeepsButSlot n home old new → KeepsOtherBlocks n (table_of old home) (table_of new home) →
+    (old new : Image) (home : HomeFields) (n f : ℕ) → KeepsButSlot n home old new →
+    KeepsOtherBlocks n (table_of old home) (table_of new home) →
     ConcernsFile n f (table_of old home) (table_of new home) →
     store_of new home ≡
     with_last (with_use (with_file (store_of old home) f (file_at new (table_of new home) f)) n ((table_of new home).in_use n)) n
@@ -41,12 +42,13 @@ SlotIsStored =
 -- a header that is written into a slot that isn't in use gives the slot its sequence number
 abbrev pub UnusedSlotIsGiven : Type 0
 UnusedSlotIsGiven =
-    (old new : Image) (home : HomeFields) (n : ℕ) (block : List ℕ) → WritesHeader n block home old new → 0 < n → n ≤ (table_of old home).slots →
+    (old new : Image) (home : HomeFields) (n : ℕ) (block : List ℕ) → WritesHeader n block home old new → 0 < n →
+    n ≤ (table_of old home).slots →
     (table_of old home).in_use n ≡ false → store_of new home ≡ with_last (store_of old home) n (file_sequence block)
 
 -- header n is one of no file
-abbrev pub IsLoose : Table → ℕ → Type 0
-IsLoose t n = (f : ℕ) → ¬ IsHeaderOf t f n
+abbrev pub IsFileless : Table → ℕ → Type 0
+IsFileless t n = (f : ℕ) → ¬ IsHeaderOf t f n
 
 -- a slot that comes into use with a file's first header makes the file
 abbrev pub FileIsEntered : Type 0
@@ -55,27 +57,30 @@ FileIsEntered =
     store_of new home ≡ with_use (with_file (store_of old home) n (Some (as_seen n (file_in home n new)))) n true
 
 -- one whose header is one of no file before and after is in use, or isn't, and that is all
-abbrev pub LooseSlotIsSet : Type 0
-LooseSlotIsSet =
-    (old new : Image) (home : HomeFields) (n : ℕ) (after : Index) → WritesSlotBit n after home old new → IsLoose (table_of old home) n →
-    IsLoose (table_of new home) n → store_of new home ≡ with_use (store_of old home) n ((table_of new home).in_use n)
+abbrev pub FilelessSlotIsSet : Type 0
+FilelessSlotIsSet =
+    (old new : Image) (home : HomeFields) (n : ℕ) (after : Index) → WritesSlotBit n after home old new → IsFileless (table_of old home) n →
+    IsFileless (table_of new home) n → store_of new home ≡ with_use (store_of old home) n ((table_of new home).in_use n)
 
 -- a header of no file that is written with the sequence number that the slot has, and is of no file then, leaves the store
-abbrev pub LooseHeaderIsWritten : Type 0
-LooseHeaderIsWritten =
-    (old new : Image) (home : HomeFields) (n : ℕ) (block : List ℕ) → WritesHeader n block home old new → file_sequence block ≡ last_sequence (table_of old home) n →
-    IsLoose (table_of old home) n → IsLoose (table_of new home) n → store_of new home ≡ store_of old home
+abbrev pub FilelessHeaderIsWritten : Type 0
+FilelessHeaderIsWritten =
+    (old new : Image) (home : HomeFields) (n : ℕ) (block : List ℕ) → WritesHeader n block home old new →
+    file_sequence block ≡ last_sequence (table_of old home) n →
+    IsFileless (table_of old home) n → IsFileless (table_of new home) n → store_of new home ≡ store_of old home
 
 -- a file's first header that is killed takes the file away
 abbrev pub FileIsKilled : Type 0
 FileIsKilled =
-    (old new : Image) (home : HomeFields) (n : ℕ) (block : List ℕ) → WritesHeader n block home old new → file_sequence block ≡ last_sequence (table_of old home) n →
+    (old new : Image) (home : HomeFields) (n : ℕ) (block : List ℕ) → WritesHeader n block home old new →
+    file_sequence block ≡ last_sequence (table_of old home) n →
     IsFile (table_of old home) n → IsDead block → store_of new home ≡ with_file (store_of old home) n None
 
 -- a header of file f that is written as one of it, with its sequence number, changes that file alone
 abbrev pub FileIsRewritten : Type 0
 FileIsRewritten =
-    (old new : Image) (home : HomeFields) (f n : ℕ) (block : List ℕ) → WritesHeader n block home old new → file_sequence block ≡ last_sequence (table_of old home) n →
+    (old new : Image) (home : HomeFields) (f n : ℕ) (block : List ℕ) → WritesHeader n block home old new →
+    file_sequence block ≡ last_sequence (table_of old home) n →
     IsHeaderOf (table_of old home) f n → IsHeaderOf (table_of new home) f n →
     store_of new home ≡ with_file (store_of old home) f (Some (as_seen f (file_in home f new)))
 

@@ -27,14 +27,16 @@ BlockIsStored =
 -- where free blocks were marked used, so many fewer are free
 abbrev pub FewerAreFree : Type 0
 FewerAreFree =
-    (old new : Image) (home : HomeFields) (lbn count : ℕ) → KeepsButFree home old new → Marks false (storage_bitmap old home) lbn count old new →
+    (old new : Image) (home : HomeFields) (lbn count : ℕ) → KeepsButFree home old new →
+    Marks false (storage_bitmap old home) lbn count old new →
     lbn + count ≤ (storage_bitmap old home).size → ((k : ℕ) → lbn ≤ k → k < lbn + count → is_free old (storage_bitmap old home) k ≡ true) →
     store_of new home ≡ record (store_of old home) { free = (store_of old home).free - count }
 
 -- where used blocks were marked free, so many more are
 abbrev pub MoreAreFree : Type 0
 MoreAreFree =
-    (old new : Image) (home : HomeFields) (lbn count : ℕ) → KeepsButFree home old new → Marks true (storage_bitmap old home) lbn count old new →
+    (old new : Image) (home : HomeFields) (lbn count : ℕ) → KeepsButFree home old new →
+    Marks true (storage_bitmap old home) lbn count old new →
     lbn + count ≤ (storage_bitmap old home).size → ((k : ℕ) → lbn ≤ k → k < lbn + count → is_free old (storage_bitmap old home) k ≡ false) →
     store_of new home ≡ record (store_of old home) { free = (store_of old home).free + count }
 

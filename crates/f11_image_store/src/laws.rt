@@ -6,7 +6,7 @@ ghost use Rattle.f11_image_store.specs.FieldLaws as fields;
 ghost use Rattle.f11_image_store.specs.FileLaws as files;
 ghost use Rattle.f11_image_store.specs.FreeingLaws as freeing;
 ghost use Rattle.f11_image_store.specs.FreshStore as fresh;
-ghost use Rattle.f11_image_store.specs.LooseLaws as loose;
+ghost use Rattle.f11_image_store.specs.FilelessLaws as fileless;
 ghost use Rattle.f11_image_store.specs.NewFileLaws as new;
 ghost use Rattle.f11_image_store.specs.SlotLaws as slots;
 ghost use Rattle.f11_image_store.specs.StoreLaws as laws;
@@ -38,12 +38,12 @@ pub fn slot_writes()
     ensures any { slots.SlotIsStored }
     ensures unused { slots.UnusedSlotIsGiven }
     ensures entered { slots.FileIsEntered }
-    ensures set { slots.LooseSlotIsSet }
+    ensures set { slots.FilelessSlotIsSet }
 {}
 
 /// A write of a header where it is.
 pub fn header_writes()
-    ensures loose { slots.LooseHeaderIsWritten }
+    ensures fileless { slots.FilelessHeaderIsWritten }
     ensures killed { slots.FileIsKilled }
     ensures rewritten { slots.FileIsRewritten }
 {}
@@ -97,11 +97,11 @@ pub fn new_files()
 {}
 
 /// Headers of no file, behind one that a file was cut at, or of a file that was killed.
-pub fn loose_headers()
-    ensures unlinked { loose.LooseIsUnlinked }
-    ensures stays { loose.LooseStays }
-    ensures killed { loose.KilledLeavesLoose }
-    ensures cut { loose.CutLeavesLoose }
+pub fn fileless_headers()
+    ensures unlinked { fileless.FilelessIsUnlinked }
+    ensures stays { fileless.FilelessStays }
+    ensures killed { fileless.KilledLeavesFileless }
+    ensures cut { fileless.CutLeavesFileless }
 {}
 
 /// A header for a file that grows, which is written and entered.

@@ -8,20 +8,20 @@ use Rattle.std.proofs.lemmas.Option.{same_Some, slice_get_within, slice_get-get_
 use Rattle.f11_home.specs.Home.{HomeFields}
 use Rattle.f11_index.specs.IndexFile.{most_slots}
 use Rattle.f11_index.specs.Sound.{IsPlaced}
-use Rattle.f11_index.specs.Walk.{lbn_due, first_place, FitsAt, FitFrom, Adds}
+use Rattle.f11_index.specs.Walk.{lbn_due, first_place, FitsAt, FitFrom, AddsPlaces}
 use Rattle.f11_index.proofs.PlaceLemmas.{drop-range_with_len, take-range, take-append-back, slice_get-range, range-slice_get, slice_get-append_front, take-append_take, drop-append}
 use Rattle.f11_map.specs.MapArea.{blocks_in}
 use Rattle.f11_map.proofs.MapLemmas.{slice_get-append_back, blocks_in-append, blocks_in-drop}
 
 module _ (home : HomeFields) where
   -- none, and some behind others
-  pub Adds-none : (places : ℕ) (headers : List ℕ) → length headers ≤ most_slots home → Adds home [] places headers places headers
+  pub Adds-none : (places : ℕ) (headers : List ℕ) → length headers ≤ most_slots home → AddsPlaces home [] places headers places headers
   Adds-none places headers few = record {
     places_are = omega arith;
     headers_are = sym (ap (take (most_slots home)) (ap (λ (h : List ℕ). headers ++ h) (drop_all (first_place home - places) [] (omega arith)) ∙ append-nil headers) ∙ take_all (most_slots home) headers few);
   }
 
-  pub Adds-append : (xs ys : List ℕ) {p q r : ℕ} {hs is js : List ℕ} → Adds home xs p hs q is → Adds home ys q is r js → Adds home (xs ++ ys) p hs r js
+  pub Adds-append : (xs ys : List ℕ) {p q r : ℕ} {hs is js : List ℕ} → AddsPlaces home xs p hs q is → AddsPlaces home ys q is r js → AddsPlaces home (xs ++ ys) p hs r js
   Adds-append xs ys {p} {q} {r} {hs} {is} {js} one two =
       let most = most_slots home in
       let first = first_place home in
@@ -106,7 +106,7 @@ module _ (home : HomeFields) where
   -- a run of blocks, of which the headers were pushed
   pub Adds-run : (lbn count places : ℕ) (hs now : List ℕ) (skipped more : ℕ) → length hs ≤ most_slots home → skipped ≡ min (first_place home - places) count
       → more ≡ min (most_slots home - length hs) (count - skipped) → now ≡ hs ++ range_with_len (lbn + skipped) more
-      → Adds home (range_with_len lbn count) places hs (places + count) now
+      → AddsPlaces home (range_with_len lbn count) places hs (places + count) now
   Adds-run lbn count places hs now skipped more few skipped_is more_is now_is = record {
     places_are = omega (arith, length-range_with_len lbn count);
     headers_are = now_is ∙ sym (
@@ -115,7 +115,7 @@ module _ (home : HomeFields) where
         ∙ ap (λ (xs : List ℕ). hs ++ xs) (take-range (lbn + skipped) (count - skipped) (most_slots home - length hs) ∙ ap (range_with_len (lbn + skipped)) (sym more_is)));
   }
 
-  pub Adds-few : (lbns : List ℕ) {p q : ℕ} {hs is : List ℕ} → Adds home lbns p hs q is → length is ≤ most_slots home
+  pub Adds-few : (lbns : List ℕ) {p q : ℕ} {hs is : List ℕ} → AddsPlaces home lbns p hs q is → length is ≤ most_slots home
   Adds-few lbns {p} {hs = hs} adds = omega (arith, ap length adds.headers_are, length-take (most_slots home) (hs ++ drop (first_place home - p) lbns))
 
   -- a run of blocks fits where its end does, and each that is among the first is where it should be

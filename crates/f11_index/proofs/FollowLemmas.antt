@@ -14,10 +14,10 @@ use Rattle.f11_home.specs.Home.{HomeFields, IsSound}
 use Rattle.f11_home.specs.HomeBlock as HomeBlock
 use Rattle.f11_map.specs.HeaderBlock.{segment_number, link_of, blocks_named}
 use Rattle.f11_index.specs.Headers.{headers_of}
-use Rattle.f11_index.specs.IndexFile.{index_of, index_file, blocks_on, bit_of_slot, header_place, header_among, headers_among, most_slots, slots, first_header_lbn}
+use Rattle.f11_index.specs.IndexFile.{index_of, index_file_blocks, blocks_on, bit_of_slot, header_place, header_among, headers_among, most_slots, slots, first_header_lbn}
 use Rattle.f11_index.specs.Sound.{IsPlaced, IsIndexFile}
 use Rattle.f11_index.specs.Table.{table_in, table_of, IsNext}
-use Rattle.f11_index.specs.Walk.{LooksAlong, lbn_due, first_place, headers_with, FitFrom, Adds, AddsTo, IsDue, MayStep, IsNextDue, Steps, Misfits, IsFileOne, Follows, Strays}
+use Rattle.f11_index.specs.Walk.{LooksAlong, lbn_due, first_place, headers_with, FitFrom, AddsPlaces, AddsTo, IsDue, MayStep, IsNextDue, Steps, Misfits, IsFileOne, Follows, Strays}
 use Rattle.f11_index.specs.declared.blocks.Blocks.{Blocks}
 use Rattle.f11_index.specs.declared.walk.Due.{Due}
 use Rattle.f11_store.specs.declared.files.FileId.{FileId}
@@ -29,7 +29,7 @@ use Rattle.f11_index.proofs.HeadersLemmas.{Comes, Comes-first, Comes-next, Comes
 use Rattle.f11_index.proofs.WalkLemmas.{IsFirstAt, first-at, so_far, ends, goes_on, header_among-some, header_is, IsExpected, Arrives, arrives-first, arrives-next, whole-last}
 
 -- what was added from the start
-pub Adds-start : (home : HomeFields) (lbns : List ℕ) {p : ℕ} {hs : List ℕ} → Adds home lbns 0 [] p hs → (p ≡ length lbns) × (hs ≡ headers_among home lbns)
+pub Adds-start : (home : HomeFields) (lbns : List ℕ) {p : ℕ} {hs : List ℕ} → AddsPlaces home lbns 0 [] p hs → (p ≡ length lbns) × (hs ≡ headers_among home lbns)
 Adds-start home lbns adds =
     let all : first_place home - 0 ≡ 2 + home.index_blocks = omega arith in
     (omega (arith, adds.places_are), adds.headers_are ∙ ap (λ (n : ℕ). take (most_slots home) (drop n lbns)) all)
@@ -74,23 +74,23 @@ module _ (image : Image) (honest : Bool) (home : HomeFields) (bitmap : List (Lis
   -- The walk before the header of this segment.
   pub record Walking (due : Due) (segment : ℕ) (blocks : Blocks) : Type 0 where
     pub lbns : List ℕ
-    pub adds : Adds home lbns 0 [] blocks.places blocks.headers.items
+    pub adds : AddsPlaces home lbns 0 [] blocks.places blocks.headers.items
     pub fit : FitFrom home (length image) 0 lbns
     pub few : blocks.places ≤ 32512 * segment
     pub some : 0 < due.number
     pub number : due.number ≤ most_slots home
     pub within : due.lbn < length image
-    pub walks : IsTrue honest → index_file image home ≡ blocks_on (256 - segment) image home lbns (Some due.lbn)
-    pub arrives : IsTrue honest → IsFirstAt home (index_file image home) → Arrives image home due.number due.sequence segment due.lbn
+    pub walks : IsTrue honest → index_file_blocks image home ≡ blocks_on (256 - segment) image home lbns (Some due.lbn)
+    pub arrives : IsTrue honest → IsFirstAt home (index_file_blocks image home) → Arrives image home due.number due.sequence segment due.lbn
     pub behind : List ℕ
     pub comes : IsTrue honest → Comes (table_of image home) 1 due.number segment behind
 
   pub walking-first : (due : Due) (blocks : Blocks) → IsSound home (length image) → blocks.places ≡ 0 → blocks.headers.items ≡ []
       → due ≡ record { lbn = first_header_lbn home; number = 1; sequence = 1 } → Walking due 0 blocks
-  unfolding index_file
+  unfolding index_file_blocks
   walking-first due blocks sound none_places none_headers is = record {
     lbns = [];
-    adds = subst (λ (p : ℕ). Adds home [] 0 [] p blocks.headers.items) (sym none_places) (subst (λ (h : List ℕ). Adds home [] 0 [] 0 h) (sym none_headers) (Adds-none home 0 [] (omega arith)));
+    adds = subst (λ (p : ℕ). AddsPlaces home [] 0 [] p blocks.headers.items) (sym none_places) (subst (λ (h : List ℕ). AddsPlaces home [] 0 [] 0 h) (sym none_headers) (Adds-none home 0 [] (omega arith)));
     fit = FitFrom-none home (length image) 0;
     few = omega arith;
     some = omega (arith, ap (λ (d : Due). d.number) is);
@@ -117,8 +117,8 @@ module _ (image : Image) (honest : Bool) (home : HomeFields) (bitmap : List (Lis
     in_slots : due.number ≤ slots (index_of image home)
     unfolding index_of
     in_slots =
-        let within = slice_get_within (index_file image home) (header_place home due.number) due.lbn here.place in
-        omega (arith, within, here.some, here.few, length-take (most_slots home) (drop (2 + home.index_blocks) (index_file image home)), length-drop (2 + home.index_blocks) (index_file image home))
+        let within = slice_get_within (index_file_blocks image home) (header_place home due.number) due.lbn here.place in
+        omega (arith, within, here.some, here.few, length-take (most_slots home) (drop (2 + home.index_blocks) (index_file_blocks image home)), length-drop (2 + home.index_blocks) (index_file_blocks image home))
 
     -- what the code tests is what is expected
     pub due-expected : IsDue bitmap due segment header → IsExpected image home due.number due.sequence segment
@@ -147,17 +147,17 @@ module _ (image : Image) (honest : Bool) (home : HomeFields) (bitmap : List (Lis
     more header = w.lbns ++ blocks_named header
 
     walks_on : (header : List ℕ) → IsTrue honest → image_block image due.lbn ≡ header
-        → index_file image home ≡ blocks_on (256 - (segment + 1)) image home (more header) (header_among home (more header) (link_of header).number)
+        → index_file_blocks image home ≡ blocks_on (256 - (segment + 1)) image home (more header) (header_among home (more header) (link_of header).number)
     walks_on header is read =
         let left : 256 - segment ≡ suc (256 - (segment + 1)) = omega arith in
         w.walks is ∙ ap (λ (n : ℕ). blocks_on n image home w.lbns (Some due.lbn)) left ∙ goes_on (256 - (segment + 1)) image home w.lbns due.lbn header read
 
-    adds_more : (header : List ℕ) → AddsTo home (blocks_named header) before after → Adds home (more header) 0 [] after.places after.headers.items
+    adds_more : (header : List ℕ) → AddsTo home (blocks_named header) before after → AddsPlaces home (more header) 0 [] after.places after.headers.items
     adds_more header adds = Adds-append home w.lbns (blocks_named header) w.adds adds
 
     with_is : (header : List ℕ) → headers_with home (blocks_named header) before.places before.headers.items ≡ headers_among home (more header)
     with_is header =
-        let adds : Adds home (blocks_named header) before.places before.headers.items (before.places + length (blocks_named header)) (headers_with home (blocks_named header) before.places before.headers.items) =
+        let adds : AddsPlaces home (blocks_named header) before.places before.headers.items (before.places + length (blocks_named header)) (headers_with home (blocks_named header) before.places before.headers.items) =
         record { places_are = refl; headers_are = refl } in
         (Adds-start home (more header) (Adds-append home w.lbns (blocks_named header) w.adds adds)).1
 
@@ -178,7 +178,7 @@ module _ (image : Image) (honest : Bool) (home : HomeFields) (bitmap : List (Lis
 
     -- so header 1 is where it should be
     first_is : (header : List ℕ) (next : Due) → IsTrue honest → image_block image due.lbn ≡ header → AddsTo home (blocks_named header) before after
-        → IsNextDue after.headers.items (link_of header) (Some next) → FitFrom home (length image) before.places (blocks_named header) → IsFirstAt home (index_file image home)
+        → IsNextDue after.headers.items (link_of header) (Some next) → FitFrom home (length image) before.places (blocks_named header) → IsFirstAt home (index_file_blocks image home)
     first_is header next is read adds (some, (few, same)) fit =
         let kept = (Adds-start home (more header) (adds_more header adds)).1 in
         let inside : header_place home 1 < length (more header) =
@@ -219,7 +219,7 @@ module _ (image : Image) (honest : Bool) (home : HomeFields) (bitmap : List (Lis
               let expected = due-expected due segment s.header here (s.read honest_is) (bits honest_is) s.may.is_due in
               let same = table_header due segment s.header here (s.read honest_is) (bits honest_is) in
               let link_is : link_of ((table_of image home).header due.number) ≡ link_of s.header = ap link_of same in
-              let all_at : slice_get (index_file image home) (header_place home (link_of s.header).number) ≡ Some next.lbn =
+              let all_at : slice_get (index_file_blocks image home) (header_place home (link_of s.header).number) ≡ Some next.lbn =
               ap (λ (xs : List ℕ). slice_get xs (header_place home (link_of s.header).number)) (walks_on s.header honest_is (s.read honest_is))
               ∙ so_far (256 - (segment + 1)) image home (more s.header) (header_among home (more s.header) (link_of s.header).number) (header_place home (link_of s.header).number) next.lbn at in
               let number_is = ap (λ (i : FileId). i.number) link_is in
@@ -227,7 +227,7 @@ module _ (image : Image) (honest : Bool) (home : HomeFields) (bitmap : List (Lis
               subst (λ (to : FileId). Arrives image home to.number to.sequence (segment + 1) next.lbn) link_is
               (arrives-next image home due.number due.sequence segment due.lbn next.lbn here expected
               (λ none. omega (arith, none, number_is, s.next_is.0)) (omega (arith, number_is, few))
-              (ap (λ (n : ℕ). slice_get (index_file image home) (header_place home n)) number_is ∙ all_at)) in
+              (ap (λ (n : ℕ). slice_get (index_file_blocks image home) (header_place home n)) number_is ∙ all_at)) in
               subst (λ (n : ℕ). Arrives image home n next.sequence (segment + 1) next.lbn) (sym number)
               (subst (λ (q : ℕ). Arrives image home (link_of s.header).number q (segment + 1) next.lbn) (sym (ap (λ (d : Due). d.sequence) is)) goes);
         }
@@ -239,9 +239,9 @@ module _ (image : Image) (honest : Bool) (home : HomeFields) (bitmap : List (Lis
     -- All headers were read.
     pub record Walked (blocks : Blocks) : Type 0 where
       pub lbns : List ℕ
-      pub adds : Adds home lbns 0 [] blocks.places blocks.headers.items
+      pub adds : AddsPlaces home lbns 0 [] blocks.places blocks.headers.items
       pub fit : FitFrom home (length image) 0 lbns
-      pub is_file : IsTrue honest → lbns ≡ index_file image home
+      pub is_file : IsTrue honest → lbns ≡ index_file_blocks image home
       pub whole : IsTrue honest → IsPlaced home lbns → IsFileOne image home
 
     pub walked : StepsIn image honest home bitmap due segment before after None → Walked after
@@ -258,7 +258,7 @@ module _ (image : Image) (honest : Bool) (home : HomeFields) (bitmap : List (Lis
           record { whole = whole-last image home due.number due.sequence segment due.lbn here expected none; sequence = here.last expected };
     }
       where
-        same : IsTrue honest → more s.header ≡ index_file image home
+        same : IsTrue honest → more s.header ≡ index_file_blocks image home
         same honest_is = sym (
             walks_on s.header honest_is (s.read honest_is)
             ∙ ap (blocks_on (256 - (segment + 1)) image home (more s.header)) (none_after s.header s.next_is)
@@ -269,8 +269,8 @@ module _ (image : Image) (honest : Bool) (home : HomeFields) (bitmap : List (Lis
       abbrev header : List ℕ
       header = image_block image due.lbn
 
-      fit_all : FitFrom home (length image) 0 (index_file image home)
-      fit_all = fit-IsPlaced home (length image) (index_file image home) good.within good.placed
+      fit_all : FitFrom home (length image) 0 (index_file_blocks image home)
+      fit_all = fit-IsPlaced home (length image) (index_file_blocks image home) good.within good.placed
 
       front : FitFrom home (length image) 0 (more header)
       front = record {
@@ -280,7 +280,7 @@ module _ (image : Image) (honest : Bool) (home : HomeFields) (bitmap : List (Lis
       }
 
       here : Arrives image home due.number due.sequence segment due.lbn
-      here = w.arrives honest_is (first-at home (index_file image home) good.placed)
+      here = w.arrives honest_is (first-at home (index_file_blocks image home) good.placed)
 
       expected : IsExpected image home due.number due.sequence segment
       expected = here.due good
@@ -297,14 +297,14 @@ module _ (image : Image) (honest : Bool) (home : HomeFields) (bitmap : List (Lis
           few,
           within,
           some,
-          length-take (most_slots home) (drop (2 + home.index_blocks) (index_file image home)),
+          length-take (most_slots home) (drop (2 + home.index_blocks) (index_file_blocks image home)),
           length-take (most_slots home) (drop (2 + home.index_blocks) (more header)),
           length-drop (2 + home.index_blocks) (more header),
         )
         | inr past ↦
             let none : header_among home (more header) (link_of header).number ≡ None =
             ap (header_among home (more header)) is ∙ header_among-some home (more header) m some ∙ slice_get_past (more header) (header_place home m) past in
-            let all : index_file image home ≡ more header =
+            let all : index_file_blocks image home ≡ more header =
             walks_on header honest_is refl ∙ ap (blocks_on (256 - (segment + 1)) image home (more header)) none ∙ ends (256 - (segment + 1)) image home (more header) in
             omega (arith, few, ap (λ (xs : List ℕ). length (headers_among home xs)) all)
       ]
@@ -338,7 +338,7 @@ module _ (image : Image) (honest : Bool) (home : HomeFields) (bitmap : List (Lis
   -- A file has no segment 256: its number is a byte.
   pub walking-out : (due : Due) (blocks : Blocks) → Walking due 256 blocks → IsImage image → IsTrue honest → ¬ IsIndexFile image home
   walking-out due blocks w is_image honest_is good =
-      let here = w.arrives honest_is (first-at home (index_file image home) good.placed) in
+      let here = w.arrives honest_is (first-at home (index_file_blocks image home) good.placed) in
       let small = segment_number-byte image due.lbn is_image in
       let number = ap segment_number (header_is image home due.number due.lbn here.some here.few here.place) ∙ refl in
       absurd (omega (arith, small, number, (here.due good).segment_is))

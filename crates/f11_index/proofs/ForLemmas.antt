@@ -8,8 +8,8 @@ use Rattle.f11_dev.specs.Image.{Image}
 use Rattle.f11_home.specs.Home.{HomeFields}
 use Rattle.f11_index.specs.Calls.{SetsBit, WritesBit, bitmap_place, bitmap_block, with_blocks_behind}
 use Rattle.f11_index.specs.Growth.{GrowsIndexFile, with_header}
-use Rattle.f11_index.specs.IndexFile.{Index, index_of, index_file, slots, header_lbn}
-use Rattle.f11_index.specs.Kept.{IsFor, LiesWithin}
+use Rattle.f11_index.specs.IndexFile.{Index, index_of, index_file_blocks, slots, header_lbn}
+use Rattle.f11_index.specs.Kept.{IsIndexFor, IndexLiesWithin}
 use Rattle.f11_index.specs.Laws.{LeadsAlike}
 use Rattle.f11_index.specs.Table.{table_of, IsHeaderOf}
 use Rattle.f11_index.specs.Sound.{IsIndexFile, IsNoneOf, AreApart}
@@ -18,15 +18,15 @@ use Rattle.f11_index.proofs.PlaceLemmas.{range-below}
 
 -- another block was written
 pub IsFor-other : (index : Index) (home : HomeFields) (disk : Disk) (passed : Bool) (lbn : ℕ) (block : List ℕ)
-    → (IsTrue disk.honest → IsIndexFile disk.image home × IsNoneOf lbn (index_file disk.image home)) → IsFor index home disk → IsFor index home (with_transfer passed (with_block_at lbn block disk))
+    → (IsTrue disk.honest → IsIndexFile disk.image home × IsNoneOf lbn (index_file_blocks disk.image home)) → IsIndexFor index home disk → IsIndexFor index home (with_transfer passed (with_block_at lbn block disk))
 IsFor-other index home disk passed lbn block apart is = record {
-  within = subst (LiesWithin index) (sym (length-set disk.image lbn block)) is.within;
+  within = subst (IndexLiesWithin index) (sym (length-set disk.image lbn block)) is.within;
   keeps = λ honest. is.keeps honest ∙ sym (other_write disk.image home (apart honest).0 lbn block (apart honest).1).index;
 }
 
 -- the bitmap block of a slot was written
 pub IsFor-bit : (before after : Index) (home : HomeFields) (old new : Disk) (value : Bool) (n : ℕ)
-    → (IsTrue old.honest → IsIndexFile old.image home × AreApart (index_file old.image home)) → 0 < n → n ≤ slots before → IsFor before home old → WritesBit value n before after old new → IsFor after home new
+    → (IsTrue old.honest → IsIndexFile old.image home × AreApart (index_file_blocks old.image home)) → 0 < n → n ≤ slots before → IsIndexFor before home old → WritesBit value n before after old new → IsIndexFor after home new
 IsFor-bit before after home old new value n good some few is w = record {
   within = record {
     bitmap = omega (arith, size, is.within.bitmap, ap (λ (x : Index). x.bitmap_lbn) w.bit.one_block, ap (λ (x : Index). length x.bitmap) w.bit.one_block, length-set before.bitmap (bitmap_place n) (bitmap_block after n));
@@ -44,11 +44,11 @@ IsFor-bit before after home old new value n good some few is w = record {
 
 -- a header was written where it is
 pub IsFor-header : (index : Index) (home : HomeFields) (disk : Disk) (passed : Bool) (n : ℕ) (block : List ℕ)
-    → (IsTrue disk.honest → IsIndexFile disk.image home × AreApart (index_file disk.image home))
+    → (IsTrue disk.honest → IsIndexFile disk.image home × AreApart (index_file_blocks disk.image home))
     → (IsTrue disk.honest → IsHeaderOf (table_of disk.image home) 1 n → LeadsAlike ((table_of disk.image home).header n) block)
-    → 0 < n → n ≤ slots index → IsFor index home disk → IsFor index home (with_transfer passed (with_block_at (header_lbn index n) block disk))
+    → 0 < n → n ≤ slots index → IsIndexFor index home disk → IsIndexFor index home (with_transfer passed (with_block_at (header_lbn index n) block disk))
 IsFor-header index home disk passed n block good leads some few is = record {
-  within = subst (LiesWithin index) (sym (length-set disk.image (header_lbn index n) block)) is.within;
+  within = subst (IndexLiesWithin index) (sym (length-set disk.image (header_lbn index n) block)) is.within;
   keeps = λ honest.
       let same = is.keeps honest in
       let kept = header_write disk.image home (good honest).0 n block (good honest).1 some (subst (λ (x : Index). n ≤ slots x) same few) (leads honest) in
@@ -58,7 +58,7 @@ IsFor-header index home disk passed n block good leads some few is = record {
 -- the index file grew
 pub IsFor-grown : (index : Index) (home : HomeFields) (disk : Disk) (passed : Bool) (n : ℕ) (block : List ℕ) (lbn count : ℕ)
     → (IsTrue disk.honest → GrowsIndexFile home n block lbn count disk.image (with_header disk.image home n block))
-    → lbn + count ≤ length disk.image → IsFor index home disk → IsFor (with_blocks_behind index lbn count) home (with_transfer passed (with_block_at (header_lbn index n) block disk))
+    → lbn + count ≤ length disk.image → IsIndexFor index home disk → IsIndexFor (with_blocks_behind index lbn count) home (with_transfer passed (with_block_at (header_lbn index n) block disk))
 IsFor-grown index home disk passed n block lbn count grows within is = record {
   within = record {
     bitmap = omega (arith, is.within.bitmap, size);

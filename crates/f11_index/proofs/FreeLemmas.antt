@@ -12,7 +12,7 @@ use Rattle.std.specs.Int.{bit_at}
 use Rattle.std.proofs.lemmas.Nat.Bits.{bit_at_ones}
 use Rattle.f11_bytes.specs.Bits.{bit}
 use Rattle.f11_bytes.specs.Words.{word}
-use Rattle.f11_index.specs.IndexFile.{Index, slots, is_in_use, bit_of_slot, free_slots}
+use Rattle.f11_index.specs.IndexFile.{Index, slots, is_in_use, bit_of_slot, free_slots_in}
 use Rattle.f11_index.specs.Slots.{IsLeastFree, free_between}
 use Rattle.f11_index.proofs.BitLemmas.{is_in_use-within}
 use Rattle.f11_index.proofs.PlaceLemmas.{slice_get-append_front}
@@ -96,19 +96,19 @@ module _ (index : Index) where
       ∙ ap (λ (n : ℕ). free_between index 6 (min (slots index + 1) (16 * suc word + 1)) ++ free_between index n (min (slots index + 1) (16 * suc word + 17))) (sym from)
 
   -- all words
-  pub between-all : (words : ℕ) → slots index ≤ 16 * words → free_between index 6 (min (slots index + 1) (16 * words + 1)) ≡ free_slots index
+  pub between-all : (words : ℕ) → slots index ≤ 16 * words → free_between index 6 (min (slots index + 1) (16 * words + 1)) ≡ free_slots_in index
   between-all words all =
       let count : min (slots index + 1) (16 * words + 1) - 6 ≡ slots index - 5 = omega arith in
       ap (λ (n : ℕ). filter free (range_with_len 6 n)) count
 
   -- the first free slot is in this word, where none is in those before it
   pub word-first : (word n : ℕ) → 16 ≤ slots index → 16 * word < slots index → free_between index 6 (min (slots index + 1) (16 * word + 1)) ≡ []
-      → Some n ≡ slice_get (free_between index (max 6 (16 * word + 1)) (min (slots index + 1) (16 * word + 17))) 0 → Some n ≡ slice_get (free_slots index) 0
+      → Some n ≡ slice_get (free_between index (max 6 (16 * word + 1)) (min (slots index + 1) (16 * word + 17))) 0 → Some n ≡ slice_get (free_slots_in index) 0
   word-first word n first some none here =
       let last : ℕ = min (slots index + 1) (16 * (word + 1) + 1) in
       let so_far : free_between index 6 last ≡ free_between index (max 6 (16 * word + 1)) (min (slots index + 1) (16 * word + 17)) =
       between-next word first some ∙ ap (λ (xs : List ℕ). xs ++ free_between index (max 6 (16 * word + 1)) (min (slots index + 1) (16 * word + 17))) none in
-      let all : free_slots index ≡ free_between index 6 last ++ free_between index last (slots index + 1) =
+      let all : free_slots_in index ≡ free_between index 6 last ++ free_between index last (slots index + 1) =
       sym (between-all (slots index) (omega arith)) ∙ ap (free_between index 6) (omega arith) ∙ between-append 6 last (slots index + 1) (omega arith) (omega arith) in
       sym (ap (λ (xs : List ℕ). slice_get xs 0) all ∙ slice_get-append_front (free_between index 6 last) (free_between index last (slots index + 1)) 0 n (ap (λ (xs : List ℕ). slice_get xs 0) so_far ∙ sym here))
 
@@ -161,7 +161,7 @@ not-true true is = cc
 not-true false is = refl
 
 -- the least free slot
-pub least-free : (index : Index) (n : ℕ) → slice_get (free_slots index) 0 ≡ Some n → IsLeastFree index n
+pub least-free : (index : Index) (n : ℕ) → slice_get (free_slots_in index) 0 ≡ Some n → IsLeastFree index n
 least-free index n is =
     let kept = kept-first (λ m. not (is_in_use index m)) (slots index - 5) 6 n is in
     record { first = is; low = kept.0.0; high = omega (arith, kept.0.0, kept.0.1); unused = not-true (is_in_use index n) kept.1 }

@@ -17,7 +17,7 @@ use Rattle.f11_index.specs.ChangeLaws.{IsAsGood}
 use Rattle.f11_index.specs.Growth.{IsGoodFor, MayNameMore, MayLinkOn, GrowsIndexFile, with_header}
 use Rattle.f11_map.specs.HeaderBlock.{segment_number, link_of, blocks_named}
 use Rattle.f11_index.specs.Headers.{IsLastOf}
-use Rattle.f11_index.specs.IndexFile.{Index, index_of, index_file, blocks_on, header_place, header_among, header_lbn, headers_among, most_slots, slots, slot_bit, is_in_use, first_header_lbn, HasNonePast}
+use Rattle.f11_index.specs.IndexFile.{Index, index_of, index_file_blocks, blocks_on, header_place, header_among, header_lbn, headers_among, most_slots, slots, slot_bit, is_in_use, first_header_lbn, HasNonePast}
 use Rattle.f11_index.specs.Sound.{IsIndexFile, AreApart}
 use Rattle.f11_index.specs.Table.{Table, table_in, table_of, IsLive, IsNext, IsHeaderOf, first, next}
 use Rattle.f11_index.proofs.BitLemmas.{is_in_use-within, is_in_use-past, is_in_use-none}
@@ -33,7 +33,7 @@ module _ (image : Image) (home : HomeFields) (good : IsIndexFile image home) whe
   t = table_of image home
 
   abbrev all : List ℕ
-  all = index_file image home
+  all = index_file_blocks image home
 
   abbrev index : Index
   index = index_of image home
@@ -85,8 +85,8 @@ module _ (image : Image) (home : HomeFields) (good : IsIndexFile image home) whe
               ]
         ]
 
-    pub file-grown : index_file new home ≡ all ++ more
-    unfolding index_file Grown
+    pub file-grown : index_file_blocks new home ≡ all ++ more
+    unfolding index_file_blocks Grown
     file-grown = from-header 256 [] 1 (first_header_lbn home) (first good.whole.file) (omega (arith, good.whole.file.first)) (first-at home all good.placed) refl
 
   -- The last header is written where it is.
@@ -123,7 +123,7 @@ module _ (image : Image) (home : HomeFields) (good : IsIndexFile image home) whe
     lbn_is m l some_m few at = same_Some l (header_lbn index m) (sym at ∙ found_at m some_m few)
 
     -- What the index file says then, where it has these blocks more.
-    module _ (lbn count : ℕ) (file : index_file new home ≡ all ++ range_with_len lbn count) where
+    module _ (lbn count : ℕ) (file : index_file_blocks new home ≡ all ++ range_with_len lbn count) where
       abbrev more : List ℕ
       more = range_with_len lbn count
 
@@ -134,7 +134,7 @@ module _ (image : Image) (home : HomeFields) (good : IsIndexFile image home) whe
       unfolding index_of
       most_is = omega (arith, length-map-range_with_len (image_block image) home.index_lbn home.index_blocks)
 
-      headers_new : headers_among home (index_file new home) ≡ take (most_slots home) (index.headers ++ more)
+      headers_new : headers_among home (index_file_blocks new home) ≡ take (most_slots home) (index.headers ++ more)
       unfolding index_of
       headers_new =
           let skip : ℕ = 2 + home.index_blocks in
@@ -150,7 +150,7 @@ module _ (image : Image) (home : HomeFields) (good : IsIndexFile image home) whe
       index_new : index_of new home ≡ grown
       unfolding index_of
       index_new =
-          ap (λ (b : List (List ℕ)). record { bitmap_lbn = home.index_lbn; bitmap = b; headers = headers_among home (index_file new home) }) bitmap_is
+          ap (λ (b : List (List ℕ)). record { bitmap_lbn = home.index_lbn; bitmap = b; headers = headers_among home (index_file_blocks new home) }) bitmap_is
           ∙ ap (λ (h : List ℕ). record { bitmap_lbn = home.index_lbn; bitmap = index.bitmap; headers = h }) (headers_new ∙ ap (λ (k : ℕ). take k (index.headers ++ more)) (sym most_is))
 
       more_slots : slots index ≤ slots grown
@@ -261,7 +261,7 @@ module _ (image : Image) (home : HomeFields) (good : IsIndexFile image home) whe
           };
         }
           where
-            front : (i l : ℕ) → slice_get all i ≡ Some l → slice_get (index_file new home) i ≡ Some l
+            front : (i l : ℕ) → slice_get all i ≡ Some l → slice_get (index_file_blocks new home) i ≡ Some l
             front i l at = ap (λ (xs : List ℕ). slice_get xs i) file ∙ slice_get-append_front all more i l at
 
   -- It names more blocks.
@@ -271,7 +271,7 @@ module _ (image : Image) (home : HomeFields) (good : IsIndexFile image home) whe
       let slot = in_use-within image home n (live_of-header may.last.of).in_use in
       let new : Image = set image (header_lbn index n) block in
       let more : List ℕ = range_with_len lbn count in
-      let file : index_file new home ≡ all ++ more =
+      let file : index_file_blocks new home ≡ all ++ more =
       file-grown n may.last may.few new more
       (λ m l of other at. stays_at apart n slot.0 slot.1 block m l (in_use-within image home m (live_of-header of).in_use).0 other at)
       (λ most known l left at so.
@@ -298,7 +298,7 @@ module _ (image : Image) (home : HomeFields) (good : IsIndexFile image home) whe
       stays_at apart n slot.0 slot.1 block m (header_lbn index m) slot_m.0 other at_m ∙ sym (header_is image home m (header_lbn index m) slot_m.0 (omega (arith, slot_m.1, few-slots image home)) at_m) in
       let among_m : header_among home all (link_of block).number ≡ Some (header_lbn index m) = ap (header_among home all) may.number ∙ header_among-some home all m slot_m.0 ∙ at_m in
       let none : header_among home (all ++ blocks_named (t.header m)) (link_number t m) ≡ None = ap (header_among home (all ++ blocks_named (t.header m))) may.no_link in
-      let file : index_file new home ≡ all ++ more =
+      let file : index_file_blocks new home ≡ all ++ more =
       file-grown n may.last (omega (arith, may.few)) new more
       (λ x l of apart_n at. stays_at apart n slot.0 slot.1 block x l (in_use-within image home x (live_of-header of).in_use).0 apart_n at)
       (λ most known l left at so.

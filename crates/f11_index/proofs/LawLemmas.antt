@@ -10,7 +10,7 @@ use Rattle.f11_dev.proofs.ImageLemmas.{image_block-written, image_block-other}
 use Rattle.f11_home.specs.Home.{HomeFields}
 use Rattle.f11_index.specs.Calls.{SetsBit, with_bitmap_block, bitmap_block, bitmap_place}
 use Rattle.f11_map.specs.HeaderBlock.{link_of, blocks_named}
-use Rattle.f11_index.specs.IndexFile.{Index, index_of, index_file, headers_among, header_lbn, header_place, most_slots, slots, is_in_use}
+use Rattle.f11_index.specs.IndexFile.{Index, index_of, index_file_blocks, headers_among, header_lbn, header_place, most_slots, slots, is_in_use}
 use Rattle.f11_index.specs.Laws.{BlocksStay, LeadsAlike, KeepsIndexFile, KeepsButBit, KeepsButHeader}
 use Rattle.f11_index.specs.Sound.{IsPlaced, IsIndexFile, IsNoneOf, AreApart}
 use Rattle.f11_index.specs.Table.{table_in, table_of, IsHeaderOf, IsWholeFile, last_sequence}
@@ -50,7 +50,7 @@ map-set f g b (suc n) a (suc p) within one others =
 
 module _ (image : Image) (home : HomeFields) (good : IsIndexFile image home) where
   abbrev all : List ℕ
-  all = index_file image home
+  all = index_file_blocks image home
 
   abbrev index : Index
   index = index_of image home
@@ -86,7 +86,7 @@ module _ (image : Image) (home : HomeFields) (good : IsIndexFile image home) whe
   bitmap_at i few = good.placed.bitmap_and_headers i (omega arith)
 
   module _ (new : Image) where
-    headers_same : index_file new home ≡ all → (index_of new home).headers ≡ index.headers
+    headers_same : index_file_blocks new home ≡ all → (index_of new home).headers ≡ index.headers
     unfolding index_of
     headers_same file = ap (headers_among home) file
 
@@ -102,7 +102,7 @@ module _ (image : Image) (home : HomeFields) (good : IsIndexFile image home) whe
 
     -- an image that has the index file's blocks as they were
     module _ (size : length new ≡ length image) (stay : BlocksStay all image new) where
-      file : index_file new home ≡ all
+      file : index_file_blocks new home ≡ all
       file = file_same image new home good (λ m l of at.
           let is = stay (header_place home m) l at in record { blocks = ap blocks_named is; link = ap link_of is })
 
@@ -173,7 +173,7 @@ module _ (image : Image) (home : HomeFields) (good : IsIndexFile image home) whe
     pub at : slice_get all (2 + bitmap_place n) ≡ Some lbn
     at = bitmap_at (bitmap_place n) within ∙ ap Some (sym lbn_is)
 
-    bit_file : index_file (new lbn block) home ≡ all
+    bit_file : index_file_blocks (new lbn block) home ≡ all
     bit_file = file_same image (new lbn block) home good (λ m l of here.
         alike lbn block l (elsewhere lbn block apart (2 + bitmap_place n) at (header_place home m) l here
         (λ e. omega (arith, within, e, (in_use-within image home m (live_of-header of).in_use).0))))
@@ -236,7 +236,7 @@ module _ (image : Image) (home : HomeFields) (good : IsIndexFile image home) whe
           (λ e. other (omega (arith, e, some, (in_use-within image home m (live_of-header of).in_use).0))))
     ]
 
-    header_file : index_file header_new home ≡ all
+    header_file : index_file_blocks header_new home ≡ all
     header_file = file_same image header_new home good each_alike
 
     header_index : index_of header_new home ≡ index

@@ -7,8 +7,8 @@ use Rattle.f11_dev.specs.Disk.{Disk}
 use Rattle.f11_dev.specs.Image.{Image}
 use Rattle.f11_dev.specs.Looked.{Looked}
 use Rattle.f11_home.specs.Home.{HomeFields, IsSound}
-use Rattle.f11_index.specs.Calls.{Reads, Loads, FindsMisplaced, FindsPast, LooksThrough}
-use Rattle.f11_index.specs.IndexFile.{Index, index_of, index_file, headers_among, most_slots, IsFirstPast, HasNonePast}
+use Rattle.f11_index.specs.Calls.{ReadsIndex, Loads, FindsMisplaced, FindsPast, LooksThrough}
+use Rattle.f11_index.specs.IndexFile.{Index, index_of, index_file_blocks, headers_among, most_slots, IsFirstPast, HasNonePast}
 use Rattle.f11_index.specs.Sound.{IsPlaced, IsIndexFile}
 use Rattle.f11_index.specs.Walk.{first_place, ReadsBitmap, Follows}
 use Rattle.f11_index.specs.declared.blocks.Blocks.{Blocks}
@@ -28,14 +28,14 @@ module _ (old now new : Disk) (home : HomeFields) (bitmap : List (List ℕ)) (bl
   headers_are : blocks.headers.items ≡ headers_among home f.lbns
   headers_are = (Adds-start home f.lbns f.adds).1
 
-  file_is : IsTrue old.honest → f.lbns ≡ index_file old.image home
-  file_is honest = f.is_file (reads.looked.honest ∙ honest) ∙ ap (λ (image : Image). index_file image home) reads.looked.image
+  file_is : IsTrue old.honest → f.lbns ≡ index_file_blocks old.image home
+  file_is honest = f.is_file (reads.looked.honest ∙ honest) ∙ ap (λ (image : Image). index_file_blocks image home) reads.looked.image
 
   -- too few blocks
   pub finds_few : blocks.places < first_place home + 16 → FindsMisplaced home old new
   finds_few few = record {
     misplaced = λ honest good.
-        let last = slice_get_within (index_file old.image home) _ _ (good.placed.bitmap_and_headers (home.index_blocks + 15) (omega arith)) in
+        let last = slice_get_within (index_file_blocks old.image home) _ _ (good.placed.bitmap_and_headers (home.index_blocks + 15) (omega arith)) in
         absurd (omega (arith, last, few, (Adds-start home f.lbns f.adds).0, ap length (file_is honest)));
     looked = looks-all;
   }
@@ -65,7 +65,7 @@ module _ (old now new : Disk) (home : HomeFields) (bitmap : List (List ℕ)) (bl
         ap (λ (b : List (List ℕ)). record { bitmap_lbn = home.index_lbn; bitmap = b; headers = blocks.headers.items }) (reads.blocks honest)
         ∙ ap (λ (h : List ℕ). record { bitmap_lbn = home.index_lbn; bitmap = (index_of old.image home).bitmap; headers = h }) (headers_are ∙ ap (headers_among home) (file_is honest))
 
-    pub reads_all : Reads home kept old new
+    pub reads_all : ReadsIndex home kept old new
     reads_all = record {
       sound = good;
       is_for = record {
@@ -81,7 +81,7 @@ module _ (old now new : Disk) (home : HomeFields) (bitmap : List (List ℕ)) (bl
     }
 
 -- a bit past the slots is 1
-pub finds_past : (home : HomeFields) (index : Index) (old new : Disk) (n : ℕ) → Reads home index old new → IsFirstPast index n → FindsPast home n old new
+pub finds_past : (home : HomeFields) (index : Index) (old new : Disk) (n : ℕ) → ReadsIndex home index old new → IsFirstPast index n → FindsPast home n old new
 finds_past home index old new n reads is = record {
   sound = reads.sound;
   first = λ honest. subst (λ (i : Index). IsFirstPast i n) (reads.is_for.keeps (reads.looked.looked.honest ∙ honest) ∙ ap (λ (image : Image). index_of image home) reads.looked.looked.image) is;
@@ -89,5 +89,5 @@ finds_past home index old new n reads is = record {
 }
 
 -- none is
-pub loads : (home : HomeFields) (index : Index) (old new : Disk) → Reads home index old new → HasNonePast index → Loads home index old new
+pub loads : (home : HomeFields) (index : Index) (old new : Disk) → ReadsIndex home index old new → HasNonePast index → Loads home index old new
 loads home index old new reads none = record { sound = reads.sound; none_past = none; is_for = reads.is_for; looked = reads.looked }

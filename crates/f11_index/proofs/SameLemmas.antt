@@ -4,7 +4,7 @@ use Rattle.std.specs.List.{slice_get}
 use Rattle.f11_dev.specs.Image.{Image, image_block}
 use Rattle.f11_home.specs.Home.{HomeFields}
 use Rattle.f11_map.specs.HeaderBlock.{link_of, blocks_named}
-use Rattle.f11_index.specs.IndexFile.{index_file, blocks_on, header_place, header_among, first_header_lbn}
+use Rattle.f11_index.specs.IndexFile.{index_file_blocks, blocks_on, header_place, header_among, first_header_lbn}
 use Rattle.f11_index.specs.Laws.{LeadsAlike}
 use Rattle.f11_index.specs.Sound.{IsIndexFile}
 use Rattle.f11_index.specs.Table.{table_of, IsHeaderOf, first, next}
@@ -14,7 +14,7 @@ use Rattle.f11_index.proofs.WalkLemmas.{so_far, ends, header_among-some, header_
 
 module _ (image new : Image) (home : HomeFields) (good : IsIndexFile image home) where
   abbrev all : List ℕ
-  all = index_file image home
+  all = index_file_blocks image home
 
   -- a header of the index file links to another, or to none
   next_of : (m : ℕ) → IsHeaderOf (table_of image home) 1 m → (k : ℕ) → (link_of ((table_of image home).header m)).number ≡ k → (k ≡ 0) ⊎ IsHeaderOf (table_of image home) 1 k
@@ -61,8 +61,8 @@ module _ (image new : Image) (home : HomeFields) (good : IsIndexFile image home)
         ∙ ap (λ (k : ℕ). blocks_on most new home (known ++ blocks_named header) (header_among home (known ++ blocks_named header) k)) number
         ∙ along most (from_header most) (known ++ blocks_named header) (link_of header).number (next_of m of (link_of header).number table_number) (header_among home (known ++ blocks_named header) (link_of header).number) refl so
 
-    pub file_same : index_file new home ≡ all
-    unfolding index_file Same
+    pub file_same : index_file_blocks new home ≡ all
+    unfolding index_file_blocks Same
     file_same = from_header 256 [] 1 (first_header_lbn home) (first good.whole.file) (ap (slice_get all) place ∙ good.placed.bitmap_and_headers home.index_blocks (omega arith)) refl
       where
         place : header_place home 1 ≡ 2 + home.index_blocks

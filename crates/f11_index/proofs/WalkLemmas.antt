@@ -8,7 +8,7 @@ use Rattle.f11_dev.specs.Image.{Image, image_block}
 use Rattle.f11_header.specs.Fields.{file_sequence}
 use Rattle.f11_home.specs.Home.{HomeFields}
 use Rattle.f11_map.specs.HeaderBlock.{segment_number, link_of, blocks_named}
-use Rattle.f11_index.specs.IndexFile.{index_of, index_file, blocks_on, header_place, header_among, header_lbn, most_slots, slots, first_header_lbn}
+use Rattle.f11_index.specs.IndexFile.{index_of, index_file_blocks, blocks_on, header_place, header_among, header_lbn, most_slots, slots, first_header_lbn}
 use Rattle.f11_index.specs.Sound.{IsPlaced, IsIndexFile}
 use Rattle.f11_index.specs.Table.{Table, table_in, table_of, IsLive, IsNext, IsHeaderOf, first, next, LinksRightly, IsWholeFile, last_sequence}
 use Rattle.f11_index.proofs.BitLemmas.{is_in_use-none}
@@ -54,7 +54,7 @@ module _ (image : Image) (home : HomeFields) where
   t = table_of image home
 
   abbrev all : List ℕ
-  all = index_file image home
+  all = index_file_blocks image home
 
   -- header n of the table stands where the index file has it
   pub header_is : (n lbn : ℕ) → 0 < n → n ≤ most_slots home → slice_get all (header_place home n) ≡ Some lbn → t.header n ≡ image_block image lbn
@@ -76,7 +76,7 @@ module _ (image : Image) (home : HomeFields) where
 
   pub few-slots : slots (index_of image home) ≤ most_slots home
   unfolding index_of
-  few-slots = omega (arith, length-take (most_slots home) (drop (2 + home.index_blocks) (index_file image home)))
+  few-slots = omega (arith, length-take (most_slots home) (drop (2 + home.index_blocks) (index_file_blocks image home)))
 
   -- header n is the one that is looked for: the file's of this segment
   pub record IsExpected (n sequence segment : ℕ) : Type 0 where
@@ -163,10 +163,10 @@ module _ (image : Image) (home : HomeFields) where
 
 module _ (image : Image) (home : HomeFields) (good : IsIndexFile image home) where
   -- a header of the index file is a slot, so the walk has found it by its end
-  pub found-there : (known : List ℕ) (m : ℕ) → 0 < m → m ≤ slots (index_of image home) → index_file image home ≡ known → ¬ (header_among home known m ≡ None)
+  pub found-there : (known : List ℕ) (m : ℕ) → 0 < m → m ≤ slots (index_of image home) → index_file_blocks image home ≡ known → ¬ (header_among home known m ≡ None)
   unfolding index_of
   found-there known m some few so none =
-      let all : List ℕ = index_file image home in
+      let all : List ℕ = index_file_blocks image home in
       let within : header_place home m < length known =
       omega (arith, some, few, ap length so, length-take (most_slots home) (drop (2 + home.index_blocks) all), length-drop (2 + home.index_blocks) all) in
       none-some _ (sym none ∙ header_among-some home known m some ∙ slice_get-get_or known (header_place home m) 0 within)

@@ -1,12 +1,13 @@
 -- What each call of an index file does to a disk, by its outcome.
-use Rattle.std.specs.Prelude.{◌≡◌, ◌≢◌, ℕ, ◌+◌, ◌-◌, ◌*◌, ◌/◌, ◌<◌, Bool, IsTrue, List, [], ◌++◌, length, take, slice_set, slice_index_or, min}
+use Rattle.std.specs.Prelude.{◌≡◌, ◌≢◌, ℕ, ◌+◌, ◌-◌, ◌*◌, ◌/◌, ◌<◌, Bool, IsTrue, List, [], ◌++◌}
+use Rattle.std.specs.Prelude.{length, take, slice_set, slice_index_or, min}
 use Rattle.std.specs.List.{range_with_len}
 use Rattle.f11_dev.specs.Disk.{Disk}
 use Rattle.f11_dev.specs.Image.{Image}
 use Rattle.f11_dev.specs.Went.{Went}
 use Rattle.f11_home.specs.Home.{HomeFields}
 use Rattle.f11_index.specs.IndexFile.{Index, index_of, slot_bit, is_in_use, IsFirstPast, HasNonePast}
-use Rattle.f11_index.specs.Kept.{IsFor}
+use Rattle.f11_index.specs.Kept.{IsIndexFor}
 use Rattle.f11_index.specs.Sound.{IsIndexFile}
 use Rattle.f11_index.specs.Walk.{LooksAlong}
 
@@ -15,16 +16,16 @@ abbrev pub LooksThrough : HomeFields → Disk → Disk → ℕ → Type 0
 LooksThrough home old new faults = LooksAlong home home.index_blocks old new faults
 
 -- The index file was read: it is as it should be where the disk is honest, whatever its bits past the slots are.
-pub record Reads (home : HomeFields) (index : Index) (old new : Disk) : Type 0 where
+pub record ReadsIndex (home : HomeFields) (index : Index) (old new : Disk) : Type 0 where
   pub sound : IsTrue old.honest → IsIndexFile old.image home
-  pub is_for : IsFor index home new
+  pub is_for : IsIndexFor index home new
   pub looked : LooksThrough home old new 0
 
 -- The index file was loaded: it is as it should be where the disk is honest, and no bit past the slots is 1.
 pub record Loads (home : HomeFields) (index : Index) (old new : Disk) : Type 0 where
   pub sound : IsTrue old.honest → IsIndexFile old.image home
   pub none_past : HasNonePast index
-  pub is_for : IsFor index home new
+  pub is_for : IsIndexFor index home new
   pub looked : LooksThrough home old new 0
 
 -- It is not as it should be.
@@ -83,4 +84,7 @@ FailsToWriteBit value n before old new = Went (HasBitWritten value n before old.
 
 -- The index file has these blocks too, behind its others, as far as there can be headers.
 abbrev pub with_blocks_behind : Index → ℕ → ℕ → Index
-with_blocks_behind index lbn count = record index { headers = take (min (4096 * length index.bitmap) 65535) (index.headers ++ range_with_len lbn count) }
+with_blocks_behind index lbn count = record index {
+  headers = take (min (4096 * length index.bitmap) 65535)
+      (index.headers ++ range_with_len lbn count);
+}

@@ -28,7 +28,8 @@ WholeFileStays =
 -- Up to header n those of file f are as good as they were, and those before it link as they did.
 pub record StayUpTo (f n : ℕ) (old new : Table) : Type 0 where
   pub good : (m : ℕ) → IsHeaderOf old f m → segment_number (old.header m) ≤ segment_number (old.header n) → IsAsGood old new m
-  pub links : (m : ℕ) → IsHeaderOf old f m → segment_number (old.header m) < segment_number (old.header n) → link_of (new.header m) ≡ link_of (old.header m)
+  pub links : (m : ℕ) → IsHeaderOf old f m → segment_number (old.header m) < segment_number (old.header n) →
+      link_of (new.header m) ≡ link_of (old.header m)
 
 -- then header n is one of the file's still
 abbrev pub HeaderStays : Type 0
@@ -36,9 +37,11 @@ HeaderStays = (old new : Table) (f n : ℕ) → IsHeaderOf old f n → StayUpTo 
 
 -- its last one, where it links to none
 abbrev pub HeaderBecomesLast : Type 0
-HeaderBecomesLast = (old new : Table) (f n : ℕ) → IsHeaderOf old f n → StayUpTo f n old new → (link_of (new.header n)).number ≡ 0 → IsLastOf new f n
+HeaderBecomesLast = (old new : Table) (f n : ℕ) → IsHeaderOf old f n → StayUpTo f n old new → (link_of (new.header n)).number ≡ 0 →
+    IsLastOf new f n
 
 -- or the next one is the last, where that links to none
 abbrev pub NextBecomesLast : Type 0
 NextBecomesLast =
-    (old new : Table) (f n m : ℕ) → IsHeaderOf old f n → StayUpTo f n old new → IsNext new n m → (link_of (new.header m)).number ≡ 0 → IsLastOf new f m
+    (old new : Table) (f n m : ℕ) → IsHeaderOf old f n → StayUpTo f n old new → IsNext new n m → (link_of (new.header m)).number ≡ 0 →
+    IsLastOf new f m

@@ -10,8 +10,8 @@ use Rattle.f11_home.specs.Home.{HomeFields}
 use Rattle.f11_index.specs.Calls.{with_blocks_behind}
 use Rattle.f11_map.specs.HeaderBlock.{segment_number, link_of, blocks_named}
 use Rattle.f11_index.specs.Headers.{IsLastOf}
-use Rattle.f11_index.specs.IndexFile.{Index, index_of, index_file, slots, header_lbn, HasNonePast}
-use Rattle.f11_index.specs.Kept.{IsFor}
+use Rattle.f11_index.specs.IndexFile.{Index, index_of, index_file_blocks, slots, header_lbn, HasNonePast}
+use Rattle.f11_index.specs.Kept.{IsIndexFor}
 use Rattle.f11_index.specs.Sound.{IsIndexFile, AreApart}
 use Rattle.f11_index.specs.Table.{Table, table_of, IsLive}
 
@@ -45,7 +45,7 @@ pub record MayLinkOn (t : Table) (n m : ℕ) (block : List ℕ) (lbn count : ℕ
 
 -- The index file has these blocks too, behind its others, and header n is this block: all else that it says stays.
 pub record GrowsIndexFile (home : HomeFields) (n : ℕ) (block : List ℕ) (lbn count : ℕ) (old new : Image) : Type 0 where
-  pub file : index_file new home ≡ index_file old home ++ range_with_len lbn count
+  pub file : index_file_blocks new home ≡ index_file_blocks old home ++ range_with_len lbn count
   pub index : index_of new home ≡ with_blocks_behind (index_of old home) lbn count
   pub header : (table_of new home).header n ≡ block
   pub others : (m : ℕ) → 0 < m → m ≤ slots (index_of old home) → m ≢ n → (table_of new home).header m ≡ (table_of old home).header m
@@ -61,14 +61,16 @@ with_header image home n block = slice_set image (header_lbn (index_of image hom
 -- the index file grows where its last header names more blocks, on the device
 abbrev pub IndexFileGrows : Type 0
 IndexFileGrows =
-    (image : Image) (home : HomeFields) (n : ℕ) (block : List ℕ) (lbn count : ℕ) → IsIndexFile image home → AreApart (index_file image home) →
+    (image : Image) (home : HomeFields) (n : ℕ) (block : List ℕ) (lbn count : ℕ) → IsIndexFile image home →
+    AreApart (index_file_blocks image home) →
     MayNameMore (table_of image home) n block lbn count → lbn + count ≤ length image →
     GrowsIndexFile home n block lbn count image (with_header image home n block)
 
 -- and where it links to a header that does
 abbrev pub IndexFileGrowsByHeader : Type 0
 IndexFileGrowsByHeader =
-    (image : Image) (home : HomeFields) (n m : ℕ) (block : List ℕ) (lbn count : ℕ) → IsIndexFile image home → AreApart (index_file image home) →
+    (image : Image) (home : HomeFields) (n m : ℕ) (block : List ℕ) (lbn count : ℕ) → IsIndexFile image home →
+    AreApart (index_file_blocks image home) →
     MayLinkOn (table_of image home) n m block lbn count → lbn + count ≤ length image →
     GrowsIndexFile home n block lbn count image (with_header image home n block)
 
@@ -77,5 +79,5 @@ abbrev pub GrownStaysFor : Type 0
 GrownStaysFor =
     (index : Index) (home : HomeFields) (disk : Disk) (passed : Bool) (n : ℕ) (block : List ℕ) (lbn count : ℕ) →
     (IsTrue disk.honest → GrowsIndexFile home n block lbn count disk.image (with_header disk.image home n block)) →
-    lbn + count ≤ length disk.image → IsFor index home disk →
-    IsFor (with_blocks_behind index lbn count) home (with_transfer passed (with_block_at (header_lbn index n) block disk))
+    lbn + count ≤ length disk.image → IsIndexFor index home disk →
+    IsIndexFor (with_blocks_behind index lbn count) home (with_transfer passed (with_block_at (header_lbn index n) block disk))

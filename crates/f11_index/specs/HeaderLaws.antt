@@ -28,7 +28,8 @@ ImageHasByteSegments = (image : Image) (index : Index) → IsImage image → Has
 -- a header of a file whose segment number is a byte is one of the list of its headers, at that place
 abbrev pub HeaderIsPlaced : Type 0
 HeaderIsPlaced =
-    (t : Table) (f n : ℕ) → IsHeaderOf t f n → segment_number (t.header n) < 256 → slice_get (headers_of t f) (segment_number (t.header n)) ≡ Some n
+    (t : Table) (f n : ℕ) → IsHeaderOf t f n → segment_number (t.header n) < 256 →
+    slice_get (headers_of t f) (segment_number (t.header n)) ≡ Some n
 
 -- so the list has it
 abbrev pub HeadersAreListed : Type 0
@@ -69,7 +70,8 @@ LastIsOne = (t : Table) (f n m : ℕ) → IsLastOf t f n → IsLastOf t f m → 
 
 -- which is the last of the list, and its segment number tells how many headers there are
 abbrev pub LastEndsList : Type 0
-LastEndsList = (t : Table) (f n : ℕ) → IsLastOf t f n → segment_number (t.header n) < 256 → length (headers_of t f) ≡ segment_number (t.header n) + 1
+LastEndsList = (t : Table) (f n : ℕ) → IsLastOf t f n → segment_number (t.header n) < 256 →
+    length (headers_of t f) ≡ segment_number (t.header n) + 1
 
 -- a file that has a last header is whole
 abbrev pub LastMakesWhole : Type 0

@@ -1,5 +1,6 @@
 -- The blocks of the index file, and what it says of headers (Files-11 On-Disk Structure Level 1, "Index File").
-use Rattle.std.specs.Prelude.{◌≡◌, ℕ, zero, suc, ◌+◌, ◌-◌, ◌*◌, ◌/◌, ◌%◌, ◌<◌, ◌≤◌, min, nat_lt, nat_le, Bool, true, ◌&&◌, List, [], ◌++◌, length, take, drop, map, slice_index, slice_index_or, Option, Some, None}
+use Rattle.std.specs.Prelude.{◌≡◌, ℕ, zero, suc, ◌+◌, ◌-◌, ◌*◌, ◌/◌, ◌%◌, ◌<◌, ◌≤◌, min, nat_lt, nat_le, Bool, true, ◌&&◌, List, []}
+use Rattle.std.specs.Prelude.{◌++◌, length, take, drop, map, slice_index, slice_index_or, Option, Some, None}
 use Rattle.std.specs.List.{slice_get, range_with_len}
 use Rattle.f11_bytes.specs.Bits.{bit}
 use Rattle.f11_dev.specs.Image.{Image, image_block}
@@ -32,8 +33,8 @@ abbrev pub first_header_lbn : HomeFields → ℕ
 first_header_lbn home = home.index_lbn + home.index_blocks
 
 -- the blocks of the index file, file 1, by VBN: a file has 256 headers at most (profile)
-unfoldable pub index_file : Image → HomeFields → List ℕ
-index_file image home = blocks_on 256 image home [] (Some (first_header_lbn home))
+unfoldable pub index_file_blocks : Image → HomeFields → List ℕ
+index_file_blocks image home = blocks_on 256 image home [] (Some (first_header_lbn home))
 
 -- how many headers there can be: one for each bit of the index bitmap, and no more than a file number can tell
 abbrev pub most_slots : HomeFields → ℕ
@@ -57,7 +58,7 @@ unfoldable pub index_of : Image → HomeFields → Index
 index_of image home = record {
   bitmap_lbn = home.index_lbn;
   bitmap = map (image_block image) (range_with_len home.index_lbn home.index_blocks);
-  headers = headers_among home (index_file image home);
+  headers = headers_among home (index_file_blocks image home);
 }
 
 -- the number of slots: they are numbered from 1 on
@@ -87,8 +88,8 @@ unfoldable pub header_lbn : Index → ℕ → ℕ
 header_lbn index n = slice_index index.headers (n - 1)
 
 -- the free slots, in order
-abbrev pub free_slots : Index → List ℕ
-free_slots index = free_among (slots index) (is_in_use index)
+abbrev pub free_slots_in : Index → List ℕ
+free_slots_in index = free_among (slots index) (is_in_use index)
 
 -- slot n's bit is 1, and there is no such slot
 pub record IsPastSlots (index : Index) (n : ℕ) : Type 0 where

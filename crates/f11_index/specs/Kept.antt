@@ -14,11 +14,11 @@ abbrev pub room : IndexFile → ℕ
 room f = vec_capacity f.headers - length f.headers.items
 
 -- its blocks are on a device of so many
-pub record LiesWithin (index : Index) (blocks : ℕ) : Type 0 where
+pub record IndexLiesWithin (index : Index) (blocks : ℕ) : Type 0 where
   pub bitmap : index.bitmap_lbn + length index.bitmap ≤ blocks
   pub headers : All (λ lbn. lbn < blocks) index.headers
 
 -- It is for this disk: its blocks are there, and it says what the image's index file says where the disk is honest.
-pub record IsFor (index : Index) (home : HomeFields) (disk : Disk) : Type 0 where
-  pub within : LiesWithin index (length disk.image)
+pub record IsIndexFor (index : Index) (home : HomeFields) (disk : Disk) : Type 0 where
+  pub within : IndexLiesWithin index (length disk.image)
   pub keeps : IsTrue disk.honest → index ≡ index_of disk.image home

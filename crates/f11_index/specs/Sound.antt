@@ -3,7 +3,7 @@ use Rattle.std.specs.Prelude.{◌≡◌, ◌≢◌, ℕ, ◌+◌, ◌<◌, List,
 use Rattle.std.specs.List.{slice_get}
 use Rattle.f11_dev.specs.Image.{Image}
 use Rattle.f11_home.specs.Home.{HomeFields}
-use Rattle.f11_index.specs.IndexFile.{index_file}
+use Rattle.f11_index.specs.IndexFile.{index_file_blocks}
 use Rattle.f11_index.specs.Table.{table_of, last_sequence, IsWholeFile}
 
 -- The first blocks of the index file are where they should be: the boot block in LBN 0, the home block, the index bitmap from
@@ -18,8 +18,8 @@ pub record IsPlaced (home : HomeFields) (blocks : List ℕ) : Type 0 where
 pub record IsIndexFile (image : Image) (home : HomeFields) : Type 0 where
   pub whole : IsWholeFile (table_of image home) 1
   pub sequence : last_sequence (table_of image home) 1 ≡ 1
-  pub within : All (λ lbn. lbn < length image) (index_file image home)
-  pub placed : IsPlaced home (index_file image home)
+  pub within : All (λ lbn. lbn < length image) (index_file_blocks image home)
+  pub placed : IsPlaced home (index_file_blocks image home)
 
 -- block `lbn` is none of these
 abbrev pub IsNoneOf : ℕ → List ℕ → Type 0

@@ -1,6 +1,7 @@
 -- How the headers of an index file are read, one after another, and the blocks that they name are judged (Files-11 On-Disk
 -- Structure Level 1, "Index File").
-use Rattle.std.specs.Prelude.{◌≡◌, ℕ, zero, suc, ◌+◌, ◌-◌, ◌<◌, ◌≤◌, Bool, true, false, IsTrue, List, [], ◌++◌, length, take, drop, slice_index, Option, Some, None}
+use Rattle.std.specs.Prelude.{◌≡◌, ℕ, zero, suc, ◌+◌, ◌-◌, ◌<◌, ◌≤◌, Bool, true, false, IsTrue, List, []}
+use Rattle.std.specs.Prelude.{◌++◌, length, take, drop, slice_index, Option, Some, None}
 use Rattle.std.specs.List.{slice_get}
 use Rattle.f11_dev.specs.Disk.{Disk}
 use Rattle.f11_dev.specs.Image.{Image, image_block}
@@ -10,7 +11,7 @@ use Rattle.f11_header.specs.Header.{IsHeader}
 use Rattle.f11_home.specs.Home.{HomeFields}
 use Rattle.f11_map.specs.HeaderBlock.{segment_number, link_of, blocks_named}
 use Rattle.f11_index.specs.Headers.{headers_of}
-use Rattle.f11_index.specs.IndexFile.{most_slots, index_file, index_of, bit_of_slot}
+use Rattle.f11_index.specs.IndexFile.{most_slots, index_file_blocks, index_of, bit_of_slot}
 use Rattle.f11_index.specs.Sound.{IsPlaced, IsIndexFile}
 use Rattle.f11_index.specs.Table.{table_of, last_sequence, IsWholeFile}
 use Rattle.f11_index.specs.declared.blocks.Blocks.{Blocks}
@@ -56,13 +57,14 @@ abbrev pub headers_with : HomeFields → List ℕ → ℕ → List ℕ → List 
 headers_with home lbns places headers = take (most_slots home) (headers ++ drop (first_place home - places) lbns)
 
 -- These blocks were added behind so many others, and the headers among them behind their LBNs.
-pub record Adds (home : HomeFields) (lbns : List ℕ) (places : ℕ) (headers : List ℕ) (places_now : ℕ) (headers_now : List ℕ) : Type 0 where
+pub record AddsPlaces (home : HomeFields) (lbns : List ℕ) (places : ℕ) (headers : List ℕ) (places_now : ℕ)
+    (headers_now : List ℕ) : Type 0 where
   pub places_are : places_now ≡ places + length lbns
   pub headers_are : headers_now ≡ headers_with home lbns places headers
 
 -- the blocks that are kept before and after
 abbrev pub AddsTo : HomeFields → List ℕ → Blocks → Blocks → Type 0
-AddsTo home lbns old new = Adds home lbns old.places old.headers.items new.places new.headers.items
+AddsTo home lbns old new = AddsPlaces home lbns old.places old.headers.items new.places new.headers.items
 
 -- They were added if they fit; else they don't fit.
 abbrev pub AddsIf : Bool → HomeFields → ℕ → List ℕ → Blocks → Blocks → Type 0
@@ -79,7 +81,8 @@ pub record IsDue (bitmap : List (List ℕ)) (due : Due) (segment : ℕ) (header 
 
 -- The walk may go on from this header: it is the one that is looked for, the blocks that it names fit, and its link is to a
 -- header among them or to none.
-pub record MayStep (home : HomeFields) (bitmap : List (List ℕ)) (end : ℕ) (due : Due) (segment : ℕ) (blocks : Blocks) (header : List ℕ) : Type 0 where
+pub record MayStep (home : HomeFields) (bitmap : List (List ℕ)) (end : ℕ) (due : Due) (segment : ℕ) (blocks : Blocks)
+    (header : List ℕ) : Type 0 where
   pub is_due : IsDue bitmap due segment header
   pub fit : FitFrom home end blocks.places (blocks_named header)
   pub linked : (link_of header).number ≤ length (headers_with home (blocks_named header) blocks.places blocks.headers.items)
@@ -88,10 +91,12 @@ pub record MayStep (home : HomeFields) (bitmap : List (List ℕ)) (end : ℕ) (d
 abbrev pub IsNextDue : List ℕ → FileId → Option Due → Type 0
 IsNextDue headers link None = link.number ≡ 0
 IsNextDue headers link (Some due) =
-    (0 < link.number) × ((link.number ≤ length headers) × (due ≡ record { lbn = slice_index headers (link.number - 1); number = link.number; sequence = link.sequence }))
+    (0 < link.number) × ((link.number ≤ length headers) ×
+    (due ≡ record { lbn = slice_index headers (link.number - 1); number = link.number; sequence = link.sequence }))
 
 -- One header was read, and its blocks were added.
-pub record Steps (home : HomeFields) (bitmap : List (List ℕ)) (due : Due) (segment : ℕ) (before after : Blocks) (next : Option Due) (old new : Disk) : Type 0 where
+pub record Steps (home : HomeFields) (bitmap : List (List ℕ)) (due : Due) (segment : ℕ) (before after : Blocks) (next : Option Due)
+    (old new : Disk) : Type 0 where
   pub header : List ℕ
   pub read : IsTrue old.honest → image_block old.image due.lbn ≡ header
   pub may : MayStep home bitmap (length old.image) due segment before header
@@ -113,9 +118,9 @@ pub record IsFileOne (image : Image) (home : HomeFields) : Type 0 where
 -- All headers were read, and these are the blocks that they name.
 pub record Follows (home : HomeFields) (blocks : Blocks) (old new : Disk) : Type 0 where
   pub lbns : List ℕ
-  pub adds : Adds home lbns 0 [] blocks.places blocks.headers.items
+  pub adds : AddsPlaces home lbns 0 [] blocks.places blocks.headers.items
   pub fit : FitFrom home (length old.image) 0 lbns
-  pub is_file : IsTrue old.honest → lbns ≡ index_file old.image home
+  pub is_file : IsTrue old.honest → lbns ≡ index_file_blocks old.image home
   pub whole : IsTrue old.honest → IsPlaced home lbns → IsFileOne old.image home
   pub looked : LooksAlong home 0 old new 0
 

@@ -1,7 +1,7 @@
 //! The bits of slots, kept and written.
 ghost use Rattle.std.specs.Prelude.{◌≡◌, ◌*◌, ◌<◌, ◌≤◌, true, false, length, OnOk, OnErr};
 ghost use Rattle.f11_index.specs.IndexFile.{slots, bit_of_slot};
-ghost use Rattle.f11_index.specs.Kept.{index_kept, room, LiesWithin};
+ghost use Rattle.f11_index.specs.Kept.{index_kept, room, IndexLiesWithin};
 
 use crate::index_file::{BITS, IndexFile};
 use f11_bytes::{Block, is_set, set_bit};
@@ -27,7 +27,7 @@ impl IndexFile {
     /// `DeviceFault` where the write failed.
     pub fn set<D: Device>(&mut self, device: &mut D, n: u16) -> Result<(), DeviceFault>
         requires slot { (0 < n) × (n ≤ slots (index_kept self.old)) }
-        requires within { LiesWithin (index_kept self.old) (length (D.disk device.old).image) }
+        requires within { IndexLiesWithin (index_kept self.old) (length (D.disk device.old).image) }
         ensures done { OnOk result (WritesBit true n (index_kept self.old) (index_kept self.new)
             (D.disk device.old) (D.disk device.new)) }
         ensures failed { OnErr result (FailsToWriteBit true n (index_kept self.old)
@@ -44,7 +44,7 @@ impl IndexFile {
     /// `DeviceFault` where the write failed.
     pub fn clear<D: Device>(&mut self, device: &mut D, n: u16) -> Result<(), DeviceFault>
         requires slot { (0 < n) × (n ≤ slots (index_kept self.old)) }
-        requires within { LiesWithin (index_kept self.old) (length (D.disk device.old).image) }
+        requires within { IndexLiesWithin (index_kept self.old) (length (D.disk device.old).image) }
         ensures done { OnOk result (WritesBit false n (index_kept self.old) (index_kept self.new)
             (D.disk device.old) (D.disk device.new)) }
         ensures failed { OnErr result (FailsToWriteBit false n (index_kept self.old)
@@ -62,7 +62,7 @@ impl IndexFile {
         value: bool,
     ) -> Result<(), DeviceFault>
         requires slot { (0 < n) × (n ≤ slots (index_kept self.old)) }
-        requires within { LiesWithin (index_kept self.old) (length (D.disk device.old).image) }
+        requires within { IndexLiesWithin (index_kept self.old) (length (D.disk device.old).image) }
         ensures done { OnOk result (WritesBit value n (index_kept self.old) (index_kept self.new)
             (D.disk device.old) (D.disk device.new)) }
         ensures failed { OnErr result (FailsToWriteBit value n (index_kept self.old)

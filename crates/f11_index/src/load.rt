@@ -2,7 +2,7 @@
 ghost use Rattle.std.specs.Prelude.{◌≡◌, ◌≤◌, [], length, IfOk, IfErr, IsErrOf, OnOk, OnErr, MatchOption, vec_capacity};
 ghost use Rattle.f11_dev.specs.Looked.{Looked};
 ghost use Rattle.f11_home.specs.Home.{IsSound};
-ghost use Rattle.f11_index.specs.Calls.{Reads, Loads, FindsMisplaced, FindsPast, FailsToLoad, LacksMemory};
+ghost use Rattle.f11_index.specs.Calls.{ReadsIndex, Loads, FindsMisplaced, FindsPast, FailsToLoad, LacksMemory};
 ghost use Rattle.f11_index.specs.IndexFault.{IfPast};
 ghost use Rattle.f11_index.specs.IndexFile.{IsFirstPast, HasNonePast};
 ghost use Rattle.f11_index.specs.Kept.{index_kept};
@@ -64,7 +64,7 @@ impl IndexFile {
     ) -> Result<IndexFile, IndexFault>
         requires { IsSound home.now (length (D.disk device.old).image) }
         ensures reads { IfOk result (λ index.
-            Reads home.now (index_kept index) (D.disk device.old) (D.disk device.new)) }
+            ReadsIndex home.now (index_kept index) (D.disk device.old) (D.disk device.new)) }
         ensures misplaced { IsErrOf result IndexFault.Misplaced
             → FindsMisplaced home.now (D.disk device.old) (D.disk device.new) }
         ensures failed { IsErrOf result IndexFault.DeviceFault

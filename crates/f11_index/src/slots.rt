@@ -16,13 +16,13 @@ const WORDS: u32 = 256;
 
 impl IndexFile {
     ghost use Rattle.f11_index.specs.Calls.{with_blocks_behind};
-    ghost use Rattle.f11_index.specs.IndexFile.{slots, free_slots};
+    ghost use Rattle.f11_index.specs.IndexFile.{slots, free_slots_in};
     ghost use Rattle.f11_index.specs.Kept.{index_kept, room};
     ghost use Rattle.f11_index.specs.Slots.{IsLeastFree, free_between};
 
     /// The number of free slots from 6 on.
     pub fn free_headers(&self) -> u32
-        ensures { result ≡ length (free_slots (index_kept self.now)) }
+        ensures { result ≡ length (free_slots_in (index_kept self.now)) }
     {
         let mut free = 0;
         for word in 0..self.slots().div_ceil(WORD) {
@@ -33,7 +33,7 @@ impl IndexFile {
 
     /// The least free slot from 6 on; `None` where none is free.
     pub fn least_free(&self) -> Option<u16>
-        ensures { MatchOption result (free_slots (index_kept self.now) ≡ [])
+        ensures { MatchOption result (free_slots_in (index_kept self.now) ≡ [])
             (λ n. IsLeastFree (index_kept self.now) n) }
     {
         for word in 0..self.slots().div_ceil(WORD) {

@@ -38,7 +38,8 @@ directory_of l = record {
 -- files 1 to 5: beside those, BADBLK.SYS;1 and CORIMG.SYS;1, the files of bad blocks and of the system's core image, without blocks
 abbrev pub own_files : Layout → List OwnFile
 own_files l =
-    index_file_of l ∷ bitmap_file_of l ∷ empty_file (3244 ∷ 3691 ∷ 0 ∷ 31419 ∷ 1 ∷ []) ∷ directory_of l ∷ empty_file (5418 ∷ 14927 ∷ 0 ∷ 31419 ∷ 1 ∷ []) ∷ []
+    index_file_of l ∷ bitmap_file_of l ∷ empty_file (3244 ∷ 3691 ∷ 0 ∷ 31419 ∷ 1 ∷ []) ∷ directory_of l ∷ empty_file
+    (5418 ∷ 14927 ∷ 0 ∷ 31419 ∷ 1 ∷ []) ∷ []
 
 -- file n of them
 unfoldable pub own_file : Layout → ℕ → OwnFile

@@ -10,7 +10,9 @@ use Rattle.f11_layout.specs.declared.layout.Layout.{Layout}
 unfoldable pub fresh_control : Layout → List ℕ
 fresh_control l = with_long (slice_set zero_block 3 (bit_blocks l.blocks)) (4 + 4 * bit_blocks l.blocks) l.blocks
 
--- Block i of the storage bitmap, from 0: its bit of a block of the volume is 1 where that block isn't in use, and the bits past the size are 0.
+-- Block i of the storage bitmap, from 0: its bit of a block of the volume is 1 where that block isn't in use, and the bits past
+-- the size are 0.
 pub record IsFreshBitmap (l : Layout) (i : ℕ) (b : List ℕ) : Type 0 where
   pub size : length b ≡ 512
-  pub bits : (k : ℕ) → k < 4096 → bit b k ≡ (nat_le (used_blocks l.max_files l.slots l.blocks) (4096 * i + k) && nat_lt (4096 * i + k) l.blocks)
+  pub bits : (k : ℕ) → k < 4096 →
+      bit b k ≡ (nat_le (used_blocks l.max_files l.slots l.blocks) (4096 * i + k) && nat_lt (4096 * i + k) l.blocks)

@@ -10,7 +10,8 @@ use Rattle.f11_layout.specs.declared.layout.Layout.{Layout}
 use Rattle.f11_layout.specs.Texts.{owner_text}
 use Rattle.f11_store.specs.declared.callers.Uic.{Uic}
 
--- its texts: the label over zeros (H.VNAM), the date (H.VDAT), the label over spaces (H.INDN), the owner (H.INDO), and the name of the format (H.INDF)
+-- its texts: the label over zeros (H.VNAM), the date (H.VDAT), the label over spaces (H.INDN), the owner (H.INDO), and the name
+-- of the format (H.INDF)
 unfoldable pub with_texts : Layout → List ℕ → List ℕ
 with_texts l b =
     let named = with_bytes (with_bytes (with_bytes (with_bytes b 14 (label_in l)) 60 l.date) 472 (replicate 12 32)) 472 (label_in l) in
@@ -25,7 +26,9 @@ with_volume_owner b owner = slice_set (slice_set b 30 owner.member) 31 owner.gro
 -- of 7 pointers (H.WISZ), and extension by 5 blocks (H.FIEX)
 unfoldable pub with_numbers : Layout → List ℕ → List ℕ
 with_numbers l b =
-    with_word (with_word (with_volume_owner (with_word (with_word (with_word (with_long (with_word b 0 (bit_blocks l.max_files)) 2 2) 6 l.max_files) 8 1) 12 257) l.owner) 36 57344) 44 (7 + 256 * 5)
+    with_word (with_word (with_volume_owner
+    (with_word (with_word (with_word
+    (with_long (with_word b 0 (bit_blocks l.max_files)) 2 2) 6 l.max_files) 8 1) 12 257) l.owner) 36 57344) 44 (7 + 256 * 5)
 
 -- the whole of it; all other bytes are zeros
 unfoldable pub fresh_home : Layout → List ℕ

@@ -17,7 +17,8 @@ pub record HasNoPointers (b : List ℕ) : Type 0 where
   pub room : places (map_area b) ≡ 102
   pub none : runs_of (map_area b) ≡ []
 
--- Blocks are named, `count` of them from LBN `first` on, by as few pointers as can be, and the header says all else as before; it is sealed.
+-- Blocks are named, `count` of them from LBN `first` on, by as few pointers as can be, and the header says all else as before; it
+-- is sealed.
 pub record NamesBlocks (first count : ℕ) (old new : List ℕ) : Type 0 where
   pub keeps : KeepsHeader old new
   pub sum : check_word new ≡ word_sum new 255

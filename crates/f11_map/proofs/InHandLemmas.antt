@@ -3,13 +3,13 @@ use Rattle.std.proofs.Common.{◌≡◌, ℕ, ◌≤◌, List, [], ◌++◌, len
 use Rattle.std.specs.Prelude.{unwrap_or, option_map}
 use Rattle.std.specs.List.{range_with_len}
 use Rattle.f11_bytes.specs.Words.{word_sum}
-use Rattle.f11_header.specs.Fields.{map_area, map_offset, file_number, check_word, HeaderFields, header_fields}
+use Rattle.f11_header.specs.Fields.{ident_room, map_area, map_offset, file_number, check_word, HeaderFields, header_fields}
 use Rattle.f11_header.specs.MapFields.{segment, IsMapArea}
 use Rattle.f11_header.specs.Header.{holds_header, header_in, header_with}
 use Rattle.f11_header.specs.Writing.{KeepsHeader, with_check_word, with_map}
 use Rattle.f11_header.proofs.AreaLemmas.{length-map_area, length-with_map, with_map-map_area}
 use Rattle.f11_header.proofs.HeaderFacts.{header_in-held, map_within}
-use Rattle.f11_header.proofs.FieldLemmas.{keeps-with_map, keeps-with_check_word, header_in-with_check_word, sum-with_check_word}
+use Rattle.f11_header.proofs.FieldLemmas.{ident_room-with_map, keeps-with_map, keeps-with_check_word, header_in-with_check_word, sum-with_check_word}
 use Rattle.f11_map.specs.InHand.{RewritesMap, AppendsBlocks, CutsBlocks, SetsLink}
 use Rattle.f11_map.specs.MapArea.{runs_of, blocks_of}
 use Rattle.f11_map.specs.MapWriting.{with_blocks, cut_to, WritesPointers, WritesLink}
@@ -38,6 +38,7 @@ RewritesMap-sealed b m new long holds size same valid is =
           sum = ap check_word is ∙ sum-with_check_word put put_long ∙ ap (λ (l : List ℕ). word_sum l 255) (sym is);
         };
         fields = says ∙ ap (λ (area : List ℕ). header_with (λ h. record h { map = area }) b) (sym map);
+        ident = ap ident_room is ∙ ident_room-with_map b m long holds size;
       },
       map,
     )

@@ -1,7 +1,7 @@
 -- What calls on a header in hand leave: a block that holds a header, valid or valid but for its check word.
 use Rattle.std.specs.Prelude.{◌≡◌, ℕ, ◌++◌, List, take}
 use Rattle.std.specs.List.{range_with_len}
-use Rattle.f11_header.specs.Fields.{map_area}
+use Rattle.f11_header.specs.Fields.{ident_room, map_area}
 use Rattle.f11_header.specs.Header.{header_in, header_with}
 use Rattle.f11_header.specs.Writing.{IsSealed}
 use Rattle.f11_map.specs.MapArea.{runs_of, blocks_of}
@@ -9,10 +9,11 @@ use Rattle.f11_map.specs.MapWriting.{with_blocks, cut_to, WritesPointers, Writes
 use Rattle.f11_store.specs.declared.files.FileId.{FileId}
 
 -- The block is sealed, and holds the same header with another map area: number, sequence number, owner, protection,
--- characteristics, user attributes and ident area are as they were.
+-- characteristics, user attributes and ident area are as they were, and so is each byte behind the ident area's offset.
 pub record RewritesMap (old new : List ℕ) : Type 0 where
   pub seals : IsSealed old new
   pub fields : header_in new ≡ header_with (λ h. record h { map = map_area new }) old
+  pub ident : ident_room new ≡ ident_room old
 
 -- it names these blocks too, behind its others
 pub record AppendsBlocks (old new : List ℕ) (lbn count : ℕ) : Type 0 where

@@ -1,6 +1,7 @@
 -- What writing retrieval pointers leaves of a map area (Files-11 On-Disk Structure Level 1, "Map Area" and "Retrieval
 -- Pointers"; how pointers join: profile).
-use Rattle.std.specs.Prelude.{◌≡◌, ℕ, ◌+◌, ◌-◌, ◌*◌, ◌/◌, ◌%◌, ◌≤◌, ◌==◌, nat_le, Bool, false, ◌&&◌, if◌then◌else◌, List, [], ◌∷◌, length, take, drop, slice_index, slice_set}
+use Rattle.std.specs.Prelude.{◌≡◌, ℕ, ◌+◌, ◌-◌, ◌*◌, ◌/◌, ◌%◌, ◌≤◌, ◌==◌, nat_le, Bool, false, ◌&&◌, if◌then◌else◌}
+use Rattle.std.specs.Prelude.{List, [], ◌∷◌, length, take, drop, slice_index, slice_set}
 use Rattle.f11_bytes.specs.Words.{with_word}
 use Rattle.f11_header.specs.MapFields.{segment, link, most_words, IsMapArea}
 use Rattle.f11_map.specs.MapArea.{runs_of}
@@ -30,14 +31,15 @@ cut_to (run ∷ runs) blocks = if blocks == 0 then [] else
 
 -- The area with this as pointer i.
 abbrev pub with_run : List ℕ → ℕ → ℕ × ℕ → List ℕ
-with_run m i run = with_word (slice_set (slice_set m (10 + 4 * i) (run.0 / 65536)) (10 + 4 * i + 1) (run.1 - 1)) (10 + 4 * i + 2) (run.0 % 65536)
+with_run m i run = with_word (slice_set (slice_set m (10 + 4 * i) (run.0 / 65536)) (10 + 4 * i + 1) (run.1 - 1)) (10 + 4 * i + 2)
+    (run.0 % 65536)
 
 -- The area with so many words of pointers in use.
 abbrev pub with_words_in_use : List ℕ → ℕ → List ℕ
 with_words_in_use m words = slice_set m 8 words
 
--- Pointers are written, and the area holds pointers still: M.USE and the pointers may change, and all else stays: M.ESQN, the link and the sizes before M.USE,
--- M.MAX, and what stands behind the pointers that there are then.
+-- Pointers are written, and the area holds pointers still: M.USE and the pointers may change, and all else stays: M.ESQN, the
+-- link and the sizes before M.USE, M.MAX, and what stands behind the pointers that there are then.
 pub record WritesPointers (old new : List ℕ) : Type 0 where
   pub valid : IsMapArea new
   pub size : length new ≡ length old

@@ -1,3 +1,2 @@
 mod LineLemmas
-pub mod OctalLemmas
 pub mod WordsLemmas

@@ -5,8 +5,8 @@ use Rattle.clap.specs.Lexer.{strip_byte}
 use Rattle.clap.specs.Words.{Text, subcommand_of, takes}
 use Rattle.clap.proofs.OnLiterals.{clap_on_literals}
 use Rattle.f11_pip.specs.Commands.{MeetsRtInit, program_app}
-use Rattle.f11_pip.specs.Words.{CommandLine, dump_line, home_line, is_option, name_line, rights_line, rt_init_line, rt_list_line, rt_vfy_line, run_line, texts_of, vfy_line, words_of}
-use Rattle.f11_pip.proofs.WordsLemmas.{takes-dump, takes-home, takes-name, takes-rights, takes-rt_list, takes-rt_vfy, takes-run, takes-vfy}
+use Rattle.f11_pip.specs.Words.{CommandLine, dump_line, home_line, is_option, name_line, rights_line, rt_init_line, rt_list_line, rt_vfy_line, run_line, texts_of, update_line, vfy_line, words_given}
+use Rattle.f11_pip.proofs.WordsLemmas.{takes-dump, takes-home, takes-name, takes-rights, takes-rt_list, takes-rt_vfy, takes-run, takes-update, takes-vfy}
 
 -- a word that is no option begins with no hyphen, and isn't two of them
 pub no_hyphens : (word : Text) → is_option word ≡ false → strip_byte 45 word ≡ None
@@ -29,7 +29,7 @@ subcommand_of-rt_init program blocks segments image p q r = rw (not_two blocks p
 
 -- clap takes the words of a command line
 pub takes-line : (command : CommandLine) (program : Text) → All (λ text. is_option text ≡ false) (texts_of command)
-    → takes program_app (program ∷ words_of command) ≡ true
+    → takes program_app (program ∷ words_given command) ≡ true
 takes-line (dump_line image number) program plain = takes-dump program image number (plain 0 [] (omega arith)) (plain 1 [] (omega arith))
 takes-line (home_line image) program plain = takes-home program image (plain 0 [] (omega arith))
 takes-line (name_line text) program plain = takes-name program text (plain 0 [] (omega arith))
@@ -39,3 +39,4 @@ takes-line (rt_list_line image) program plain = takes-rt_list program image (pla
 takes-line (rt_vfy_line image) program plain = takes-rt_vfy program image (plain 0 [] (omega arith))
 takes-line (run_line image script) program plain = takes-run program image script (plain 0 [] (omega arith)) (plain 1 [] (omega arith))
 takes-line (vfy_line image) program plain = takes-vfy program image (plain 0 [] (omega arith))
+takes-line (update_line image) program plain = takes-update program image (plain 0 [] (omega arith))

@@ -1,7 +1,7 @@
 -- What clap makes of the words.
 use Rattle.std.specs.Option.{option_map_or}
 use Rattle.std.proofs.Common.{IfSome, ok_or, ◌⊎◌, inl, inr, length, ◌≤◌, arith, Result, Ok, Err, IsErrAnd, IsOkAnd, MatchResult, Bool, not, ◌&&◌, ap, ◌∙◌, ◌≡◌, List, [], ◌∷◌, Option, Some, None, true, false, codes, refl, map, option_map, option_and_then}
-use Rattle.clap.specs.Words.{Row, Text, first_of, is_simple, subcommand_of, takes}
+use Rattle.clap.specs.Words.{Row, Text, first_of, is_simple, one_of, subcommand_of, takes}
 use Rattle.clap.proofs.OnLiterals.{clap_on_literals}
 use Rattle.clap.specs.declared.error.kind.ErrorKind.{ErrorKind}
 use Rattle.clap.specs.declared.error.kind.ErrorKind.TheVariants.{OutOfMemory}
@@ -9,8 +9,8 @@ use Rattle.f11_pip.specs.declared.outcome.Failure.{Failure}
 use Rattle.f11_pip.specs.declared.outcome.Failure.TheVariants.{NoMemory}
 use Rattle.f11_pip.specs.Outcome.{failure_of_kind}
 use Rattle.f11_store.specs.declared.callers.Uic.{Uic}
-use Rattle.f11_pip.specs.Commands.{MeetsDump, MeetsRights, MeetsRun, command_and_word, command_and_words, program_app, words_in}
-use Rattle.f11_pip.specs.Octal.{SpellsUic}
+use Rattle.f11_pip.specs.Commands.{MeetsDump, MeetsRights, MeetsRun, MeetsVfy, command_and_flag, command_and_word, command_and_words, program_app, words_in}
+use Rattle.f11_numbers.specs.Octal.{SpellsUic}
 use Rattle.f11_pip.specs.Words.{IsNoUic, is_option}
 
 pub is_simple-program : is_simple program_app ≡ true
@@ -55,11 +55,21 @@ unfolding clap_on_literals
 takes-vfy program [] plain = refl
 takes-vfy program (b ∷ bs) plain = simp plain
 
-pub subcommand_of-vfy : (program image : Text) → is_option image ≡ false
-    → command_and_word (codes "image") (subcommand_of program_app (program ∷ codes "vfy" ∷ image ∷ [])) ≡ Some (codes "vfy", Some image)
+pub subcommand_of-vfy : (program image : Text) → is_option image ≡ false → MeetsVfy false image (subcommand_of program_app (program ∷ codes "vfy" ∷ image ∷ []))
 unfolding clap_on_literals
-subcommand_of-vfy program [] plain = refl
-subcommand_of-vfy program (b ∷ bs) plain = rw (plain, plain) refl
+subcommand_of-vfy program [] plain = (refl, refl)
+subcommand_of-vfy program (b ∷ bs) plain = (rw (plain, plain) refl, rw (plain, plain) refl)
+
+pub takes-update : (program image : Text) → is_option image ≡ false → takes program_app (program ∷ codes "vfy" ∷ codes "--update" ∷ image ∷ []) ≡ true
+unfolding clap_on_literals
+takes-update program [] plain = refl
+takes-update program (b ∷ bs) plain = rw (plain, plain) refl
+
+pub subcommand_of-update : (program image : Text) → is_option image ≡ false
+    → MeetsVfy true image (subcommand_of program_app (program ∷ codes "vfy" ∷ codes "--update" ∷ image ∷ []))
+unfolding clap_on_literals
+subcommand_of-update program [] plain = (refl, refl)
+subcommand_of-update program (b ∷ bs) plain = (rw (plain, plain) refl, rw (plain, plain) refl)
 
 pub takes-name : (program text : Text) → is_option text ≡ false → takes program_app (program ∷ codes "name" ∷ text ∷ []) ≡ true
 unfolding clap_on_literals
@@ -148,6 +158,14 @@ first_of-met None rows name id word its is = cc
 first_of-met (Some met) rows name id word its is =
     let same : rows ≡ met.1 = cc in
     ap (first_of id) same ∙ ap (option_and_then (λ (p : Text × Option Text). p.1)) is
+
+-- and so does what is read of its flag
+pub one_of-met : (met : Option (Text × List Row)) (rows : List Row) (name id word : Text) → Some rows ≡ option_map (λ p. p.1) met
+    → command_and_flag id met ≡ Some (name, Some word) → one_of id rows ≡ Some word
+one_of-met None rows name id word its is = cc
+one_of-met (Some met) rows name id word its is =
+    let same : rows ≡ met.1 = cc in
+    ap (one_of id) same ∙ ap (option_and_then (λ (p : Text × Option Text). p.1)) is
 
 -- the words of the command that was met stand in its rows
 pub words_met : (met : Option (Text × List Row)) (rows : List Row) (name : Text) (ids : List Text) (values : List (Option Text))

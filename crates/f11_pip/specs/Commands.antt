@@ -1,8 +1,22 @@
 -- The commands as `clap` is told of them (profile).
 use Rattle.std.specs.Prelude.{◌≡◌, List, [], ◌∷◌, Bool, true, false, Option, Some, codes, map, option_map}
-use Rattle.clap.specs.Words.{App, Row, Rule, Text, first_of, first_value, found_of, new_app, new_rule, with_rule, with_subcommand}
+use Rattle.clap.specs.Words.{
+  App,
+  Row,
+  Rule,
+  Text,
+  first_of,
+  first_value,
+  found_of,
+  new_app,
+  new_rule,
+  one_of,
+  one_text,
+  with_rule,
+  with_subcommand,
+}
 use Rattle.clap.specs.declared.parser.matches.ArgMatches.{ArgMatches}
-use Rattle.clap.specs.declared.builder.action.ArgAction.TheVariants.{Set}
+use Rattle.clap.specs.declared.builder.action.ArgAction.TheVariants.{Set, SetTrue}
 
 -- a word that has to be there
 abbrev pub needed_rule : Text → Rule
@@ -29,9 +43,13 @@ dump_app = with_rule (with_rule (new_app (codes "dump")) (needed_rule (codes "im
 abbrev pub run_app : App
 run_app = with_rule (with_rule (new_app (codes "run")) (needed_rule (codes "image"))) (needed_rule (codes "script"))
 
--- `vfy IMAGE`
+-- a word behind `--` that may be there, and has none behind it
+abbrev pub flag_rule : Text → Rule
+flag_rule name = record (new_rule name) { long = Some name; action = Some SetTrue }
+
+-- `vfy [--update] IMAGE`
 abbrev pub vfy_app : App
-vfy_app = with_rule (new_app (codes "vfy")) (needed_rule (codes "image"))
+vfy_app = with_rule (with_rule (new_app (codes "vfy")) (flag_rule (codes "update"))) (needed_rule (codes "image"))
 
 -- a word behind `--` and its name, which has to be there or may be
 abbrev pub option_rule : Text → Bool → Rule
@@ -48,7 +66,8 @@ init_app = with_rule (with_rule init_options (option_rule (codes "max") false)) 
 
 -- `rt-init --blocks N --segments N IMAGE`
 abbrev pub rt_init_app : App
-rt_init_app = with_rule (with_rule (with_rule (new_app (codes "rt-init")) (option_rule (codes "blocks") true)) (option_rule (codes "segments") true))
+rt_init_app = with_rule (with_rule (with_rule (new_app (codes "rt-init")) (option_rule (codes "blocks") true))
+    (option_rule (codes "segments") true))
     (needed_rule (codes "image"))
 
 -- `rt-list IMAGE`
@@ -61,7 +80,8 @@ rt_vfy_app = with_rule (new_app (codes "rt-vfy")) (needed_rule (codes "image"))
 
 -- the commands on Files-11 volumes
 abbrev pub files_app : App
-files_app = with_subcommand (with_subcommand (with_subcommand (with_subcommand (with_subcommand (with_subcommand (with_subcommand (new_app (codes "f11_pip")) home_app.top)
+files_app = with_subcommand (with_subcommand (with_subcommand
+    (with_subcommand (with_subcommand (with_subcommand (with_subcommand (new_app (codes "f11_pip")) home_app.top)
     name_app.top) rights_app.top) dump_app.top) vfy_app.top) init_app.top) run_app.top
 
 -- and those on RT-11 volumes
@@ -84,6 +104,20 @@ MeetsRights caller owner word met = MeetsWord (codes "rights") (codes "uic") cal
 -- `dump` was met, with these two words
 abbrev pub MeetsDump : Text → Text → Option (Text × List Row) → Type 0
 MeetsDump image number met = MeetsWord (codes "dump") (codes "image") image met × MeetsWord (codes "dump") (codes "number") number met
+
+-- what is read of a flag that is there, or isn't
+abbrev pub flag_text : Bool → Text
+flag_text true = codes "true"
+flag_text false = codes "false"
+
+-- the name of the command that was met, and what is read of its flag of this name
+abbrev pub command_and_flag : Text → Option (Text × List Row) → Option (Text × Option Text)
+command_and_flag id = option_map (λ p. (p.0, one_of id p.1))
+
+-- `vfy` was met, with `--update` or without, and with this word
+abbrev pub MeetsVfy : Bool → Text → Option (Text × List Row) → Type 0
+MeetsVfy update image met = MeetsWord (codes "vfy") (codes "image") image met
+    × (command_and_flag (codes "update") met ≡ Some (codes "vfy", Some (flag_text update)))
 
 -- `run` was met, with these two words
 abbrev pub MeetsRun : Text → Text → Option (Text × List Row) → Type 0
@@ -111,7 +145,8 @@ MeetsInit blocks slots label max image met =
 
 -- `rt-init` was met, with these words
 abbrev pub MeetsRtInit : Text → Text → Text → Option (Text × List Row) → Type 0
-MeetsRtInit blocks segments image met = command_and_words rt_init_names met ≡ Some (codes "rt-init", Some blocks ∷ Some segments ∷ Some image ∷ [])
+MeetsRtInit blocks segments image met = command_and_words rt_init_names met ≡
+    Some (codes "rt-init", Some blocks ∷ Some segments ∷ Some image ∷ [])
 
 -- a command has this word of this name
 abbrev pub HasWord : Text → Text → ArgMatches → Type 0
@@ -119,11 +154,17 @@ HasWord id word given = first_value (found_of given) id ≡ Some word
 
 -- `rights` has these three words
 abbrev pub HasRightsWords : Text → Text → Text → ArgMatches → Type 0
-HasRightsWords caller owner word given = HasWord (codes "uic") caller given × HasWord (codes "owner") owner given × HasWord (codes "word") word given
+HasRightsWords caller owner word given = HasWord (codes "uic") caller given × HasWord (codes "owner") owner given ×
+    HasWord (codes "word") word given
 
 -- `dump` has these two words
 abbrev pub HasDumpWords : Text → Text → ArgMatches → Type 0
 HasDumpWords image number given = HasWord (codes "image") image given × HasWord (codes "number") number given
+
+-- `vfy` has `--update` or hasn't, and has this word
+abbrev pub HasVfyWords : Bool → Text → ArgMatches → Type 0
+HasVfyWords update image given = HasWord (codes "image") image given ×
+    (one_text (found_of given) (codes "update") ≡ Some (flag_text update))
 
 -- `run` has these two words
 abbrev pub HasRunWords : Text → Text → ArgMatches → Type 0

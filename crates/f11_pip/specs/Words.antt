@@ -1,8 +1,8 @@
 -- The words of the command line (profile).
-use Rattle.std.specs.Prelude.{◌≡◌, ◌⊎◌, ℕ, ◌==◌, All, Bool, false, List, [], ◌∷◌, Option, Some, None, codes}
+use Rattle.std.specs.Prelude.{◌≡◌, ◌⊎◌, ℕ, ◌==◌, All, Bool, true, false, List, [], ◌∷◌, Option, Some, None, codes}
 use Rattle.f11_store.specs.declared.callers.Uic.{Uic}
-use Rattle.f11_pip.specs.Decimal.{IsCount, IsNumber, SpellsNumber, SpellsCount}
-use Rattle.f11_pip.specs.Octal.{IsProtection, SpellsProtection, SpellsUic}
+use Rattle.f11_numbers.specs.Decimal.{IsCount, IsNumber, SpellsNumber, SpellsCount}
+use Rattle.f11_numbers.specs.Octal.{IsProtection, SpellsProtection, SpellsUic}
 use Rattle.f11_pip.specs.declared.outcome.Failure.{Failure}
 use Rattle.f11_pip.specs.declared.outcome.Failure.TheVariants.{NoMemory}
 use Rattle.f11_pip.specs.declared.words.Words.{Words}
@@ -24,18 +24,20 @@ pub data CommandLine : Type 0 where
   rt_vfy_line : (image : List ℕ) → CommandLine
   run_line : (image script : List ℕ) → CommandLine
   vfy_line : (image : List ℕ) → CommandLine
+  update_line : (image : List ℕ) → CommandLine
 
 -- the words of a command line behind the program's name, in the order of the usage text
-abbrev pub words_of : CommandLine → List (List ℕ)
-words_of (dump_line image number) = codes "dump" ∷ image ∷ number ∷ []
-words_of (home_line image) = codes "home" ∷ image ∷ []
-words_of (name_line text) = codes "name" ∷ text ∷ []
-words_of (rights_line caller owner word) = codes "rights" ∷ caller ∷ owner ∷ word ∷ []
-words_of (rt_init_line blocks segments image) = codes "rt-init" ∷ codes "--blocks" ∷ blocks ∷ codes "--segments" ∷ segments ∷ image ∷ []
-words_of (rt_list_line image) = codes "rt-list" ∷ image ∷ []
-words_of (rt_vfy_line image) = codes "rt-vfy" ∷ image ∷ []
-words_of (run_line image script) = codes "run" ∷ image ∷ script ∷ []
-words_of (vfy_line image) = codes "vfy" ∷ image ∷ []
+abbrev pub words_given : CommandLine → List (List ℕ)
+words_given (dump_line image number) = codes "dump" ∷ image ∷ number ∷ []
+words_given (home_line image) = codes "home" ∷ image ∷ []
+words_given (name_line text) = codes "name" ∷ text ∷ []
+words_given (rights_line caller owner word) = codes "rights" ∷ caller ∷ owner ∷ word ∷ []
+words_given (rt_init_line blocks segments image) = codes "rt-init" ∷ codes "--blocks" ∷ blocks ∷ codes "--segments" ∷ segments ∷ image ∷ []
+words_given (rt_list_line image) = codes "rt-list" ∷ image ∷ []
+words_given (rt_vfy_line image) = codes "rt-vfy" ∷ image ∷ []
+words_given (run_line image script) = codes "run" ∷ image ∷ script ∷ []
+words_given (vfy_line image) = codes "vfy" ∷ image ∷ []
+words_given (update_line image) = codes "vfy" ∷ codes "--update" ∷ image ∷ []
 
 -- those of its words that no rule names
 abbrev pub texts_of : CommandLine → List (List ℕ)
@@ -48,11 +50,12 @@ texts_of (rt_list_line image) = image ∷ []
 texts_of (rt_vfy_line image) = image ∷ []
 texts_of (run_line image script) = image ∷ script ∷ []
 texts_of (vfy_line image) = image ∷ []
+texts_of (update_line image) = image ∷ []
 
 -- A line of words is that of a command: the program's name stands before its words, none of whose texts is an option.
 pub record IsLineOf (command : CommandLine) (line : List (List ℕ)) : Type 0 where
   pub program : List ℕ
-  pub is_line : line ≡ program ∷ words_of command
+  pub is_line : line ≡ program ∷ words_given command
   pub plain : All (λ text. is_option text ≡ false) (texts_of command)
 
 -- the words ask for the header of this number of this image
@@ -70,10 +73,10 @@ abbrev pub AsksRun : List ℕ → List ℕ → Words → Type 0
 AsksRun name text (Run image script) = (image.now ≡ name) × (script.now ≡ text)
 AsksRun name text _ = ⊥
 
--- the words ask that this image be verified
-abbrev pub AsksVfy : List ℕ → Words → Type 0
-AsksVfy name (Vfy image) = image.now ≡ name
-AsksVfy name _ = ⊥
+-- the words ask that this image be verified, and what lies idle on it be given back, or that it be verified alone
+abbrev pub AsksVfy : Bool → List ℕ → Words → Type 0
+AsksVfy update name (Vfy image updates) = (image.now ≡ name) × (updates ≡ update)
+AsksVfy update name _ = ⊥
 
 -- the greatest number of files that a text spells, and 4000 where there is none
 abbrev pub SpellsMax : Option (List ℕ) → ℕ → Type 0
@@ -98,7 +101,8 @@ AsksRtVfy name _ = ⊥
 
 -- the words ask for a fresh RT-11 volume, of so many blocks and segments, on this image
 abbrev pub AsksRtInit : List ℕ → List ℕ → List ℕ → Words → Type 0
-AsksRtInit blocks segments image (RtInit to count segments_are) = (to.now ≡ image) × SpellsNumber blocks count × SpellsNumber segments segments_are
+AsksRtInit blocks segments image (RtInit to count segments_are) =
+    (to.now ≡ image) × SpellsNumber blocks count × SpellsNumber segments segments_are
 AsksRtInit blocks segments image _ = ⊥
 
 -- the words ask for this name's words
@@ -121,7 +125,8 @@ Asks (rt_init_line blocks segments image) words = AsksRtInit blocks segments ima
 Asks (rt_list_line image) words = AsksRtList image words
 Asks (rt_vfy_line image) words = AsksRtVfy image words
 Asks (run_line image script) words = AsksRun image script words
-Asks (vfy_line image) words = AsksVfy image words
+Asks (vfy_line image) words = AsksVfy false image words
+Asks (update_line image) words = AsksVfy true image words
 
 -- a text spells no user's code
 abbrev pub IsNoUic : List ℕ → Type 0
@@ -147,6 +152,7 @@ IsUnreadable (rt_list_line image) = ⊥
 IsUnreadable (rt_vfy_line image) = ⊥
 IsUnreadable (run_line image script) = ⊥
 IsUnreadable (vfy_line image) = ⊥
+IsUnreadable (update_line image) = ⊥
 
 -- memory ran out, or one of its texts isn't as it has to be
 abbrev pub FailsToAsk : CommandLine → Failure → Type 0

@@ -9,7 +9,7 @@ struct Synopsis {
 }
 
 /// The program's name and version, and what it was proved and built with.
-const VERSION: &str = "f11_pip 0.1, proved and built with rattle-kit-13b";
+const VERSION: &str = "f11_pip 0.1, proved and built with Rattle, logic dac8208d650f15bf";
 
 const COMMANDS: [Synopsis; 10] = [
     Synopsis {
@@ -59,8 +59,8 @@ const COMMANDS: [Synopsis; 10] = [
     },
     Synopsis {
         name: "vfy",
-        words: "f11_pip vfy IMAGE",
-        does: "verifies a Files-11 volume: each fault and note, and whether it is accepted",
+        words: "f11_pip vfy [--update] IMAGE",
+        does: "verifies a Files-11 volume: each fault and note, and whether it is accepted; then gives back what is lost",
     },
 ];
 

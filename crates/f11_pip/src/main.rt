@@ -5,16 +5,14 @@
 //! spell, and on [`clap`], for the words.
 #![tactic(auto)]
 
-mod decimal;
 mod help;
-mod octal;
 mod outcome;
 mod remarks;
 mod words;
 
 use f11_commands::{
     Answer, print_header, print_home, print_init, print_name, print_rights, print_rt_init,
-    print_rt_list, print_rt_vfy, print_run, print_vfy, refuse_init,
+    print_rt_list, print_rt_vfy, print_run, print_vfy, print_vfy_update, refuse_init,
 };
 use f11_dev::{CannotOpen, FileImage};
 use f11_store::Uic;
@@ -193,12 +191,28 @@ fn run<'a, W: Write>(
             let (_, answer) = print_run(rt.alloc(), device, reader, writer);
             Ok(looked(rt, image, answer?, remark))
         }
-        Words::Vfy { image } => {
-            let device = opened(FileImage::open_to_read(rt, image), image, remark)?;
-            let (_, answer) = print_vfy(rt.alloc(), device, writer);
-            Ok(looked(rt, image, answer?, remark))
-        }
+        Words::Vfy { image, update } => vfy(rt, image, update, writer, remark),
     }
+}
+
+/// Verifies a volume, and gives back what lies idle on it where that is asked: then alone is the image opened to be written.
+fn vfy<'a, W: Write>(
+    rt: &HostRuntime,
+    image: &'a str,
+    update: bool,
+    writer: &mut W,
+    remark: &mut Option<Remark<'a>>,
+) -> Result<Answer, Failure> {
+    let answer = if update {
+        let device = opened(FileImage::open(rt, image), image, remark)?;
+        let (_, answer) = print_vfy_update(rt.alloc(), device, writer);
+        answer?
+    } else {
+        let device = opened(FileImage::open_to_read(rt, image), image, remark)?;
+        let (_, answer) = print_vfy(rt.alloc(), device, writer);
+        answer?
+    };
+    Ok(looked(rt, image, answer, remark))
 }
 
 /// What was opened under a word, and where nothing could be, a remark why.

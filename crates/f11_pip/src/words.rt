@@ -1,16 +1,15 @@
 //! The words of the command line.
-ghost use Rattle.std.specs.Prelude.{◌≡◌, ◌≤◌, ◌⊎◌, length, ℕ, List, false, codes, map, option_map, Option, None, IfOk, IfErr, IsErr, IsOkAnd, MatchResult};
+ghost use Rattle.std.specs.Prelude.{◌≡◌, ◌≤◌, ◌⊎◌, length, ℕ, Bool, List, false, codes, map, option_map, Option, None, IfOk, IfErr, IsErr, IsOkAnd, MatchResult};
 ghost use Rattle.std.specs.Result.{result_ok};
 ghost use Rattle.clap.specs.Words.{app_of, first_value, found_of, rule_of, subcommand_rows_of};
 ghost use Rattle.f11_pip.specs.Words.{Asks, AsksDump, AsksHome, AsksInit, AsksName, AsksRights, AsksRtInit, AsksRtList, AsksRtVfy, AsksRun, AsksVfy, CommandLine, FailsToAsk, IsLineOf, IsNoInit, IsNoMax, IsNoUic, IsUnreadable, SpellsMax, rights_line, rt_init_line};
-ghost use Rattle.f11_pip.specs.Commands.{HasDumpWords, HasInitWords, HasRightsWords, HasRtInitWords, HasRunWords, HasWord, MeetsDump, MeetsInit, MeetsRights, MeetsRtInit, MeetsRun, MeetsWord, dump_app, files_app, home_app, init_app, init_options, name_app, needed_rule, option_rule, program_app, rights_app, rt_init_app, rt_list_app, rt_vfy_app, run_app, vfy_app};
-ghost use Rattle.f11_pip.specs.Decimal.{IsNumber, SpellsNumber};
-ghost use Rattle.f11_pip.specs.Octal.{IsProtection, SpellsProtection, SpellsUic};
+ghost use Rattle.f11_pip.specs.Commands.{HasDumpWords, HasInitWords, HasRightsWords, HasRtInitWords, HasRunWords, HasVfyWords, HasWord, MeetsDump, MeetsInit, MeetsRights, MeetsRtInit, MeetsRun, MeetsVfy, MeetsWord, dump_app, files_app, flag_rule, home_app, init_app, init_options, name_app, needed_rule, option_rule, program_app, rights_app, rt_init_app, rt_list_app, rt_vfy_app, run_app, vfy_app};
+ghost use Rattle.f11_numbers.specs.Decimal.{IsNumber, SpellsNumber};
+ghost use Rattle.f11_numbers.specs.Octal.{IsProtection, SpellsProtection, SpellsUic};
 
-use crate::decimal::{read_count, read_number};
-use crate::octal::{read_protection, read_uic};
 use crate::outcome::Failure;
 use clap::{Arg, ArgAction, ArgMatches, Command};
+use f11_numbers::{read_count, read_number, read_protection, read_uic};
 use f11_store::Uic;
 use std::alloc::{AllocError, Global};
 use std::convert::AsStr;
@@ -64,9 +63,10 @@ pub enum Words<'a> {
         image: &'a str,
         script: &'a str,
     },
-    /// `vfy IMAGE`
+    /// `vfy [--update] IMAGE`
     Vfy {
         image: &'a str,
+        update: bool,
     },
 }
 
@@ -144,9 +144,9 @@ fn command_of<'a>(matches: &ArgMatches<'a>) -> Result<Words<'a>, Failure>
     ensures run { (image script : List ℕ)
         → MeetsRun image script (subcommand_rows_of matches.now)
         → IsOkAnd result (AsksRun image script) }
-    ensures vfy { (image : List ℕ)
-        → MeetsWord (codes "vfy") (codes "image") image (subcommand_rows_of matches.now)
-        → IsOkAnd result (AsksVfy image) }
+    ensures vfy { (update : Bool) → (image : List ℕ)
+        → MeetsVfy update image (subcommand_rows_of matches.now)
+        → IsOkAnd result (AsksVfy update image) }
     ensures none { subcommand_rows_of matches.now ≡ None → IsErr result }
     ensures usage { IfErr result (λ failure. failure ≡ Failure.Usage) }
 {
@@ -384,16 +384,27 @@ fn run_of<'a>(given: &ArgMatches<'a>) -> Result<Words<'a>, Failure>
 fn vfy<'a>(alloc: Global) -> Result<Command<'a>, AllocError>
     ensures { IfOk result (λ command. app_of command ≡ vfy_app) }
 {
-    Command::new(alloc, "vfy").arg(needed(alloc, "image"))
+    Command::new(alloc, "vfy")
+        .arg(flag(alloc, "update"))?
+        .arg(needed(alloc, "image"))
 }
 
 fn vfy_of<'a>(given: &ArgMatches<'a>) -> Result<Words<'a>, Failure>
-    ensures vfy { (image : List ℕ) → HasWord (codes "image") image given.now
-        → IsOkAnd result (AsksVfy image) }
+    ensures vfy { (update : Bool) → (image : List ℕ) → HasVfyWords update image given.now
+        → IsOkAnd result (AsksVfy update image) }
     ensures usage { IfErr result (λ failure. failure ≡ Failure.Usage) }
 {
     let image = word_of(given, "image")?;
-    Ok(Words::Vfy { image })
+    let update = given.get_flag("update");
+    Ok(Words::Vfy { image, update })
+}
+
+/// A word behind `--` that may be there, and has none behind it.
+fn flag<'a>(alloc: Global, name: &'a str) -> Arg<'a>
+    ensures rule { rule_of result ≡ flag_rule name.entry.now }
+    ensures local { result.global ≡ false }
+{
+    Arg::new(alloc, name).long(name).action(ArgAction::SetTrue)
 }
 
 /// A word behind `--` and its name, which has to be there or may be.

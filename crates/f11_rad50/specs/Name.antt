@@ -1,6 +1,7 @@
 -- The name of a file: its parts, its five words and its text (Files-11 On-Disk Structure Level 1,
 -- file names). A name is seen as the list of its words.
-use Rattle.std.specs.Prelude.{◌≡◌, ℕ, ◌+◌, ◌<◌, ◌≤◌, Bool, ◌&&◌, ◌||◌, false, List, [], ◌∷◌, ◌++◌, map, length, take, drop, ◌==◌, nat_le, nat_lt, slice_index, position, Option, Some, None, option_map, if◌then◌else◌}
+use Rattle.std.specs.Prelude.{◌≡◌, ℕ, ◌+◌, ◌<◌, ◌≤◌, Bool, ◌&&◌, ◌||◌, false, List, [], ◌∷◌, ◌++◌, map, length, take, drop, ◌==◌}
+use Rattle.std.specs.Prelude.{nat_le, nat_lt, slice_index, position, Option, Some, None, option_map, if◌then◌else◌}
 use Rattle.std.specs.Char.{is_digit}
 use Rattle.std.specs.Option.{option_and_then, option_map_or}
 use Rattle.std.specs.Str.{bytes_eq}

@@ -1,6 +1,7 @@
 -- Radix-50: three characters in a word of sixteen bits (Files-11 On-Disk Structure Level 1, Radix-50).
 -- Characters are named by their ASCII codes.
-use Rattle.std.specs.Prelude.{◌≡◌, ◌≢◌, ℕ, ◌+◌, ◌-◌, ◌*◌, ◌/◌, ◌%◌, ◌&&◌, List, [], ◌∷◌, length, All, if◌then◌else◌, ◌==◌, nat_le, slice_index_or}
+use Rattle.std.specs.Prelude.{◌≡◌, ◌≢◌, ℕ, ◌+◌, ◌-◌, ◌*◌, ◌/◌, ◌%◌, ◌&&◌, List, [], ◌∷◌, length, All}
+use Rattle.std.specs.Prelude.{if◌then◌else◌, ◌==◌, nat_le, slice_index_or}
 
 -- The code of a character: a space is 0, `A` to `Z` are 1 to 26, `$` is 27, `.` is 28, `0` to `9`
 -- are 30 to 39 (in ASCII 32, 65 to 90, 36, 46, 48 to 57). Any other byte gets 29, which is the code of

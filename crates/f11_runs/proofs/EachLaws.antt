@@ -1,7 +1,7 @@
 -- Calls that were answered one after another, in parts and all the way.
 use Rattle.std.proofs.Common.{◌≡◌, ℕ, ◌+◌, ◌≤◌, suc, Bool, true, List, [], ◌∷◌, ◌++◌, length, refl, sym, ◌∙◌, ap, subst, arith, All, length-append}
 use Rattle.f11_store.specs.Run.{Call, Answer}
-use Rattle.f11_runs.specs.Each.{Each, Adds, EachCosts, IsSeenAs, Steps, Within}
+use Rattle.f11_runs.specs.Each.{Each, AddsCost, EachCosts, IsSeenAs, Steps, Within}
 use Rattle.f11_runs.specs.Laws.{EmptyChangesNothing, EachIsAnswered, TwoAreOne, OneIsTwo, OneMoreRuns, LastIsStep, RunIsSteps, StepsAreRun, KeptAlong}
 
 module _ {V : Type 0} (R : V → Call → Answer → V → Type 0) where
@@ -82,7 +82,7 @@ module _ {V : Type 0} (R : V → Call → Answer → V → Type 0) (cost : V →
     (grows : (v w : V) (c : Call) (a : Answer) → P v → R v c a w → (measure w ≤ measure v + cost v c) × P w)
   where
     costs-from : (v w : V) (n : ℕ) (cs : List Call) (bs : List Answer) → Each R v cs bs w →
-        (most : ℕ) × Each (Adds R cost) (record { value = v; sum = n }) cs bs (record { value = w; sum = most }) × (P v → measure w + n ≤ measure v + most)
+        (most : ℕ) × Each (AddsCost R cost) (record { value = v; sum = n }) cs bs (record { value = w; sum = most }) × (P v → measure w + n ≤ measure v + most)
     costs-from v w n [] [] h = (n, (λ i. record { value = h i; sum = n }), λ p. omega (arith, ap measure h))
     costs-from v w n (c ∷ cs) (a ∷ bs) h =
         let rest = costs-from h.0 w (n + cost v c) cs bs h.2 in

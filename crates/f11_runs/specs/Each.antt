@@ -31,11 +31,13 @@ abbrev pub Within : {V : Type 0} → (V → Type 0) → (V → Call → Answer �
 Within P R v c a v' = (P v) × (R v c a v') × (P v')
 
 -- What R does is, seen so, what T does, where it is sound and nothing fails: failures are counted and never fall, and it stays sound.
-pub record IsSeenAs {V W : Type 0} (R : V → Call → Answer → V → Type 0) (T : W → Call → Answer → W → Type 0) (view : V → W) (failures : V → ℕ) (is_sound : V → Bool) :
+pub record IsSeenAs {V W : Type 0} (R : V → Call → Answer → V → Type 0) (T : W → Call → Answer → W → Type 0) (view : V → W)
+    (failures : V → ℕ) (is_sound : V → Bool) :
     Type 0
   where
     pub rises : (v w : V) (c : Call) (a : Answer) → R v c a w → failures v ≤ failures w
-    pub seen : (v w : V) (c : Call) (a : Answer) → R v c a w → is_sound v ≡ true → failures w ≡ failures v → T (view v) c a (view w) × (is_sound w ≡ true)
+    pub seen : (v w : V) (c : Call) (a : Answer) → R v c a w → is_sound v ≡ true → failures w ≡ failures v →
+        T (view v) c a (view w) × (is_sound w ≡ true)
 
 -- what there is, and a sum
 pub record Summed (V : Type 0) : Type 0 where
@@ -43,9 +45,10 @@ pub record Summed (V : Type 0) : Type 0 where
   pub sum : ℕ
 
 -- R answered the call, and what the call may cost was added
-abbrev pub Adds : {V : Type 0} → (V → Call → Answer → V → Type 0) → (V → Call → ℕ) → Summed V → Call → Answer → Summed V → Type 0
-Adds R cost v c a w = R v.value c a w.value × (w.sum ≡ v.sum + cost v.value c)
+abbrev pub AddsCost : {V : Type 0} → (V → Call → Answer → V → Type 0) → (V → Call → ℕ) → Summed V → Call → Answer → Summed V → Type 0
+AddsCost R cost v c a w = R v.value c a w.value × (w.sum ≡ v.sum + cost v.value c)
 
 -- the calls were answered one after another, and may cost so much in all, each from what there was before it
 abbrev pub EachCosts : {V : Type 0} → (V → Call → Answer → V → Type 0) → (V → Call → ℕ) → V → List Call → List Answer → V → ℕ → Type 0
-EachCosts R cost v calls answers w most = Each (Adds R cost) (record { value = v; sum = 0 }) calls answers (record { value = w; sum = most })
+EachCosts R cost v calls answers w most = Each (AddsCost R cost) (record { value = v; sum = 0 }) calls answers
+    (record { value = w; sum = most })

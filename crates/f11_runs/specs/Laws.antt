@@ -82,7 +82,8 @@ StandingIsEmpty = (s : Store) → IsStanding s → FreeIsEmpty s
 
 -- nor is one at any store on the way
 abbrev pub StandingRunIsTidy : Type 0
-StandingRunIsTidy = (s s' : Store) (calls : List Call) (answers : List Answer) → IsStanding s → Run s calls answers s' → TidyRun s calls answers s'
+StandingRunIsTidy = (s s' : Store) (calls : List Call) (answers : List Answer) → IsStanding s → Run s calls answers s' →
+    TidyRun s calls answers s'
 
 -- and where that is so, accesses are to files that are there all the way
 abbrev pub AccessesStay : Type 0
@@ -105,8 +106,10 @@ LockedStays =
 -- what is read of a file that is locked is what its blocks are, and EndOfFile exactly past them
 abbrev pub LockedIsRead : Type 0
 LockedIsRead =
-    (s s' : Store) (task lun : ℕ) (id : FileId) (blocks : List (List ℕ)) (caller : Uic) (vbn : ℕ) (block block' : List ℕ) (result : Result Reply Refusal) →
-    IsLocked s task lun id blocks → 0 < vbn → Step s task caller (request.ReadBlock lun vbn) block result s' block' → IsReadOf blocks vbn result block'
+    (s s' : Store) (task lun : ℕ) (id : FileId) (blocks : List (List ℕ)) (caller : Uic) (vbn : ℕ) (block block' : List ℕ)
+    (result : Result Reply Refusal) →
+    IsLocked s task lun id blocks → 0 < vbn → Step s task caller (request.ReadBlock lun vbn) block result s' block' →
+    IsReadOf blocks vbn result block'
 
 -- what ends a locked access is never refused
 abbrev pub EndIsServed : Type 0
@@ -118,8 +121,10 @@ EndIsServed =
 -- VBN above 0 by its task and lun: it gives the block of the content as it was before the access, and EndOfFile exactly past it.
 abbrev pub LockedReadIs : Type 0
 LockedReadIs =
-    (s t u v : Store) (access read : Call) (granted given : Answer) (between : List Call) (meanwhile : List Answer) (id : FileId) (lun vbn : ℕ) →
-    FreeIsEmpty s → AccessesStand s → IsTasks access → All IsTasks between → access.request ≡ request.Access id mode.Locked lun → granted.result ≡ Ok reply.Done →
+    (s t u v : Store) (access read : Call) (granted given : Answer) (between : List Call) (meanwhile : List Answer) (id : FileId)
+    (lun vbn : ℕ) →
+    FreeIsEmpty s → AccessesStand s → IsTasks access → All IsTasks between → access.request ≡ request.Access id mode.Locked lun →
+    granted.result ≡ Ok reply.Done →
     All (λ c. ends access.task lun c ≡ false) between → read.task ≡ access.task → read.request ≡ request.ReadBlock lun vbn → 0 < vbn →
     Steps s access granted t → TidyRun t between meanwhile u → Steps u read given v →
     IsReadOf (file_named s id).blocks vbn given.result given.block
@@ -134,4 +139,5 @@ TidyLocksHold =
 -- So it is whatever list is run from a store that stands.
 abbrev pub RunLocksHold : Type 0
 RunLocksHold =
-    (s s' : Store) (calls : List Call) (answers : List Answer) → All IsTasks calls → IsStanding s → Run s calls answers s' → LocksHold s calls answers s'
+    (s s' : Store) (calls : List Call) (answers : List Answer) → All IsTasks calls → IsStanding s → Run s calls answers s' →
+    LocksHold s calls answers s'

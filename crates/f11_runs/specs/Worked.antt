@@ -5,7 +5,7 @@ use Rattle.f11_store.specs.declared.refusals.Refusal.TheVariants as refusal
 use Rattle.f11_store.specs.declared.requests.Request.TheVariants as request
 use Rattle.f11_store.specs.declared.requests.Reply.TheVariants as reply
 use Rattle.f11_store.specs.Run.{Call, Answer}
-use Rattle.f11_store.specs.Worked.{small_volume, mfd_block, id, indexf, a_txt, asks, gets, no, reads, Answers}
+use Rattle.f11_store.specs.Worked.{small_volume, mfd_block, id, indexf, a_txt, asks, gets, no, reads, MayAnswer}
 use Rattle.f11_runs.specs.Locked.{ReadsLocked}
 use Rattle.f11_runs.specs.Standing.{IsStanding}
 
@@ -19,7 +19,8 @@ SmallStands = IsStanding small_volume
 abbrev pub locked_calls : List Call
 locked_calls =
     asks 0 request.Release ∷ asks 1 (request.Access (id 4 4) mode.Locked 0) ∷ asks 2 (request.Access (id 4 4) mode.Write 0)
-    ∷ asks 0 (request.Enter (id 4 4) a_txt (id 6 1)) ∷ asks 0 (request.Remove (id 4 4) indexf) ∷ asks 1 (request.Access (id 4 4) mode.Locked 1)
+    ∷ asks 0 (request.Enter (id 4 4) a_txt (id 6 1)) ∷ asks 0 (request.Remove (id 4 4) indexf) ∷ asks 1
+    (request.Access (id 4 4) mode.Locked 1)
     ∷ asks 1 (request.Deaccess 1) ∷ asks 2 request.Release ∷ reads 1 0 1 ∷ reads 1 0 2 ∷ asks 1 request.Release
     ∷ asks 0 (request.Remove (id 4 4) indexf) ∷ []
 
@@ -31,7 +32,7 @@ locked_answers =
     ∷ gets reply.Done ∷ []
 
 abbrev pub LockedIsAnswered : Type 0
-LockedIsAnswered = Answers small_volume locked_calls locked_answers
+LockedIsAnswered = MayAnswer small_volume locked_calls locked_answers
 
 -- a read of this VBN by a locked access is among them
 abbrev pub IsReadLocked : ℕ → Type 0

@@ -1,7 +1,7 @@
 -- What a line asks, told by the line alone.
 use Rattle.std.proofs.Common.{◌≡◌, ℕ, List, [], ◌∷◌, Bool, true, false, Option, Some, None, IfSome, option_map, if◌then◌else◌, nat_lt, length, refl, ◌∙◌, ap}
 use Rattle.f11_store.specs.declared.callers.Uic.{Uic}
-use Rattle.f11_script.specs.Reading.{◌>>=◌, words_of, argument, at_end}
+use Rattle.f11_script.specs.Reading.{◌>>=◌, words_between, argument, at_end}
 use Rattle.f11_rad50.specs.Name.{words_spelled}
 use Rattle.f11_script.specs.Fields.{task_of, uic_of, lun_of, number_of, word_of, byte_of, octal_byte_of, protection_of, id_of, mode_of}
 use Rattle.f11_script.specs.Verbs.{verb_of}
@@ -35,11 +35,11 @@ unfolding line_of saying_of
 line_asks_alone line block = by_tests (nat_lt 1200 (length line)) (is_comment line)
   where
     by_tests : (long comment : Bool) →
-        (if long then bad_line else if comment then no_request else line_of_call (call_of (words_of line) block))
-        ≡ line_with (if long then badly else if comment then nothing else saying_of_asked (asked_of (words_of line))) block
+        (if long then bad_line else if comment then no_request else line_of_call (call_of (words_between line) block))
+        ≡ line_with (if long then badly else if comment then nothing else saying_of_asked (asked_of (words_between line))) block
     by_tests true comment = refl
     by_tests false true = refl
-    by_tests false false = ap line_of_call (call_of_asked (words_of line) block) ∙ line_of_asked (asked_of (words_of line)) block
+    by_tests false false = ap line_of_call (call_of_asked (words_between line) block) ∙ line_of_asked (asked_of (words_between line)) block
 
 -- what holds of all that is made of what is read
 so_fits : {A B : Type 0} (P : B → Type 0) (o : Option A) (k : A → Option B) → ((x : A) → IfSome (k x) P) → IfSome (o >>= k) P
@@ -93,7 +93,7 @@ asked_fits words =
 
 pub block_is_passed_on : BlockIsPassedOn
 unfolding saying_of
-block_is_passed_on line = by_tests (nat_lt 1200 (length line)) (is_comment line) (asked_of (words_of line)) (asked_fits (words_of line))
+block_is_passed_on line = by_tests (nat_lt 1200 (length line)) (is_comment line) (asked_of (words_between line)) (asked_fits (words_between line))
   where
     by_tests : (long comment : Bool) (o : Option Asked) → IfSome o (λ a. Fits a.ask) →
         HasBlock (if long then badly else if comment then nothing else saying_of_asked o)

@@ -19,7 +19,7 @@ use Rattle.f11_store.specs.Text.{id_text, octal_digits, uic_text}
 use Rattle.f11_store.specs.declared.callers.Uic.{Uic}
 use Rattle.f11_store.specs.declared.files.FileId.{FileId}
 use Rattle.f11_store.specs.declared.files.Mode.TheVariants as mode
-use Rattle.f11_script.specs.Reading.{words_of}
+use Rattle.f11_script.specs.Reading.{words_between}
 use Rattle.f11_script.specs.Fields.{is_hex}
 use Rattle.f11_script.specs.Lines.{is_comment, request_line}
 use Rattle.f11_script.specs.Spelling.{Sentence, create, extend, truncate, delete, grow, access, close, release, read, fill, write, find, enter, remove, attr, set_attr, protect, space, sentence_words, line_words, line_text, line_call, IsInRange, IsId, SpelledIsRead}
@@ -41,7 +41,7 @@ no_space word h k d within = turned _ (AllPass-from_list_all is_plain word h k d
     turned true e = absurd (cc)
 
 -- words without a space are the words of their line
-words_of-joined : (w : List ℕ) (ws : List (List ℕ)) → list_all plain (w ∷ ws) ≡ true → words_of (join_with_byte 32 (w ∷ ws)) ≡ w ∷ ws
+words_of-joined : (w : List ℕ) (ws : List (List ℕ)) → list_all plain (w ∷ ws) ≡ true → words_between (join_with_byte 32 (w ∷ ws)) ≡ w ∷ ws
 words_of-joined w [] h = slice_split_none (λ c. c == 32) w (no_space w (both _ _ h).0)
 words_of-joined w (v ∷ ws) h =
     slice_split_at (λ c. c == 32) w 32 (join_with_byte 32 (v ∷ ws)) (no_space w (both _ _ h).0) refl
@@ -136,7 +136,7 @@ plain_sentence (protect f word) h = rw (plain_id f h.0, plain_octal word h.1) re
 plain_sentence space h = refl
 
 -- the words of a line
-words_of-line : (task : ℕ) (uic : Uic) (s : Sentence) → task ≤ 7 → uic.group ≤ 255 → uic.member ≤ 255 → IsInRange s → words_of (line_text task uic s) ≡ line_words task uic s
+words_of-line : (task : ℕ) (uic : Uic) (s : Sentence) → task ≤ 7 → uic.group ≤ 255 → uic.member ≤ 255 → IsInRange s → words_between (line_text task uic s) ≡ line_words task uic s
 words_of-line task uic s t group member h =
     words_of-joined (octal_digits task) (uic_text uic ∷ sentence_words s) (rw (plain_octal task (omega (arith, t)), plain_code uic group member) (plain_sentence s h))
 

@@ -2,7 +2,7 @@
 use Rattle.std.proofs.Common.{◌≡◌, ◌⊎◌, inl, inr, ℕ, ◌<◌, ◌≤◌, true, false, List, length, Option, Some, None, option_map, refl, sym, ◌∙◌, ap}
 use Rattle.std.proofs.lemmas.Bool.{lt-ltb, le-ltb, cases_lt}
 use Rattle.f11_store.specs.Run.{Call}
-use Rattle.f11_script.specs.Reading.{words_of}
+use Rattle.f11_script.specs.Reading.{words_between}
 use Rattle.f11_script.specs.Input.{CutLineIsAlike}
 use Rattle.f11_script.specs.Lines.{Line, no_request, bad_line, request_line, call_of, is_comment, line_of_call, line_of}
 
@@ -15,11 +15,11 @@ unfolding line_of
 comment line block short h = rw (le-ltb 1200 (length line) short, h) refl
 
 -- a line that is neither is a call or a bad line
-other : (line block : List ℕ) → length line ≤ 1200 → is_comment line ≡ false → line_of line block ≡ line_of_call (call_of (words_of line) block)
+other : (line block : List ℕ) → length line ≤ 1200 → is_comment line ≡ false → line_of line block ≡ line_of_call (call_of (words_between line) block)
 unfolding line_of
 other line block short h = rw (le-ltb 1200 (length line) short, h) refl
 
-pub call : (line block : List ℕ) (words : List (List ℕ)) (o : Option Line) → length line ≤ 1200 → is_comment line ≡ false → words ≡ words_of line →
+pub call : (line block : List ℕ) (words : List (List ℕ)) (o : Option Line) → length line ≤ 1200 → is_comment line ≡ false → words ≡ words_between line →
     option_map request_line (call_of words block) ≡ o → (l : Line) → o ≡ Some l → l ≡ line_of line block
 call line block words o short plain same is l there =
     by_call (call_of words block) (is ∙ there) ∙ ap (λ ws. line_of_call (call_of ws block)) same ∙ sym (other line block short plain)
@@ -28,7 +28,7 @@ call line block words o short plain same is l there =
     by_call None e = absurd (cc)
     by_call (Some x) e = let same : request_line x ≡ l = cc in sym same
 
-pub no_call : (line block : List ℕ) (words : List (List ℕ)) → length line ≤ 1200 → is_comment line ≡ false → words ≡ words_of line →
+pub no_call : (line block : List ℕ) (words : List (List ℕ)) → length line ≤ 1200 → is_comment line ≡ false → words ≡ words_between line →
     option_map request_line (call_of words block) ≡ None → bad_line ≡ line_of line block
 no_call line block words short plain same none =
     by_call (call_of words block) none ∙ ap (λ ws. line_of_call (call_of ws block)) same ∙ sym (other line block short plain)

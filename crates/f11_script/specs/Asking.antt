@@ -4,7 +4,7 @@ use Rattle.f11_store.specs.Run.{Call}
 use Rattle.f11_store.specs.declared.callers.Uic.{Uic}
 use Rattle.f11_store.specs.declared.requests.Request.{Request}
 use Rattle.f11_store.specs.declared.requests.Request.TheVariants as request
-use Rattle.f11_script.specs.Reading.{◌>>=◌, words_of, argument}
+use Rattle.f11_script.specs.Reading.{◌>>=◌, words_between, argument}
 use Rattle.f11_script.specs.Fields.{task_of, uic_of}
 use Rattle.f11_script.specs.Verbs.{verb_of}
 use Rattle.f11_script.specs.Requests.{Ask, verb_asks}
@@ -41,7 +41,7 @@ unfoldable pub saying_of : List ℕ → Saying
 saying_of line =
     if nat_lt 1200 (length line) then badly
     else if is_comment line then nothing
-    else saying_of_asked (asked_of (words_of line))
+    else saying_of_asked (asked_of (words_between line))
 
 -- the call, with the caller's block before it
 abbrev pub called : Asked → List ℕ → Call

@@ -1,6 +1,7 @@
 -- The single words of a line: numbers, identifications, users' codes, names, bytes (profile).
 -- A character is its code in ASCII: a comma is 44, brackets are 91 and 93.
-use Rattle.std.specs.Prelude.{ℕ, ◌+◌, ◌-◌, ◌*◌, ◌%◌, ◌<◌, ◌==◌, ◌&&◌, nat_le, nat_lt, Bool, List, length, map, Option, Some, None, codes, slice_index, slice_range, replicate, if◌then◌else◌}
+use Rattle.std.specs.Prelude.{ℕ, ◌+◌, ◌-◌, ◌*◌, ◌%◌, ◌<◌, ◌==◌, ◌&&◌, nat_le, nat_lt, Bool, List, length, map, Option}
+use Rattle.std.specs.Prelude.{Some, None, codes, slice_index, slice_range, replicate, if◌then◌else◌}
 use Rattle.std.specs.Char.{digit_value, is_digit}
 use Rattle.std.specs.List.{list_all, range_with_len}
 use Rattle.std.specs.Str.{bytes_eq}

@@ -3,7 +3,7 @@ use Rattle.std.specs.Prelude.{◌≡◌, ℕ, ◌==◌, ◌||◌, nat_lt, Bool, 
 use Rattle.f11_store.specs.Run.{Call}
 use Rattle.f11_script.specs.declared.line.Parsed.{Parsed}
 use Rattle.f11_script.specs.declared.line.Parsed.TheVariants.{Nothing, Bad, Asks}
-use Rattle.f11_script.specs.Reading.{◌>>=◌, words_of, argument}
+use Rattle.f11_script.specs.Reading.{◌>>=◌, words_between, argument}
 use Rattle.f11_script.specs.Fields.{task_of, uic_of}
 use Rattle.f11_script.specs.Verbs.{verb_of}
 use Rattle.f11_script.specs.Requests.{verb_asks}
@@ -37,7 +37,7 @@ unfoldable pub line_of : List ℕ → List ℕ → Line
 line_of line block =
     if nat_lt 1200 (length line) then bad_line
     else if is_comment line then no_request
-    else line_of_call (call_of (words_of line) block)
+    else line_of_call (call_of (words_between line) block)
 
 -- what the code made of a line, with the caller's block after it
 abbrev pub line_parsed : Parsed → List ℕ → Line

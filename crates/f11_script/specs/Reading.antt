@@ -16,8 +16,8 @@ Gives view None read = read ≡ None
 Gives view (Some x) read = read ≡ Some (view x)
 
 -- the words of a text, which single spaces separate: two spaces in a row have an empty word between them
-abbrev pub words_of : List ℕ → List (List ℕ)
-words_of text = slice_split (λ c. c == 32) text
+abbrev pub words_between : List ℕ → List (List ℕ)
+words_between text = slice_split (λ c. c == 32) text
 
 -- a word, and the words behind it
 abbrev pub next_word : List (List ℕ) → Option (List ℕ × List (List ℕ))
@@ -39,7 +39,7 @@ at_end (_ ∷ _) x = None
 -- the words of a text that may be none at all
 abbrev pub words_of_rest : Option (List ℕ) → List (List ℕ)
 words_of_rest None = []
-words_of_rest (Some text) = words_of text
+words_of_rest (Some text) = words_between text
 
 -- the words that the code has left
 abbrev pub words_left : Words → List (List ℕ)

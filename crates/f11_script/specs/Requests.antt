@@ -9,7 +9,8 @@ use Rattle.f11_store.specs.declared.requests.Request.TheVariants as request
 use Rattle.f11_script.specs.declared.verb.Verb.{Verb}
 use Rattle.f11_script.specs.declared.verb.Verb.TheVariants as verb
 use Rattle.f11_script.specs.Reading.{◌>>=◌, argument, at_end}
-use Rattle.f11_script.specs.Fields.{number_of, word_of, byte_of, lun_of, protection_of, octal_byte_of, id_of, mode_of, is_hex, hex_block, filled_block}
+use Rattle.f11_script.specs.Fields.{number_of, word_of, byte_of, lun_of, protection_of, octal_byte_of}
+use Rattle.f11_script.specs.Fields.{id_of, mode_of, is_hex, hex_block, filled_block}
 
 -- a request, and what the caller's block becomes
 pub record Ask : Type 0 where

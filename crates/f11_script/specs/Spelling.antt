@@ -82,7 +82,8 @@ sentence_asks (find d name) = asks (request.Find d name)
 sentence_asks (enter d name f) = asks (request.Enter d name f)
 sentence_asks (remove d name) = asks (request.Remove d name)
 sentence_asks (attr f) = asks (request.ReadAttr f)
-sentence_asks (set_attr f rtyp ratt rsiz hibk efbk ffby) = asks (request.WriteAttr f (change.Attr (attr_bytes rtyp ratt rsiz hibk efbk ffby)))
+sentence_asks (set_attr f rtyp ratt rsiz hibk efbk ffby) = asks
+    (request.WriteAttr f (change.Attr (attr_bytes rtyp ratt rsiz hibk efbk ffby)))
 sentence_asks (protect f word) = asks (request.WriteAttr f (change.Protect word))
 sentence_asks space = asks request.Space
 

@@ -10,12 +10,12 @@ pub(crate) struct Words<'a> {
 }
 
 impl<'a> Words<'a> {
-    ghost use Rattle.f11_script.specs.Reading.{Gives, at_end, next_word, words_left, words_of};
+    ghost use Rattle.f11_script.specs.Reading.{Gives, at_end, next_word, words_left, words_between};
     ghost use Rattle.f11_script.specs.Requests.{Ask};
 
     /// The words of a line.
     pub(crate) fn of(line: &'a [u8]) -> Words<'a>
-        ensures { words_left result ≡ words_of line.entry.now }
+        ensures { words_left result ≡ words_between line.entry.now }
     {
         Words { rest: Some(line) }
     }

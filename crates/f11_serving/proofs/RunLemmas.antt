@@ -6,7 +6,7 @@ use Rattle.f11_script.specs.Lines.{Line, no_request, bad_line, request_line, lin
 use Rattle.f11_script.specs.Asking.{Saying, nothing, badly, says, saying_of, asked_by, line_with, requests_in}
 use Rattle.f11_script.proofs.AskingLemmas.{line_asks_alone}
 use Rattle.f11_serving.specs.Served.{Service, Behind, ServesLine, ServesLines}
-use Rattle.f11_runs.specs.Each.{Adds, Each, IsSeenAs, Steps}
+use Rattle.f11_runs.specs.Each.{AddsCost, Each, IsSeenAs, Steps}
 use Rattle.f11_runs.proofs.EachLaws.{steps-are-run as each-is-run}
 use Rattle.f11_serving.specs.Laws.{calls_of, text_with, text_of, Tells, RequestsAreAnswered, StepsAreRun, SoundIsRun}
 
@@ -135,14 +135,14 @@ module _ {V : Type 0} (S : Service V) (cost : V → Call → ℕ) (measure : V �
     -- from this sum on, to that
     pub record CostsFrom (lines : List (List ℕ)) (v : V) (n : ℕ) (block text : List ℕ) (count : ℕ) (w : V) (block' : List ℕ) : Type 0 where
       pub most : ℕ
-      pub serves : ServesLines (Adds S cost) lines (record { value = v; sum = n }) block text count (record { value = w; sum = most }) block'
+      pub serves : ServesLines (AddsCost S cost) lines (record { value = v; sum = n }) block text count (record { value = w; sum = most }) block'
       pub bound : P v → (measure w + n ≤ measure v + most) × P w
 
     -- the same of a line and what is behind it
     record LineCosts (l : Line) (rest : List (List ℕ)) (v : V) (n : ℕ) (block text : List ℕ) (count : ℕ) (w : V) (block' : List ℕ) : Type 0 where
       most : ℕ
-      serves : ServesLine (Adds S cost) l (record { value = v; sum = n }) block text count
-          (λ x b t k. ServesLines (Adds S cost) rest x b t k (record { value = w; sum = most }) block')
+      serves : ServesLine (AddsCost S cost) l (record { value = v; sum = n }) block text count
+          (λ x b t k. ServesLines (AddsCost S cost) rest x b t k (record { value = w; sum = most }) block')
       bound : P v → (measure w + n ≤ measure v + most) × P w
 
     line-costs : (l : Line) (rest : List (List ℕ)) (v w : V) (n : ℕ) (block block' text : List ℕ) (count : ℕ) →

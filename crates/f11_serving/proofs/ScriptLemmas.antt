@@ -10,7 +10,7 @@ use Rattle.f11_script.proofs.LineLemmas.{cut_line_is_alike}
 use Rattle.f11_script.specs.declared.errors.ScriptError.{ScriptError}
 use Rattle.f11_script.specs.declared.errors.ScriptError.TheVariants.{ReadFault, WriteFault, TooLong}
 use Rattle.f11_serving.specs.Served.{Service, ServesLines, zeros}
-use Rattle.f11_serving.specs.Serving.{Place, Reads, Finishes, StopsReading, StopsWriting, ServesScript, AnswersLine}
+use Rattle.f11_serving.specs.Serving.{Place, HasRead, Finishes, StopsReading, StopsWriting, ServesScript, AnswersLine}
 use Rattle.f11_serving.proofs.ServedLemmas.{parts-are-served, one-alike}
 
 -- the lines that were read of these bytes, and what is left of them
@@ -49,7 +49,7 @@ read-all (Some xs) (Some ys) (Some zs) read n m given h t = (
   omega (arith, ap length h.1, length-append h.0 ys, ap length t.at_end, h.3, t.number),
 )
 
-read-part : (a b c : Option (List ℕ)) (read : List (List ℕ)) (n m : ℕ) → ReadTo a b read n → TakesNoLine b c n m → Reads a c read m
+read-part : (a b c : Option (List ℕ)) (read : List (List ℕ)) (n m : ℕ) → ReadTo a b read n → TakesNoLine b c n m → HasRead a c read m
 read-part None b c read n m h t = tt
 read-part (Some xs) None c read n m h t = absurd h
 read-part (Some xs) (Some ys) None read n m h t = absurd t.taken
@@ -62,7 +62,7 @@ read-part (Some xs) (Some ys) (Some zs) read n m h t = record {
   count_is = omega (arith, h.3, t.number);
 }
 
-read-whole : (a b : Option (List ℕ)) (read : List (List ℕ)) (n : ℕ) → ReadTo a b read n → Reads a b read n
+read-whole : (a b : Option (List ℕ)) (read : List (List ℕ)) (n : ℕ) → ReadTo a b read n → HasRead a b read n
 read-whole None b read n h = tt
 read-whole (Some xs) None read n h = absurd h
 read-whole (Some xs) (Some ys) read n h = record {

@@ -5,8 +5,8 @@ use Rattle.f11_store.specs.Run.{Call, Answer}
 use Rattle.f11_store.specs.declared.refusals.Refusal.{Refusal}
 use Rattle.f11_store.specs.declared.refusals.Refusal.TheVariants.{DeviceFault, Damaged}
 use Rattle.f11_store.specs.declared.requests.Reply.{Reply}
-use Rattle.f11_files.specs.Answers.{is_grave, is_refused}
-use Rattle.f11_runs.specs.Each.{Adds, IsSeenAs, Steps}
+use Rattle.f11_files.specs.Answers.{is_fatal, is_refused}
+use Rattle.f11_runs.specs.Each.{AddsCost, IsSeenAs, Steps}
 use Rattle.f11_script.specs.declared.errors.ScriptError.{ScriptError}
 use Rattle.f11_script.specs.declared.errors.ScriptError.TheVariants.{ReadFault, WriteFault, TooLong}
 use Rattle.f11_fcp.specs.Lists.{ServesCall, cost_of, failures_of, is_sound, store_of_volume, transfers_of}
@@ -15,7 +15,7 @@ use Rattle.f11_fcp.specs.Serving.{is_spent, state_in}
 use Rattle.f11_fcp.specs.declared.volume.Volume.{Volume}
 use Rattle.f11_fcp.proofs.ListLemmas.{grows, seen-as-steps}
 use Rattle.f11_serving.specs.Served.{Service, zeros}
-use Rattle.f11_serving.specs.Serving.{Answers, Place, RunsScript, StopsReading}
+use Rattle.f11_serving.specs.Serving.{AnswersLines, Place, RunsScript, StopsReading}
 use Rattle.f11_serving.specs.Scripts.{KeepsScriptCosts, ServesScriptRun}
 use Rattle.f11_serving.proofs.RunLemmas.{costs-from, lines-keep, lines-rise, lines-seen, lines-sound}
 
@@ -23,7 +23,7 @@ use Rattle.f11_serving.proofs.RunLemmas.{costs-from, lines-keep, lines-rise, lin
 module _ {V W : Type 0} (S : Service V) (T : Service W) (view : V → W) (failures : V → ℕ) (is_sound : V → Bool) (m : IsSeenAs S T view failures is_sound)
     (bytes written written' : Option (List ℕ)) (old new : V) (sound : is_sound old ≡ true) (none : failures new ≡ failures old)
   where
-    answers-seen : (read : List (List ℕ)) (count : ℕ) → Answers S read old new written written' count → Answers T read (view old) (view new) written written' count
+    answers-seen : (read : List (List ℕ)) (count : ℕ) → AnswersLines S read old new written written' count → AnswersLines T read (view old) (view new) written written' count
     answers-seen read count a = record {
       text = a.text;
       block = a.block;
@@ -93,7 +93,7 @@ module _ {V : Type 0} (S : Service V) (cost : V → Call → ℕ) (measure : V �
   where
     abbrev pub Costs : Result ℕ ScriptError → Type 0
     Costs result =
-        (most : ℕ) × RunsScript (Adds S cost) bytes (record { value = old; sum = 0 }) (record { value = new; sum = most }) written written' result × (P old → measure new ≤ measure old + most)
+        (most : ℕ) × RunsScript (AddsCost S cost) bytes (record { value = old; sum = 0 }) (record { value = new; sum = most }) written written' result × (P old → measure new ≤ measure old + most)
 
     pub script-costs : (result : Result ℕ ScriptError) → RunsScript S bytes old new written written' result → Costs result
     script-costs (Ok count) h =
@@ -146,16 +146,16 @@ module _ {V : Type 0} (S : Service V) (cost : V → Call → ℕ) (measure : V �
         )
 
 -- what fails the volume is a transfer that failed, on an honest disk
-light-none : (result : Result Reply Refusal) → is_refused is_grave result ≡ false → faults_in result ≡ 0
-light-none (Ok reply) light = refl
-light-none (Err DeviceFault) light = absurd (let never : true ≡ false = light in cc)
-light-none (Err _) light = refl
+clean-none : (result : Result Reply Refusal) → is_refused is_fatal result ≡ false → faults_in result ≡ 0
+clean-none (Ok reply) clean = refl
+clean-none (Err DeviceFault) clean = absurd (let never : true ≡ false = clean in cc)
+clean-none (Err _) clean = refl
 
-grave-one : (result : Result Reply Refusal) → is_refused is_grave result ≡ true → is_refused is_damage result ≡ false → faults_in result ≡ 1
-grave-one (Ok reply) grave undamaged = absurd (let never : false ≡ true = grave in cc)
-grave-one (Err DeviceFault) grave undamaged = refl
-grave-one (Err Damaged) grave undamaged = absurd (let never : true ≡ false = undamaged in cc)
-grave-one (Err _) grave undamaged = absurd (let never : false ≡ true = grave in cc)
+fatal-one : (result : Result Reply Refusal) → is_refused is_fatal result ≡ true → is_refused is_damage result ≡ false → faults_in result ≡ 1
+fatal-one (Ok reply) fatal undamaged = absurd (let never : false ≡ true = fatal in cc)
+fatal-one (Err DeviceFault) fatal undamaged = refl
+fatal-one (Err Damaged) fatal undamaged = absurd (let never : true ≡ false = undamaged in cc)
+fatal-one (Err _) fatal undamaged = absurd (let never : false ≡ true = fatal in cc)
 
 -- the home block and whether the disk is honest stay; once a request has failed the volume that stays so; while none has no transfer fails, and
 -- where one does a transfer failed, on an honest disk
@@ -178,21 +178,21 @@ module _ {D : Type 0} {met : Ghosts D} where
           record {
             home = ap (λ (x : State). x.home) state;
             honest = ap (λ (x : State). x.disk.honest) state;
-            spent = λ _. served.serving.next ∙ ap (λ b. b || is_refused is_grave a.result) is;
+            spent = λ _. served.serving.next ∙ ap (λ b. b || is_refused is_fatal a.result) is;
             rises = omega (arith, failures);
             same = λ _. failures;
             more = λ _ alive _. absurd (let never : true ≡ false = sym is ∙ alive in cc);
           }
       by_spent false is =
           let handled = served.serving.handled is in
-          let next : is_spent w ≡ is_refused is_grave a.result = served.serving.next ∙ ap (λ b. b || is_refused is_grave a.result) is in
+          let next : is_spent w ≡ is_refused is_fatal a.result = served.serving.next ∙ ap (λ b. b || is_refused is_fatal a.result) is in
           record {
             home = handled.home;
             honest = handled.writes.went.honest;
             spent = λ was. absurd (let never : false ≡ true = sym is ∙ was in cc);
             rises = omega (arith, handled.writes.went.failures);
-            same = λ alive. omega (arith, handled.writes.went.failures, light-none a.result (sym next ∙ alive));
-            more = λ honest _ failed. omega (arith, handled.writes.went.failures, grave-one a.result (sym next ∙ failed) (handled.undamaged honest));
+            same = λ alive. omega (arith, handled.writes.went.failures, clean-none a.result (sym next ∙ alive));
+            more = λ honest _ failed. omega (arith, handled.writes.went.failures, fatal-one a.result (sym next ∙ failed) (handled.undamaged honest));
           }
 
   volume-self : (v : Volume D met) → KeepsVolume v v

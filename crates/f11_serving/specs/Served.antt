@@ -12,8 +12,8 @@ Service V = V → Call → Answer → V → Type 0
 abbrev pub Behind : Type 0 → Type 1
 Behind V = V → List ℕ → List ℕ → ℕ → Type 0
 
--- A request is served: the text begins with the line of its answer, and what is behind it is served from the state and the block after it, with
--- one request less.
+-- A request is served: the text begins with the line of its answer, and what is behind it is served from the state and the block
+-- after it, with one request less.
 pub record ServesRequest {V : Type 0} (S : Service V) (call : Call) (old : V) (text : List ℕ) (count : ℕ) (Rest : Behind V) : Type 0 where
   pub answer : Answer
   pub next : V
@@ -34,7 +34,8 @@ ServesLine S (request_line call) old block text count Rest = ServesRequest S cal
 abbrev pub IsEnd : {V : Type 0} → V → List ℕ → Behind V
 IsEnd new block' old block text count = (new ≡ old) × (block' ≡ block) × (text ≡ []) × (count ≡ 0)
 
--- the lines of a script are served one after another: from a state and a block, with this text and so many requests, to the state and the block then
+-- the lines of a script are served one after another: from a state and a block, with this text and so many requests, to the state
+-- and the block then
 abbrev pub ServesLines : {V : Type 0} → Service V → List (List ℕ) → V → List ℕ → List ℕ → ℕ → V → List ℕ → Type 0
 ServesLines S [] old block text count new block' = IsEnd new block' old block text count
 ServesLines S (line ∷ rest) old block text count new block' =

@@ -15,6 +15,7 @@ pub mod SlotLemmas
 pub mod StepFates
 pub mod StepLaws
 pub mod StoreLemmas
+mod WorkedLagLemmas
 mod WorkedLemmas
 pub mod RangeLemmas
 pub mod TakenSlotLemmas

@@ -165,7 +165,7 @@ lags_after w v t u s did none respects lags = record {
   others = λ n out. lags.others n (or_parts (w.is_meant n) (v.is_meant n) out).1 ∙ did.others n (or_parts (w.is_meant n) (v.is_meant n) out).0;
   free_blocks = omega (arith, lags.free_blocks, did.free_blocks);
   headers = omega (arith, lags.headers, did.headers);
-  last = λ n low loose. subst (λ (q : ℕ). (q ≡ last_of s n) ⊎ (q ≡ next_sequence (last_of s n))) (sym (lags.no_header none n low)) (last_alike u s n did.no_slots (did.last n));
+  last = λ n low fileless. subst (λ (q : ℕ). (q ≡ last_of s n) ⊎ (q ≡ next_sequence (last_of s n))) (sym (lags.no_header none n low)) (last_alike u s n did.no_slots (did.last n));
   no_header = λ e n low. lags.no_header none n low ∙ last_same (omega (arith, e)) n;
   limits = same_limits_then s u t did.limits lags.limits;
 }

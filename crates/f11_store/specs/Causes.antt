@@ -1,5 +1,6 @@
 -- Which refusal a request meets: for each request its causes, in the order in which they are judged (profile).
-use Rattle.std.specs.Prelude.{ℕ, ◌+◌, ◌==◌, ◌&&◌, ◌||◌, Bool, true, false, not, nat_lt, List, [], ◌∷◌, length, Option, Some, None, is_none, is_some, if◌then◌else◌}
+use Rattle.std.specs.Prelude.{ℕ, ◌+◌, ◌==◌, ◌&&◌, ◌||◌, Bool, true, false, not, nat_lt, List, [], ◌∷◌}
+use Rattle.std.specs.Prelude.{length, Option, Some, None, is_none, is_some, if◌then◌else◌}
 use Rattle.f11_store.specs.declared.callers.Uic.{Uic}
 use Rattle.f11_store.specs.declared.files.FileId.{FileId}
 use Rattle.f11_store.specs.declared.files.Mode.{Mode}
@@ -10,12 +11,32 @@ use Rattle.f11_store.specs.declared.protection.Class.TheVariants as class
 use Rattle.f11_store.specs.declared.protection.Right.{Right}
 use Rattle.f11_store.specs.declared.protection.Right.TheVariants as right
 use Rattle.f11_store.specs.declared.refusals.Refusal.{Refusal}
-use Rattle.f11_store.specs.declared.refusals.Refusal.TheVariants.{BadArgument, NoSuchAccess, LunInUse, SystemFile, NoSuchFile, Marked, NoPrivilege, Conflict, NotDirectory, EndOfFile, NoSuchEntry, DuplicateName, IndexLimit, TooManySegments, DeviceFull, NoHeader}
+use Rattle.f11_store.specs.declared.refusals.Refusal.TheVariants.{
+  BadArgument,
+  NoSuchAccess,
+  LunInUse,
+  SystemFile,
+  NoSuchFile,
+  Marked,
+  NoPrivilege,
+  Conflict,
+  NotDirectory,
+}
+use Rattle.f11_store.specs.declared.refusals.Refusal.TheVariants.{
+  EndOfFile,
+  NoSuchEntry,
+  DuplicateName,
+  IndexLimit,
+  TooManySegments,
+  DeviceFull,
+  NoHeader,
+}
 use Rattle.f11_store.specs.declared.requests.Request.{Request}
 use Rattle.f11_store.specs.declared.requests.Request.TheVariants as request
 use Rattle.f11_store.specs.Rights.{may, is_of}
 use Rattle.f11_store.specs.File.{File, length_of, is_marked, need}
-use Rattle.f11_store.specs.Store.{Store, Access, file_of, file_named, file_held, index_file, free_headers, is_held, is_accessed, bars, bars_writing}
+use Rattle.f11_store.specs.Store.{Store, Access, file_of, file_named, file_held, index_file}
+use Rattle.f11_store.specs.Store.{free_headers, is_held, is_accessed, bars, bars_writing}
 use Rattle.f11_store.specs.Directory.{is_directory, is_entered, needs_block}
 
 -- a refusal, and whether its cause holds

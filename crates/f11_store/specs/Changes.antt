@@ -1,6 +1,28 @@
 -- What a request that is served changes in the store (profile). Whatever isn't named stays.
 -- A section in parentheses is one of the Files-11 On-Disk Structure Level 1 specification; 'profile' is a rule of this project.
-use Rattle.std.specs.Prelude.{◌≡◌, ℕ, ◌+◌, ◌-◌, ◌*◌, ◌<◌, ◌≤◌, ◌==◌, ◌&&◌, ◌||◌, Bool, true, false, not, nat_lt, nat_le, List, [], ◌∷◌, ◌++◌, length, take, drop, Option, Some, None, unwrap_or, option_map, if◌then◌else◌, slice_set, fold}
+use Rattle.std.specs.Prelude.{
+  ◌≡◌,
+  ℕ,
+  ◌+◌,
+  ◌-◌,
+  ◌*◌,
+  ◌<◌,
+  ◌≤◌,
+  ◌==◌,
+  ◌&&◌,
+  ◌||◌,
+  Bool,
+  true,
+  false,
+  not,
+  nat_lt,
+  nat_le,
+  List,
+  [],
+  ◌∷◌,
+  ◌++◌,
+}
+use Rattle.std.specs.Prelude.{length, take, drop, Option, Some, None, unwrap_or, option_map, if◌then◌else◌, slice_set, fold}
 use Rattle.std.specs.List.{list_any, range_with_len}
 use Rattle.f11_store.specs.declared.callers.Uic.{Uic}
 use Rattle.f11_store.specs.declared.files.FileId.{FileId}
@@ -10,7 +32,16 @@ use Rattle.f11_store.specs.declared.requests.Request.{Request}
 use Rattle.f11_store.specs.declared.requests.Request.TheVariants as request
 use Rattle.f11_store.specs.File.{File, no_file, length_of, is_marked, with_mark, without_contiguous, need, zero_blocks}
 use Rattle.f11_store.specs.Store.{Store, Access, file_named, id_held, free_slots, least_free, is_accessed}
-use Rattle.f11_store.specs.Directory.{index_of_name, index_of_empty, entry_count, needs_block, record_bytes, empty_record, with_record, with_end}
+use Rattle.f11_store.specs.Directory.{
+  index_of_name,
+  index_of_empty,
+  entry_count,
+  needs_block,
+  record_bytes,
+  empty_record,
+  with_record,
+  with_end,
+}
 
 -- the slot is in the list
 abbrev pub is_in : List ℕ → ℕ → Bool

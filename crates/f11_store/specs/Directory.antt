@@ -1,6 +1,7 @@
 -- Directories of the plain store (Files-11 On-Disk Structure Level 1, directories).
 -- A section in parentheses is one of the Files-11 On-Disk Structure Level 1 specification; 'profile' is a rule of this project.
-use Rattle.std.specs.Prelude.{ℕ, ◌+◌, ◌*◌, ◌/◌, ◌%◌, ◌==◌, ◌&&◌, nat_eq, nat_le, Bool, not, List, [], ◌∷◌, ◌++◌, map, take, drop, Option, unwrap_or, find, position, is_none, slice_index, slice_index_or, slice_set, replicate}
+use Rattle.std.specs.Prelude.{ℕ, ◌+◌, ◌*◌, ◌/◌, ◌%◌, ◌==◌, ◌&&◌, nat_eq, nat_le, Bool, not, List, [], ◌∷◌, ◌++◌, map, take, drop, Option}
+use Rattle.std.specs.Prelude.{unwrap_or, find, position, is_none, slice_index, slice_index_or, slice_set, replicate}
 use Rattle.std.specs.List.{range_with_len, flat_map, list_any}
 use lib.Pointwise.{pointwise}
 use Rattle.f11_store.specs.declared.files.FileId.{FileId}

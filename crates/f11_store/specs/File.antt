@@ -24,7 +24,18 @@ pub record File : Type 0 where
 
 -- an empty file of nobody, which stands in where a file is missing
 abbrev pub no_file : File
-no_file = record { sequence = 0; owner = record { group = 0; member = 0 }; protection = 0; characteristics = 0; ident = []; attr = []; held = []; pointers = 0; room = 0; blocks = [] }
+no_file = record {
+  sequence = 0;
+  owner = record { group = 0; member = 0 };
+  protection = 0;
+  characteristics = 0;
+  ident = [];
+  attr = [];
+  held = [];
+  pointers = 0;
+  room = 0;
+  blocks = [];
+}
 
 -- its length in blocks
 abbrev pub length_of : File → ℕ

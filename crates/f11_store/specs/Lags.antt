@@ -1,5 +1,6 @@
 -- What work that was cut short may leave: the store before it with some first parts of the work done (profile).
-use Rattle.std.specs.Prelude.{◌≡◌, ℕ, ◌+◌, ◌≤◌, ◌⊎◌, ◌==◌, ◌||◌, nat_le, Bool, true, false, List, [], ◌∷◌, ◌++◌, take, Option, Some, None, IfSome, fold, unwrap_or, if◌then◌else◌, replicate}
+use Rattle.std.specs.Prelude.{◌≡◌, ℕ, ◌+◌, ◌≤◌, ◌⊎◌, ◌==◌, ◌||◌, nat_le, Bool, true, false, List, [], ◌∷◌, ◌++◌, take}
+use Rattle.std.specs.Prelude.{Option, Some, None, IfSome, fold, unwrap_or, if◌then◌else◌, replicate}
 use Rattle.std.specs.List.{range_with_len}
 use Rattle.f11_store.specs.declared.callers.Uic.{Uic}
 use Rattle.f11_store.specs.declared.refusals.Refusal.{Refusal}
@@ -9,7 +10,8 @@ use Rattle.f11_store.specs.File.{File, without_contiguous, need, zero_blocks}
 use Rattle.f11_store.specs.Store.{Store, Access, file_named, id_held, file_held, index_file, least_free, free_headers, is_accessed}
 use Rattle.f11_store.specs.Directory.{index_of_empty, entry_count, needs_block, record_bytes, empty_record, index_of_name}
 use Rattle.f11_store.specs.Causes.{first_refusal}
-use Rattle.f11_store.specs.Changes.{is_in, next_sequence, with_file, with_change, file_created, with_access, is_due, after_deaccess, with_delete_mark, with_first_blocks, with_block, with_entry, with_end_after, with_replacement}
+use Rattle.f11_store.specs.Changes.{is_in, next_sequence, with_file, with_change, file_created, with_access, is_due, after_deaccess}
+use Rattle.f11_store.specs.Changes.{with_delete_mark, with_first_blocks, with_block, with_entry, with_end_after, with_replacement}
 
 -- a part of the work: a change of the files that is made at once
 pub data Part : Type 0 where

@@ -101,7 +101,8 @@ AccessedKeepsBlocks =
 -- what was cut off by Truncate comes back as zeros by Extend
 abbrev pub CutComesBackZero : Type 0
 CutComesBackZero =
-    (s : Store) (task : ℕ) (caller : Uic) (lun to n : ℕ) (block : List ℕ) (a b : Reply) (s' s'' : Store) (block' block'' : List ℕ) (vbn : ℕ) →
+    (s : Store) (task : ℕ) (caller : Uic) (lun to n : ℕ) (block : List ℕ) (a b : Reply) (s' s'' : Store) (block' block'' : List ℕ)
+    (vbn : ℕ) →
     Step s task caller (request.Truncate lun to) block (Ok a) s' block' →
     Step s' task caller (request.Extend lun n) block' (Ok b) s'' block'' →
     to < vbn → vbn ≤ to + n → IsSomeAnd (s''.file (id_held s task lun).number) (λ f. block_at f vbn ≡ zero_block)
@@ -165,7 +166,8 @@ IsFound id (Err e) = e ≢ NoSuchEntry
 -- a name that was entered is found, whoever looks for it
 abbrev pub EnteredIsFound : Type 0
 EnteredIsFound =
-    (s : Store) (task : ℕ) (caller : Uic) (d : FileId) (name : List ℕ) (id : FileId) (block : List ℕ) (a : Reply) (s' : Store) (block' : List ℕ)
+    (s : Store) (task : ℕ) (caller : Uic) (d : FileId) (name : List ℕ) (id : FileId) (block : List ℕ) (a : Reply) (s' : Store)
+    (block' : List ℕ)
     (other : ℕ) (reader : Uic) (before : List ℕ) (result : Result Reply Refusal) (s'' : Store) (after : List ℕ) →
     IsWhole (file_named s d) → IsFiveWords name →
     Step s task caller (request.Enter d name id) block (Ok a) s' block' →
@@ -182,14 +184,16 @@ StandingIsDuplicate =
 abbrev pub RemovedIsEmpty : Type 0
 RemovedIsEmpty =
     (s : Store) (task : ℕ) (caller : Uic) (d : FileId) (name block : List ℕ) (a : Reply) (s' : Store) (block' : List ℕ) (i : ℕ) →
-    IsWhole (file_named s d) → Step s task caller (request.Remove d name) block (Ok a) s' block' → index_of_name name (file_named s d) ≡ Some i →
+    IsWhole (file_named s d) → Step s task caller (request.Remove d name) block (Ok a) s' block' →
+    index_of_name name (file_named s d) ≡ Some i →
     (entry_count (file_named s' d) ≡ entry_count (file_named s d)) × (record_at (file_named s' d).blocks i ≡ empty_record)
     × ((j : ℕ) → j ≢ i → record_at (file_named s' d).blocks j ≡ record_at (file_named s d).blocks j)
 
 -- Find's answer where the record at place i is gone: the first record with the name, which stands behind
 -- that place; or a refusal, and no record has the name if that is what it says
 abbrev pub IsFoundElsewhere : ℕ → List ℕ → File → Result Reply Refusal → Type 0
-IsFoundElsewhere i name f (Ok a) = (j : ℕ) × (i < j) × (index_of_name name f ≡ Some j) × (a ≡ reply.Found (record_id (record_at f.blocks j)))
+IsFoundElsewhere i name f (Ok a) = (j : ℕ) × (i < j) × (index_of_name name f ≡ Some j) ×
+    (a ≡ reply.Found (record_id (record_at f.blocks j)))
 IsFoundElsewhere i name f (Err e) = e ≡ NoSuchEntry → index_of_name name f ≡ None
 
 -- a name that was removed is found in another record, whoever looks for it, or not at all
@@ -197,5 +201,6 @@ abbrev pub RemovedThenFound : Type 0
 RemovedThenFound =
     (s : Store) (task : ℕ) (caller : Uic) (d : FileId) (name block : List ℕ) (a : Reply) (s' : Store) (block' : List ℕ) (i : ℕ)
     (other : ℕ) (reader : Uic) (before : List ℕ) (result : Result Reply Refusal) (s'' : Store) (after : List ℕ) →
-    IsWhole (file_named s d) → Step s task caller (request.Remove d name) block (Ok a) s' block' → index_of_name name (file_named s d) ≡ Some i →
+    IsWhole (file_named s d) → Step s task caller (request.Remove d name) block (Ok a) s' block' →
+    index_of_name name (file_named s d) ≡ Some i →
     Step s' other reader (request.Find d name) before result s'' after → IsFoundElsewhere i name (file_named s' d) result

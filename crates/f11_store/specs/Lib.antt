@@ -16,5 +16,6 @@ pub mod Step
 pub mod Store
 pub mod Text
 pub mod Worked
+pub mod WorkedLags
 pub mod Pieces
 pub mod IndexPieces

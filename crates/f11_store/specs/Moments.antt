@@ -4,7 +4,8 @@ use Rattle.f11_store.specs.declared.files.FileId.{FileId}
 use Rattle.f11_store.specs.File.{File}
 use Rattle.f11_store.specs.Store.{Store, file_named, free_headers}
 use Rattle.f11_store.specs.Changes.{next_sequence, with_change, Extends}
-use Rattle.f11_store.specs.Lags.{Part, file_changes, file_appears, file_goes, slot_appears, with_parts, Work, one_part, and_then, extend_work, IsLike, AreLike, SameLimits, LagsBy}
+use Rattle.f11_store.specs.Lags.{Part, file_changes, file_appears, file_goes, slot_appears, with_parts, Work, one_part}
+use Rattle.f11_store.specs.Lags.{and_then, extend_work, IsLike, AreLike, SameLimits, LagsBy}
 
 -- a change that makes files alike of files that are alike
 abbrev pub Respects : (File → File) → Type 0

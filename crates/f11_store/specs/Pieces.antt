@@ -16,7 +16,8 @@ pub record MayExtend (s : Store) (k n : ℕ) : Type 0 where
   pub no_mark : without_contiguous (file_numbered s k).characteristics ≡ (file_numbered s k).characteristics
   pub no_cause : first_of (growth_causes s (file_numbered s k) n) ≡ None
 
--- Of a store so many blocks and headers at most were taken, and no file has them: a slot that was given its next sequence number wasn't in use.
+-- Of a store so many blocks and headers at most were taken, and no file has them: a slot that was given its next sequence number
+-- wasn't in use.
 pub record TakesSome (blocks headers : ℕ) (s t : Store) : Type 0 where
   pub files : (n : ℕ) → t.file n ≡ s.file n
   pub free : s.free ≤ t.free + blocks
@@ -38,7 +39,8 @@ NoneIsExtended = (s : Store) (k n : ℕ) → MayExtend s k n → Extends s k 0 s
 -- a file that grows twice grows by both at once, in as many headers
 abbrev pub ExtensionsAdd : Type 0
 ExtensionsAdd =
-    (s t u : Store) (k a b : ℕ) (one : Extends s k a t) (two : Extends t k b u) → (whole : Extends s k (a + b) u) × (whole.added ≡ one.added + two.added)
+    (s t u : Store) (k a b : ℕ) (one : Extends s k a t) (two : Extends t k b u) →
+    (whole : Extends s k (a + b) u) × (whole.added ≡ one.added + two.added)
 
 -- one that may grow may grow by less
 abbrev pub FewerMayExtend : Type 0
@@ -76,7 +78,8 @@ ClearedExtends =
 
 -- and what is under way then is under way
 abbrev pub ClearedLags : Type 0
-ClearedLags = (s t : Store) (k room n : ℕ) → LagsBy (extend_work k room n) t (with_change s k with_no_mark) → LagsBy (extend_work k room n) t s
+ClearedLags = (s t : Store) (k room n : ℕ) → LagsBy (extend_work k room n) t (with_change s k with_no_mark) →
+    LagsBy (extend_work k room n) t s
 
 -- a file with these blocks more, in so many pointers more
 abbrev pub with_more_blocks : ℕ → List (List ℕ) → File → File

@@ -1,7 +1,25 @@
 -- The refusals of a request: their numbers, in which order the causes are judged, and their names (profile).
 use Rattle.std.specs.Prelude.{ℕ, List, codes}
 use Rattle.f11_store.specs.declared.refusals.Refusal.{Refusal}
-use Rattle.f11_store.specs.declared.refusals.Refusal.TheVariants.{VolumeFailed, BadArgument, NoSuchAccess, LunInUse, SystemFile, NoSuchFile, Marked, NoPrivilege, Conflict, NotDirectory, EndOfFile, NoSuchEntry, DuplicateName, IndexLimit, TooManySegments, DeviceFull, NoHeader, NoMemory, DeviceFault, Damaged}
+use Rattle.f11_store.specs.declared.refusals.Refusal.TheVariants.{
+  VolumeFailed,
+  BadArgument,
+  NoSuchAccess,
+  LunInUse,
+  SystemFile,
+  NoSuchFile,
+  Marked,
+}
+use Rattle.f11_store.specs.declared.refusals.Refusal.TheVariants.{
+  NoPrivilege,
+  Conflict,
+  NotDirectory,
+  EndOfFile,
+  NoSuchEntry,
+  DuplicateName,
+  IndexLimit,
+}
+use Rattle.f11_store.specs.declared.refusals.Refusal.TheVariants.{TooManySegments, DeviceFull, NoHeader, NoMemory, DeviceFault, Damaged}
 
 -- its place in the order of judging
 abbrev pub refusal_number : Refusal → ℕ

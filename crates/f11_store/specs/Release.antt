@@ -24,7 +24,8 @@ ReleasedDid = (s : Store) (task : ℕ) (luns : List ℕ) → Did (release_work s
 -- what lags the store so far by the Deaccess of lun k lags the store before by Release
 abbrev pub ReleaseLags : Type 0
 ReleaseLags =
-    (t s : Store) (task : ℕ) (caller : Uic) (block : List ℕ) (k : ℕ) → k < 4 → LagsBy (deaccess_work (released s task k) task k) t (released s task k) →
+    (t s : Store) (task : ℕ) (caller : Uic) (block : List ℕ) (k : ℕ) → k < 4 →
+    LagsBy (deaccess_work (released s task k) task k) t (released s task k) →
     Lags t s task caller request.Release block
 
 -- one lun more

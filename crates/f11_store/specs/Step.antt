@@ -64,13 +64,15 @@ MayRefuse None (request.GrowIndex _) r = r ≡ NoMemory
 MayRefuse None _ r = ⊥
 
 -- the request is refused, and changes nothing
-pub record Refuses (s : Store) (task : ℕ) (caller : Uic) (r : Request) (block : List ℕ) (refusal : Refusal) (s' : Store) (block' : List ℕ) : Type 0 where
+pub record Refuses (s : Store) (task : ℕ) (caller : Uic) (r : Request) (block : List ℕ) (refusal : Refusal) (s' : Store)
+    (block' : List ℕ) : Type 0 where
   pub may_refuse : MayRefuse (first_refusal s task caller r) r refusal
   pub store_stays : s' ≡ s
   pub block_stays : block' ≡ block
 
 -- the request is served, since no cause against it holds
-pub record Serves (s : Store) (task : ℕ) (caller : Uic) (r : Request) (block : List ℕ) (reply : Reply) (s' : Store) (block' : List ℕ) : Type 0 where
+pub record Serves (s : Store) (task : ℕ) (caller : Uic) (r : Request) (block : List ℕ) (reply : Reply) (s' : Store)
+    (block' : List ℕ) : Type 0 where
   pub no_cause : first_refusal s task caller r ≡ None
   pub reply_is : reply ≡ reply_of s task r
   pub changes : Changes s task caller r block s'

@@ -1,6 +1,7 @@
 -- The plain store: the files of a volume, its counts, and the accesses that tasks hold. It knows no disk.
 -- A section in parentheses is one of the Files-11 On-Disk Structure Level 1 specification; 'profile' is a rule of this project.
-use Rattle.std.specs.Prelude.{ℕ, ◌-◌, ◌==◌, ◌&&◌, Bool, true, false, not, List, length, Option, Some, None, unwrap_or, if◌then◌else◌, slice_index, filter}
+use Rattle.std.specs.Prelude.{ℕ, ◌-◌, ◌==◌, ◌&&◌, Bool, true, false, not, List, length, Option, Some}
+use Rattle.std.specs.Prelude.{None, unwrap_or, if◌then◌else◌, slice_index, filter}
 use Rattle.std.specs.List.{list_any, range_with_len}
 use Rattle.std.specs.Option.{option_and_then}
 use Rattle.f11_store.specs.declared.files.FileId.{FileId}

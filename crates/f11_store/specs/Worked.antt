@@ -1,5 +1,6 @@
 -- Worked examples: requests on a small volume, with what each is answered.
-use Rattle.std.specs.Prelude.{◌≡◌, ℕ, ◌+◌, ◌-◌, ◌*◌, ◌==◌, ◌&&◌, nat_lt, List, [], ◌∷◌, ◌++◌, Option, Some, None, Ok, Err, if◌then◌else◌, replicate}
+use Rattle.std.specs.Prelude.{◌≡◌, ℕ, ◌+◌, ◌-◌, ◌*◌, ◌==◌, ◌&&◌, nat_lt, List, [], ◌∷◌, ◌++◌, Option}
+use Rattle.std.specs.Prelude.{Some, None, Ok, Err, if◌then◌else◌, replicate}
 use Rattle.std.specs.List.{flat_map, range_with_len}
 use Rattle.f11_store.specs.declared.callers.Uic.{Uic}
 use Rattle.f11_store.specs.declared.files.FileId.{FileId}
@@ -127,8 +128,8 @@ abbrev pub no : Refusal → Answer
 no e = record { result = Err e; block = [] }
 
 -- the calls may have the answers
-abbrev pub Answers : Store → List Call → List Answer → Type 0
-Answers s calls answers = (s' : Store) × Run s calls answers s'
+abbrev pub MayAnswer : Store → List Call → List Answer → Type 0
+MayAnswer s calls answers = (s' : Store) × Run s calls answers s'
 
 -- a new file A.TXT;1 with protection 0
 abbrev pub create : Request
@@ -137,7 +138,7 @@ create = request.Create 0 (ident_of a_txt) no_attr
 -- a slot's next file has the next sequence number, and the old identification names no file
 abbrev pub SequenceNumbers : Type 0
 SequenceNumbers =
-    Answers small_volume
+    MayAnswer small_volume
     (asks 0 create ∷ asks 0 (request.Delete (id 6 1)) ∷ asks 0 create ∷ asks 0 (request.Access (id 6 1) mode.Read 0)
     ∷ asks 0 (request.ReadAttr (id 6 2)) ∷ [])
     (gets (reply.Created (id 6 1)) ∷ gets reply.Done ∷ gets (reply.Created (id 6 2)) ∷ no refusal.NoSuchFile
@@ -146,7 +147,7 @@ SequenceNumbers =
 -- all blocks in one file: one more is too many
 abbrev pub FullVolume : Type 0
 FullVolume =
-    Answers small_volume
+    MayAnswer small_volume
     (asks 0 create ∷ asks 0 (request.Access (id 6 1) mode.Write 0) ∷ asks 0 (request.Extend 0 378)
     ∷ asks 0 (request.Extend 0 1) ∷ asks 0 request.Space ∷ [])
     (gets (reply.Created (id 6 1)) ∷ gets reply.Done ∷ gets (reply.Length 378)
@@ -155,7 +156,7 @@ FullVolume =
 -- 26112 blocks may need 255 headers more, 26113 one too many
 abbrev pub TooLong : Type 0
 TooLong =
-    Answers small_volume
+    MayAnswer small_volume
     (asks 0 create ∷ asks 0 (request.Access (id 6 1) mode.Write 0) ∷ asks 0 (request.Extend 0 26112)
     ∷ asks 0 (request.Extend 0 26113) ∷ asks 0 (request.Extend 0 0) ∷ [])
     (gets (reply.Created (id 6 1)) ∷ gets reply.Done ∷ no refusal.DeviceFull
@@ -171,7 +172,7 @@ gets_zeros = record { result = Ok reply.Done; block = zero_block }
 -- a file that is deleted while it is accessed goes with its last access
 abbrev pub DeferredDelete : Type 0
 DeferredDelete =
-    Answers small_volume
+    MayAnswer small_volume
     (asks 0 create ∷ asks 0 (request.Access (id 6 1) mode.Write 0) ∷ asks 0 (request.Extend 0 2) ∷ asks 0 (request.Deaccess 0)
     ∷ asks 1 (request.Access (id 6 1) mode.Read 0) ∷ asks 2 (request.Delete (id 6 1)) ∷ reads 1 0 1
     ∷ asks 2 (request.Access (id 6 1) mode.Read 0) ∷ asks 2 (request.Delete (id 6 1)) ∷ asks 2 request.Space
@@ -184,7 +185,7 @@ DeferredDelete =
 -- a reader doesn't see blocks that were cut off, whoever has them now
 abbrev pub TruncatedUnderAReader : Type 0
 TruncatedUnderAReader =
-    Answers small_volume
+    MayAnswer small_volume
     (asks 2 create ∷ asks 2 (request.Access (id 6 1) mode.Write 0) ∷ asks 2 (request.Extend 0 8)
     ∷ asks 1 (request.Access (id 6 1) mode.Read 0) ∷ reads 1 0 5 ∷ asks 2 (request.Truncate 0 2)
     ∷ asks 2 create ∷ asks 2 (request.Access (id 7 1) mode.Write 1) ∷ asks 2 (request.Extend 1 6)
@@ -197,7 +198,7 @@ TruncatedUnderAReader =
 -- which accesses stand against each other
 abbrev pub Conflicts : Type 0
 Conflicts =
-    Answers small_volume
+    MayAnswer small_volume
     (asks 0 create ∷ asks 1 (request.Access (id 6 1) mode.Locked 0) ∷ asks 2 (request.Access (id 6 1) mode.Write 0)
     ∷ asks 1 request.Release ∷ asks 2 (request.Access (id 6 1) mode.Write 0)
     ∷ asks 1 (request.Access (id 6 1) mode.Locked 0) ∷ asks 2 (request.Access (id 6 1) mode.Read 0)
@@ -210,7 +211,7 @@ Conflicts =
 -- a name that is entered is found, and one that is removed isn't
 abbrev pub EnteredAndRemoved : Type 0
 EnteredAndRemoved =
-    Answers small_volume
+    MayAnswer small_volume
     (asks 0 (request.Find (id 4 4) a_txt) ∷ asks 0 (request.Enter (id 4 4) a_txt (id 6 1)) ∷ asks 0 (request.Find (id 4 4) a_txt)
     ∷ asks 0 (request.Enter (id 4 4) a_txt (id 7 1)) ∷ asks 0 (request.Remove (id 4 4) indexf)
     ∷ asks 0 (request.Find (id 4 4) indexf) ∷ asks 0 (request.Remove (id 4 4) a_txt) ∷ asks 0 (request.Find (id 4 4) a_txt)
@@ -246,7 +247,7 @@ crowded_directory = record small_volume {
 -- a record that finds no empty place and no room in the last block takes one more block, and moves the end
 abbrev pub EnteredInNewBlock : Type 0
 EnteredInNewBlock =
-    Answers crowded_directory
+    MayAnswer crowded_directory
     (asks 0 (request.Find (id 4 4) (n_txt 34)) ∷ asks 0 (request.Enter (id 4 4) (n_txt 34) (id 6 1))
     ∷ asks 0 (request.Find (id 4 4) (n_txt 34)) ∷ asks 0 (request.ReadAttr (id 4 4)) ∷ asks 0 request.Space ∷ [])
     (no refusal.NoSuchEntry ∷ gets reply.Done ∷ gets (reply.Found (id 6 1))
@@ -277,7 +278,8 @@ crowded_file n pointers room = record {
 -- are left out; the first four are accessed to write
 abbrev pub crowded_volume : Store
 crowded_volume = record small_volume {
-  file = λ n. if nat_lt n 6 then own_files n else if nat_lt n 8 then Some (crowded_file n 102 0) else if nat_lt n 17 then Some (crowded_file n 0 102) else None;
+  file = λ n. if nat_lt n 6 then own_files n else if nat_lt n 8 then Some (crowded_file n 102 0) else if nat_lt n 17 then Some
+      (crowded_file n 0 102) else None;
   free = 174;
   in_use = λ n. nat_lt 0 n && nat_lt n 17;
   last = λ n. if nat_lt n 6 then n else if nat_lt n 17 then 1 else 0;
@@ -291,7 +293,7 @@ other_asks r = record { task = 0; caller = other_user; request = r; block = [] }
 -- no header is free: files with room grow, others don't, until the index file has a slot more
 abbrev pub HeadersRunOut : Type 0
 HeadersRunOut =
-    Answers crowded_volume
+    MayAnswer crowded_volume
     (asks 0 create ∷ asks 0 (request.Extend 0 1) ∷ asks 0 (request.Extend 2 3) ∷ asks 0 (request.Extend 3 103)
     ∷ asks 0 (request.GrowIndex 1) ∷ asks 0 (request.GrowIndex 4000) ∷ asks 0 (request.GrowIndex 3983)
     ∷ other_asks (request.GrowIndex 3983) ∷ [])

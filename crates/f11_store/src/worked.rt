@@ -1,6 +1,7 @@
 //! Worked examples of the plain store, the contract of a function that does nothing.
 
 ghost use Rattle.f11_store.specs.Worked as worked;
+ghost use Rattle.f11_store.specs.WorkedLags as lags;
 
 /// What requests on a small volume are answered.
 pub fn examples()
@@ -15,4 +16,13 @@ pub fn examples()
     ensures entered_in_new_block { worked.EnteredInNewBlock }
     ensures end_moves { worked.EndMoves }
     ensures bounds { worked.Bounds }
+{}
+
+/// What no request on a small volume may leave behind.
+pub fn no_lags()
+    ensures create { lags.CreateTakesOneHeader }
+    ensures extend { lags.ExtendTakesWhatItAsks }
+    ensures grow_index { lags.GrowIndexClearsFirst }
+    ensures delete { lags.DeleteLeavesOthers }
+    ensures release { lags.ReleaseFreesOnce }
 {}

@@ -3,11 +3,12 @@ ghost use Rattle.std.specs.Prelude.{◌≡◌, ◌<◌, ◌≤◌, ◌+◌, ℕ,
 ghost use Rattle.f11_bits.specs.Bitmap.{is_free};
 ghost use Rattle.f11_bits.specs.Storage.{IsFor, bitmap_of};
 
-use f11_bits::{Storage, count_free, first_run, replace_free, word_sum};
+use f11_bits::{Storage, count_free, first_run, ones, replace_free, sum, word_sum};
 use f11_bytes::{BLOCK_SIZE, Block};
 use f11_dev::{Device, DeviceFault, FailOnce, Fuse, Liar, Memory};
 use f11_fixtures::{ZEROS, put};
 use std::alloc::Global;
+use std::simd::prelude::*;
 use std::test::Fail;
 
 const ONES: Block = [255; BLOCK_SIZE];
@@ -116,6 +117,27 @@ const RUNS: [(u32, u32, Option<(u32, u32)>); 4] = [
     (4096, 300, None),
 ];
 
+/// A block with these bits 1 alone.
+fn block_with(bits: &[(usize, u8)]) -> Block {
+    let mut block = ZEROS;
+    for &(at, byte) in bits {
+        if at < BLOCK_SIZE {
+            block[at] = byte;
+        }
+    }
+    block
+}
+
+/// Bits 7, 8, 9 and 4095.
+const FEW: [(usize, u8); 3] = [(0, 128), (1, 3), (511, 128)];
+
+/// From where a run is sought among them, how long it is to be at most, and the run.
+const FEW_RUNS: [(u32, u32, Option<(u32, u32)>); 3] = [
+    (0, 9, Some((7, 3))),
+    (8, 1, Some((8, 1))),
+    (10, 256, Some((4095, 1))),
+];
+
 /// The first run of a block.
 fn run_of(block: &Block, from: u32, most: u32) -> Option<(u32, u32)> {
     if most == 0 {
@@ -133,6 +155,25 @@ fn bits_of_a_block(rt: HostRuntime) {
     let counts = (count_free(&block), count_free(&ZEROS), word_sum(&ONES));
     assert_eq!(rt; counts, (4074, 0, 65281));
     assert_eq!(rt; run_of(&ZEROS, 0, 300), None);
+}
+
+#[test]
+fn lanes(rt: HostRuntime) {
+    assert_eq!(rt;
+        (ones(u8x64::splat(255)), sum(u16x16::splat(65535))),
+        (512, 65520)
+    );
+    let few = block_with(&FEW);
+    assert_eq!(rt; (count_free(&few), count_free(&ONES)), (4, 4096));
+    for (from, most, run) in FEW_RUNS {
+        assert_eq!(rt; run_of(&few, from, most), run, "from {from}");
+    }
+    let mut long = ZEROS;
+    for byte in 32..64 {
+        long[byte] = 255;
+    }
+    long[31] = 128;
+    assert_eq!(rt; run_of(&long, 0, 256), Some((255, 256)));
 }
 
 #[test]

@@ -4,7 +4,7 @@ ghost use Rattle.f11_chain.specs.Calls.{table};
 ghost use Rattle.f11_chain.specs.FileHeaders.{block_by_vbn};
 ghost use Rattle.f11_dev.specs.Image.{image_block};
 ghost use Rattle.f11_index.specs.IndexFile.{slots};
-ghost use Rattle.f11_index.specs.Kept.{index_kept, LiesWithin};
+ghost use Rattle.f11_index.specs.Kept.{index_kept, IndexLiesWithin};
 
 use crate::index::load;
 use f11_bytes::Block;
@@ -121,7 +121,7 @@ fn read<D: Device>(
 ) -> Result<(), ChainFault>
     requires slot { (0 < n) × (n ≤ slots (index_kept index.now)) }
     requires some { 0 < vbn }
-    requires within { LiesWithin (index_kept index.now) (length (D.disk device.old).image) }
+    requires within { IndexLiesWithin (index_kept index.now) (length (D.disk device.old).image) }
     ensures block { OnOk result (IsTrue (D.disk device.old).honest
         → option_map (image_block (D.disk device.old).image)
         (block_by_vbn (table (index_kept index.now) (D.disk device.old)) n vbn) ≡ Some into.new) }

@@ -1,7 +1,7 @@
 //! The index file: its slots, and where its headers stand.
 ghost use Rattle.std.specs.Prelude.{◌≡◌, true, length, IfOk, IfSome};
 ghost use Rattle.f11_index.specs.IndexFile.{is_in_use};
-ghost use Rattle.f11_index.specs.Kept.{index_kept, LiesWithin};
+ghost use Rattle.f11_index.specs.Kept.{index_kept, IndexLiesWithin};
 
 use f11_dev::{Device, DeviceFault, FailOnce, Memory};
 use f11_fixtures::ZEROS;
@@ -13,7 +13,7 @@ use std::test::Fail;
 
 /// Finds the home block of a device, and loads its index file, by three transfers on a small volume.
 pub fn load<D: Device>(alloc: Global, device: &mut D) -> Result<IndexFile, IndexFault>
-    ensures { IfOk result (λ index. LiesWithin (index_kept index)
+    ensures { IfOk result (λ index. IndexLiesWithin (index_kept index)
         (length (D.disk device.new).image)) }
 {
     let Ok(home) = find(device) else {
@@ -165,7 +165,7 @@ fn a_bit_is_written_or_not(rt: HostRuntime) -> Result<(), Fail> {
 
 /// Takes the least free slot into use, as where a header is made.
 fn take_slot<D: Device>(index: &mut IndexFile, device: &mut D) -> Result<Option<u16>, DeviceFault>
-    requires within { LiesWithin (index_kept index.old) (length (D.disk device.old).image) }
+    requires within { IndexLiesWithin (index_kept index.old) (length (D.disk device.old).image) }
     ensures { IfOk result (λ slot. IfSome slot (λ n. is_in_use (index_kept index.new) n ≡ true)) }
 {
     let Some(n) = index.least_free() else {

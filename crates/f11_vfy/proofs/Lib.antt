@@ -4,3 +4,4 @@ pub mod ChainLemmas
 pub mod Scanning
 pub mod Directory
 pub mod Frames
+pub mod Reclaiming

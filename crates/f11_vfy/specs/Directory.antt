@@ -1,4 +1,5 @@
 -- The directories of a volume: what is read and what is noted of them.
+pub mod Blank
 pub mod Reading
 pub mod Flaws
 pub mod Later

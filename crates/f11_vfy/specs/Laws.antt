@@ -26,4 +26,5 @@ DirectoryIsSaid = (image : Image) (t : Table) (n : ℕ) → is_directory (file_o
 
 -- the volume of an image is the one that its index file and its storage bitmap tell
 abbrev pub VolumeIsRead : Type 0
-VolumeIsRead = (image : Image) (home : HomeFields) → volume_of image home ≡ volume_in image (index_of image home) (storage_bitmap image home)
+VolumeIsRead = (image : Image) (home : HomeFields) →
+    volume_of image home ≡ volume_in image (index_of image home) (storage_bitmap image home)

@@ -7,3 +7,4 @@ pub mod Laws
 pub mod Surveying
 pub mod Chain
 pub mod Scanning
+pub mod Reclaiming

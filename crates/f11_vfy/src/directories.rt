@@ -1,5 +1,6 @@
 //! The directories of a volume: what is noted of their records.
 
+pub(crate) mod blank;
 pub(crate) mod contents;
 pub(crate) mod flaws;
 pub(crate) mod later;

@@ -21,6 +21,7 @@ pub mod findings;
 mod frame;
 mod fresh;
 pub mod laws;
+mod reclaimer;
 pub mod survey;
 mod verifier;
 
@@ -30,4 +31,5 @@ pub use f11_layout::{InitParams, MOST_BLOCKS};
 pub use frame::framing::{Frame, Framing};
 pub use frame::read::read_frame;
 pub use fresh::{InitError, init};
+pub use reclaimer::whole::reclaim;
 pub use verifier::{Faults, Notes, Report, VfyError, verify};

@@ -1,6 +1,6 @@
 //! The verifier: all faults and all notes of an image.
 ghost use Rattle.std.specs.Prelude.{◌≡◌, ◌∷◌, [], length, IfOk, IfErr, IsErrOf};
-ghost use Rattle.f11_findings.specs.Finding.{finding, Adds};
+ghost use Rattle.f11_findings.specs.Finding.{finding, AddsFindings};
 ghost use Rattle.f11_vfy.specs.Frames.Read.{frame_index, frame_bitmap};
 ghost use Rattle.f11_vfy.specs.Frames.Frame.{LieOn};
 ghost use Rattle.f11_vfy.specs.Verify.{Examines, ExaminesVolume, LooksOver, LooksOverVolume, IsReport, HasNoReport};
@@ -46,17 +46,19 @@ pub enum VfyError<D: Device> {
 /// It writes nothing. For the frame it reads each candidate for the home block up to the one found, the index bitmap, the headers of file
 /// 1, those of file 3 where a candidate lies before the home block, headers 2, 3 and 4, those of file 2, and the control block; then each
 /// block of the storage bitmap that has a bit of a block of the volume, and each header in use, once; then for each directory each of its
-/// headers once, 256 at most and none behind its end, and each of its blocks once that holds a record before the end. A block past the
-/// device's end counts as zeros, and neither is read nor takes a step. The bound that is proved, where the device is honest, has 788 reads
-/// for the frame besides the candidates, and 256 headers for each directory.
+/// headers once, 256 at most and none behind its end, and each of its blocks once that has a place before the end. Of those a block that
+/// was read for an earlier directory, or earlier for the same, and holds no record isn't read again. A block past the device's end counts
+/// as zeros, and neither is read nor takes a step. The bound that is proved, where the device is honest, has 788 reads for the frame
+/// besides the candidates, and 256 headers for each directory.
 ///
-/// So the time is at most that of these reads, and of a step for each pointer of a header that was read and for each record: n log n
-/// steps for n records of a directory. A header to which several directories lead, which is a fault, is read for each of them, with the
-/// blocks that it names: at most 256 headers a directory.
+/// So the time is at most that of these reads, of a few steps for each pointer of a header that was read, or one for each of its 256
+/// blocks where one of them is read, and of a step for each record: n log n steps for n records of a directory. A header to which several
+/// directories lead, which is a fault, is read for each of them, with those of its blocks that hold a record: at most 256 headers a
+/// directory.
 ///
-/// It takes four bits for each block of the volume, and where a retrieval pointer names a block outside, two bits for each that a pointer
-/// can name (4 MiB in all); some 20 bytes a slot, 12 bytes for each fault and each note, and for one directory at a time the names of its
-/// records, 10 bytes each and what a tree of them takes.
+/// It takes three bits for each block of the volume, one for each block of the volume or of the device, whichever has more, and where a
+/// retrieval pointer names a block outside, two bits for each that a pointer can name (4 MiB in all); some 20 bytes a slot, 12 bytes for
+/// each fault and each note, and for one directory at a time the names of its records, 10 bytes each and what a tree of them takes.
 ///
 /// # Errors
 ///
@@ -121,7 +123,7 @@ fn examine_volume<D: Device>(
 
 /// A list of one fault.
 fn one_fault(alloc: Global, code: u8, a: u32) -> Result<Faults, NoMemory>
-    ensures { IfOk result (λ faults. Adds [] faults (finding code a 0 ∷ [])) }
+    ensures { IfOk result (λ faults. AddsFindings [] faults (finding code a 0 ∷ [])) }
 {
     let mut faults = Findings::new(alloc);
     faults.add(Finding { code, a, b: 0 })?;

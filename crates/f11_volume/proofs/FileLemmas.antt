@@ -8,7 +8,7 @@ use Rattle.f11_dev.specs.Image.{Image}
 use Rattle.f11_home.specs.Home.{HomeFields}
 use Rattle.f11_map.specs.HeaderBlock.{segment_number, link_of, blocks_named}
 use Rattle.f11_index.specs.Headers.{next_of, headers_from, headers_of, IsChained}
-use Rattle.f11_index.specs.IndexFile.{index_file}
+use Rattle.f11_index.specs.IndexFile.{index_file_blocks}
 use Rattle.f11_index.specs.Sound.{AreApart}
 use Rattle.f11_index.specs.Table.{Table, table_of, IsFile, IsHeaderOf, first, next, IsWholeFile}
 use Rattle.f11_index.proofs.ChainLemmas.{live_of-header}
@@ -131,7 +131,7 @@ pub image-files : (image : Image) (home : HomeFields) → HasSoundVolume image h
 unfolding volume_of
 image-files image home is = files-on (volume_of image home) is.sound (length image) (volume-within image home is)
 
-pub index-apart : (image : Image) (home : HomeFields) → HasSoundVolume image home → AreApart (index_file image home)
+pub index-apart : (image : Image) (home : HomeFields) → HasSoundVolume image home → AreApart (index_file_blocks image home)
 index-apart image home is =
     let files = image-files image home is in
     let file = is.framed.indexed.file.whole.file in

@@ -7,6 +7,7 @@ use Rattle.f11_home.proofs.HomeLemmas.{home-unique, home-some}
 use Rattle.f11_index.specs.IndexFile.{Index, IsFirstPast}
 use Rattle.f11_index.specs.Table.{Table}
 use Rattle.f11_volume.specs.Faults.{IsFramed, IsFirstNoFile, IsFaultBehindHome, index_misplaced, own_file_bad, bitmap_file_bad, control_block_wrong, bit_past_slots, IsFrameFault, no_home, behind_home}
+use Rattle.f11_volume.specs.Laws.{IsFramedBefore, FrameFaultIsFirst}
 use Rattle.f11_volume.specs.Verdict.{IsFault, of_frame, of_volume}
 
 -- there is none where the frame is as it should be
@@ -73,3 +74,16 @@ frame-one image (behind_home home c b is fault) (behind_home other d e also seco
 pub frame-only : (image : Image) (code a other b c : ℕ) → IsFrameFault image code a → IsFault image other b c → (code ≡ other) × (a ≡ b) × (c ≡ 0)
 frame-only image code a other b c fault (of_frame d e second) = let one = frame-one image fault second in (one.0, one.1, refl)
 frame-only image code a other b c fault (of_volume home d e f framed second) = absurd (frame-none image home code a framed fault)
+
+-- what comes before it is as it should be
+first-behind : {image : Image} {home : HomeFields} {code a : ℕ} → IsFaultBehindHome image home code a → IsFramedBefore image home code
+first-behind (index_misplaced x) = record { indexed = λ h. absurd (omega (arith, h)); own_files = λ h. absurd (omega (arith, h)); bitmap = λ h. absurd (omega (arith, h)); control = λ h. absurd (omega (arith, h)) }
+first-behind (own_file_bad n i f) = record { indexed = λ h. i; own_files = λ h. absurd (omega (arith, h)); bitmap = λ h. absurd (omega (arith, h)); control = λ h. absurd (omega (arith, h)) }
+first-behind (bitmap_file_bad i o x) = record { indexed = λ h. i; own_files = λ h. o; bitmap = λ h. absurd (omega (arith, h)); control = λ h. absurd (omega (arith, h)) }
+first-behind (control_block_wrong i o b x) = record { indexed = λ h. i; own_files = λ h. o; bitmap = λ h. b; control = λ h. absurd (omega (arith, h)) }
+first-behind (bit_past_slots n i o b c f) = record { indexed = λ h. i; own_files = λ h. o; bitmap = λ h. b; control = λ h. c }
+
+pub frame-first : FrameFaultIsFirst
+frame-first image home code a is (no_home none) = absurd (home-some image home is none)
+frame-first image home code a is (behind_home other c b also fault) =
+    subst (λ (h : HomeFields). IsFramedBefore image h c) (home-unique image other home also is) (first-behind fault)

@@ -18,7 +18,7 @@ use Rattle.f11_dev.specs.Image.{Image, IsImage, image_block}
 use Rattle.f11_home.specs.Home.{HomeFields, candidate, fields_of, IsHomeOf}
 use Rattle.f11_home.specs.HomeBlock.{IsHomeBlock}
 use Rattle.f11_map.specs.HeaderBlock.{segment_number, link_of, blocks_named}
-use Rattle.f11_index.specs.IndexFile.{Index, index_of, index_file, blocks_on, header_among, slots, slot_bit, bit_of_slot, is_in_use, header_lbn, first_header_lbn, HasNonePast}
+use Rattle.f11_index.specs.IndexFile.{Index, index_of, index_file_blocks, blocks_on, header_among, slots, slot_bit, bit_of_slot, is_in_use, header_lbn, first_header_lbn, HasNonePast}
 use Rattle.f11_index.specs.Sound.{IsPlaced, IsIndexFile}
 use Rattle.f11_index.specs.Table.{Table, table_in, table_of, IsFile, IsNext, IsHeaderOf, IsWholeFile, first, next}
 use Rattle.f11_index.proofs.ChainLemmas.{file_of-header}
@@ -102,8 +102,8 @@ module _ (image : Image) (l : Layout) (is : IsImage image) (room : l.blocks ≤ 
   unfolding own_file
   index-named = named 1 (image_block image F) (subst (λ (k : ℕ). IsFreshHeader l 1 (image_block image k)) (omega arith) (own-block 1 (omega arith) (omega arith)))
 
-  pub index-is : index_file image home ≡ range_with_len 0 C
-  unfolding index_file
+  pub index-is : index_file_blocks image home ≡ range_with_len 0 C
+  unfolding index_file_blocks
   index-is =
       let at : first_header_lbn home ≡ F = omega (arith, bitmap-lbn, bitmap-size) in
       let last : (link_of (image_block image F)).number ≡ 0 = unlinked 1 (image_block image F) (subst (λ (k : ℕ). IsFreshHeader l 1 (image_block image k)) (omega arith) (own-block 1 (omega arith) (omega arith))) in

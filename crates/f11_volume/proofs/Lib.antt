@@ -7,3 +7,4 @@ pub mod MemberLemmas
 pub mod FileLemmas
 pub mod FreshBits
 pub mod FreshLemmas
+pub mod NoteLemmas

@@ -17,7 +17,8 @@ use Rattle.f11_volume.specs.Volume.{Volume, IsNamed, IsNamedTwice, HasPointer, I
 -- block (profile).
 abbrev pub EarlierAreNamed : Image → HomeFields → Type 0
 EarlierAreNamed image home =
-    (k : ℕ) → candidate k < home.lbn → (n : ℕ) × IsHeaderOf (table_of image home) 3 n × Contains (blocks_named ((table_of image home).header n)) (candidate k)
+    (k : ℕ) → candidate k < home.lbn →
+    (n : ℕ) × IsHeaderOf (table_of image home) 3 n × Contains (blocks_named ((table_of image home).header n)) (candidate k)
 
 -- header n is the first of the file n,n (index file: the first files of a volume)
 pub record IsOwnFile (t : Table) (n : ℕ) : Type 0 where
@@ -44,7 +45,8 @@ HasBitmapFile image home = IsBitmapFile (table_of image home) (length image)
 
 -- its control block is
 abbrev pub HasControlBlock : Image → HomeFields → Type 0
-HasControlBlock image home = IsControlBlock (control_block image (table_of image home)) (length (bitmap_file (table_of image home))) (length image)
+HasControlBlock image home = IsControlBlock (control_block image (table_of image home)) (length (bitmap_file (table_of image home)))
+    (length image)
 
 -- The frame of a volume is as it should be. Where it isn't, nothing else is judged.
 pub record IsFramed (image : Image) (home : HomeFields) : Type 0 where
@@ -88,10 +90,12 @@ pub data IsVolumeFault (v : Volume) : ℕ → ℕ → ℕ → Type 0 where
   -- block lbn is named and free
   named_free : (lbn : ℕ) → IsNamed v.table lbn → v.free lbn ≡ true → IsVolumeFault v 10 lbn 0
   -- header n of a file, which isn't that of the last segment there can be, links to one that isn't its next
-  wrong_link : (n : ℕ) → IsLinked v.table n → segment_number (v.table.header n) < 255 → ¬ IsNext v.table n (link_of (v.table.header n)).number
+  wrong_link : (n : ℕ) → IsLinked v.table n → segment_number (v.table.header n) < 255 →
+      ¬ IsNext v.table n (link_of (v.table.header n)).number
       → IsVolumeFault v 11 n 0
   -- header n is the next of two headers of files
-  linked_twice : (n one other : ℕ) → one ≢ other → IsInFile v.table one → IsInFile v.table other → IsNext v.table one n → IsNext v.table other n
+  linked_twice : (n one other : ℕ) → one ≢ other → IsInFile v.table one → IsInFile v.table other → IsNext v.table one n →
+      IsNext v.table other n
       → IsVolumeFault v 12 n 0
   -- header n of a file is that of the last segment, 255, and has a link
   link_past_last : (n : ℕ) → IsLinked v.table n → 255 ≤ segment_number (v.table.header n) → IsVolumeFault v 13 n 0

@@ -5,7 +5,7 @@ use Rattle.f11_bits.specs.Bitmap.{IsBitmap, LiesWithin}
 use Rattle.f11_dev.specs.Image.{Image}
 use Rattle.f11_home.specs.Home.{HomeFields}
 use Rattle.f11_index.specs.Headers.{headers_of, IsChained}
-use Rattle.f11_index.specs.IndexFile.{index_file}
+use Rattle.f11_index.specs.IndexFile.{index_file_blocks}
 use Rattle.f11_index.specs.Sound.{AreApart}
 use Rattle.f11_index.specs.Table.{Table, table_of, IsFile, IsWholeFile}
 use Rattle.f11_chain.specs.FileHeaders.{file_blocks, IsSoundFile}
@@ -37,7 +37,7 @@ ImageHasSoundFiles = (image : Image) (home : HomeFields) → HasSoundVolume imag
 
 -- no block stands twice in its index file
 abbrev pub IndexFileIsApart : Type 0
-IndexFileIsApart = (image : Image) (home : HomeFields) → HasSoundVolume image home → AreApart (index_file image home)
+IndexFileIsApart = (image : Image) (home : HomeFields) → HasSoundVolume image home → AreApart (index_file_blocks image home)
 
 -- nor in its storage bitmap, which has 1 to 126 blocks on the device, with a bit for each block of the volume
 abbrev pub StorageBitmapIsOne : Type 0
@@ -55,4 +55,5 @@ FileHasItsHeaders = (image : Image) (t : Table) (f : ℕ) → IsWholeFile t f �
 
 -- and its blocks are what the blocks that they name hold
 abbrev pub FileHasItsBlocks : Type 0
-FileHasItsBlocks = (image : Image) (t : Table) (f : ℕ) → IsWholeFile t f → (file_of image t f).blocks ≡ map (block_or_zeros image) (file_blocks t f)
+FileHasItsBlocks = (image : Image) (t : Table) (f : ℕ) → IsWholeFile t f →
+    (file_of image t f).blocks ≡ map (block_or_zeros image) (file_blocks t f)

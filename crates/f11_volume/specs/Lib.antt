@@ -9,3 +9,4 @@ pub mod FileLaws
 pub mod Earlier
 pub mod Laws
 pub mod Fresh
+pub mod NoteLaws

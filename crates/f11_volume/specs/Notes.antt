@@ -79,8 +79,10 @@ pub data IsVolumeNote (image : Image) (v : Volume) : ℕ → ℕ → ℕ → Typ
   -- file n is in no directory
   in_no_directory : (n : ℕ) → IsFile v.table n → ¬ IsEntered image v.table n → IsVolumeNote image v 6 n 0
   -- record i of directory d names no file
-  names_no_file : (d i : ℕ) (bytes : List ℕ) → IsRecord image v.table d i bytes → ((n : ℕ) → ¬ IsIdOf v.table (record_id bytes) n) → IsVolumeNote image v 7 d i
+  names_no_file : (d i : ℕ) (bytes : List ℕ) → IsRecord image v.table d i bytes → ((n : ℕ) → ¬ IsIdOf v.table (record_id bytes) n) →
+      IsVolumeNote image v 7 d i
   -- it repeats a name
-  name_repeated : (d i : ℕ) (bytes : List ℕ) → IsRecord image v.table d i bytes → IsRepeated image v.table d i bytes → IsVolumeNote image v 8 d i
+  name_repeated : (d i : ℕ) (bytes : List ℕ) → IsRecord image v.table d i bytes → IsRepeated image v.table d i bytes →
+      IsVolumeNote image v 8 d i
   -- it has no name
   no_name : (d i : ℕ) (bytes : List ℕ) → IsRecord image v.table d i bytes → ¬ IsName (record_name bytes) → IsVolumeNote image v 9 d i

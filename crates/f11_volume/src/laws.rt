@@ -1,11 +1,13 @@
 //! Laws of what a volume is, each the contract of a function that does nothing.
 ghost use Rattle.f11_volume.specs.FileLaws as files;
 ghost use Rattle.f11_volume.specs.Laws as laws;
+ghost use Rattle.f11_volume.specs.NoteLaws as noted;
 
-/// A fault of the frame is a fault, and the only one.
+/// A fault of the frame is a fault, the only one, and the first: what lower codes speak of is as it should be.
 pub fn frames()
     ensures none { laws.FrameHasNoFault }
     ensures only { laws.FrameFaultIsOnly }
+    ensures first { laws.FrameFaultIsFirst }
 {}
 
 /// A volume has no fault exactly where it is sound, and an image is accepted exactly where its frame is as it should be and its
@@ -34,4 +36,13 @@ pub fn whole_files()
 /// An image on which a fresh volume was made is sound.
 pub fn fresh_volumes()
     ensures { laws.FreshIsSound }
+{}
+
+/// Notes leave nothing out: the runs of lost blocks are apart and have them all, a live header is an orphan or a file's, and a file
+/// stands in a directory or is noted.
+pub fn notes()
+    ensures apart { noted.LostRunsAreApart }
+    ensures lost { noted.LostRunsHaveTheLost }
+    ensures orphans { noted.OrphansAreNoFiles }
+    ensures entered { noted.OthersAreEntered }
 {}

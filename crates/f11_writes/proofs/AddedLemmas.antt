@@ -26,12 +26,12 @@ use Rattle.f11_volume.specs.Space.{storage_bitmap}
 use Rattle.f11_volume.specs.Volume.{Volume, volume_of, IsNamed}
 use Rattle.f11_volume.proofs.FileLemmas.{image-files, volume-within, file-blocks-are}
 use Rattle.f11_writes.specs.Kept.{file_in, KeepsFiles, KeepsButFree, WritesHeader}
-use Rattle.f11_writes.specs.NameLaws.{AreSpare}
+use Rattle.f11_writes.specs.NameLaws.{AreUnreferenced}
 use Rattle.f11_writes.specs.Volumes.{MayName, MayBecome, links_to_none}
 use Rattle.f11_writes.specs.Worked.{NamesOneMore, zeroed, with_block_added, AddsBlock}
 use Rattle.f11_writes.proofs.BitmapLemmas.{used-keeps}
 use Rattle.f11_writes.proofs.HeaderLemmas.{file-rewrite-keeps}
-use Rattle.f11_writes.proofs.NameLemmas.{taken-spare, more-names}
+use Rattle.f11_writes.proofs.NameLemmas.{taken-unreferenced, more-names}
 use Rattle.f11_writes.proofs.OtherLemmas.{unnamed-keeps}
 use Rattle.f11_writes.proofs.OtherSlotLemmas.{file-kept, stay-before, stay-up-to}
 
@@ -50,13 +50,13 @@ module _ (old marked : Image) (home : HomeFields) (f n lbn : ℕ) (header : List
   one : KeepsButFree home old marked
   one = used-keeps old marked home lbn 1 is marks
 
-  spare : AreSpare (volume_of marked home) lbn 1
-  spare = taken-spare old marked home lbn 1 is marks (omega (arith, within)) (λ k low high.
+  unreferenced : AreUnreferenced (volume_of marked home) lbn 1
+  unreferenced = taken-unreferenced old marked home lbn 1 is marks (omega (arith, within)) (λ k low high.
       let same : k ≡ lbn = omega (arith, low, high) in ap (is_free old (storage_bitmap old home)) same ∙ free)
 
   unnamed : ¬ IsNamed (table_of marked home) lbn
   unfolding volume_of
-  unnamed = spare.unnamed lbn (omega arith) (omega arith)
+  unnamed = unreferenced.unnamed lbn (omega arith) (omega arith)
 
   -- zeros were written
   abbrev second : Image
@@ -75,7 +75,7 @@ module _ (old marked : Image) (home : HomeFields) (f n lbn : ℕ) (header : List
   unfolding volume_of
   becomes =
       let v = volume_of second home in
-      let also = subst (λ (w : Volume). AreSpare w lbn 1) (sym two.keeps.volume) spare in
+      let also = subst (λ (w : Volume). AreUnreferenced w lbn 1) (sym two.keeps.volume) unreferenced in
       record {
         valid = may.good.valid;
         good = λ live. fits.good;

@@ -5,7 +5,7 @@ use Rattle.std.proofs.lemmas.Bool.{cases_lt}
 use Rattle.f11_dev.specs.Image.{Image}
 use Rattle.f11_home.specs.Home.{HomeFields}
 use Rattle.f11_index.specs.Growth.{MayNameMore, MayLinkOn, GrowsIndexFile, with_header}
-use Rattle.f11_index.specs.IndexFile.{index_of, index_file, slots, header_lbn}
+use Rattle.f11_index.specs.IndexFile.{index_of, index_file_blocks, slots, header_lbn}
 use Rattle.f11_index.specs.Table.{Table, table_in, table_of, IsHeaderOf, first}
 use Rattle.f11_index.proofs.BitLemmas.{is_in_use-past}
 use Rattle.f11_index.proofs.ChainLemmas.{live_of-header}
@@ -82,7 +82,7 @@ module _ (image : Image) (home : HomeFields) (is : HasSoundVolume image home) (n
         others = others;
       }) in
       let placed = header-placed-at image home n is.framed.indexed.file within.0 within.1 in
-      let there = slice_get-append_front (index_file image home) (range_with_len lbn count) placed.place l placed.at in
+      let there = slice_get-append_front (index_file_blocks image home) (range_with_len lbn count) placed.place l placed.at in
       record {
         slot = slot-keeps image home is l block placed n spares grows.sound (grows.none_past is.framed.none_past)
             (ap (λ (xs : List ℕ). slice_get xs placed.place) grows.file ∙ there) sound;

@@ -22,7 +22,7 @@ use Rattle.f11_writes.specs.Volumes.{MayName, MayBecome, links_to_none}
 use Rattle.f11_writes.specs.Worked.{IsNewHeader, with_new_header, MakesFile}
 use Rattle.f11_writes.proofs.BitLemmas.{set-keeps}
 use Rattle.f11_writes.proofs.HeaderLemmas.{unused-keeps}
-use Rattle.f11_writes.proofs.NameLemmas.{spare-names}
+use Rattle.f11_writes.proofs.NameLemmas.{unreferenced-names}
 use Rattle.f11_writes.proofs.OtherSlotLemmas.{file-kept}
 
 module _ (old : Image) (home : HomeFields) (n : ℕ) (header : List ℕ) (after : Index) (is : HasSoundVolume old home) (new : IsNewHeader (index_of old home) n header)
@@ -54,7 +54,7 @@ module _ (old : Image) (home : HomeFields) (n : ℕ) (header : List ℕ) (after 
       subst (MayBecome v n) (sym here) (record {
         valid = new.valid;
         good = λ live. let used = sym unused ∙ sym (λ i. one.in_use i n) ∙ live.in_use in cc;
-        names = subst (MayName v n) (sym new.no_blocks) (spare-names v n 0 0 (record {
+        names = subst (MayName v n) (sym new.no_blocks) (unreferenced-names v n 0 0 (record {
           inside = omega arith;
           used = λ k low high. absurd (omega (arith, low, high));
           unnamed = λ k low high. absurd (omega (arith, low, high));

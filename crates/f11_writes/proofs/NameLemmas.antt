@@ -16,7 +16,7 @@ use Rattle.f11_volume.specs.Sound.{IsSoundVolume, HasSoundVolume}
 use Rattle.f11_volume.specs.Space.{storage_bitmap}
 use Rattle.f11_volume.specs.Volume.{Volume, volume_of, IsCell, IsNamed}
 use Rattle.f11_writes.specs.Kept.{KeepsVolume, KeepsButFree, KeepsButSlot}
-use Rattle.f11_writes.specs.NameLaws.{AreSpare}
+use Rattle.f11_writes.specs.NameLaws.{AreUnreferenced}
 use Rattle.f11_writes.specs.OtherSlots.{KeepsOtherSlots}
 use Rattle.f11_writes.specs.Volumes.{MayName}
 use Rattle.f11_writes.proofs.BitmapLemmas.{used-keeps}
@@ -24,12 +24,12 @@ use Rattle.f11_writes.proofs.BitmapLemmas.{used-keeps}
 pub free-unnamed : (v : Volume) (lbn : ℕ) → IsSoundVolume v → v.free lbn ≡ true → ¬ IsNamed v.table lbn
 free-unnamed v lbn sound free named = let used = sym free ∙ sound.taken named.header named.place lbn named.cell in cc
 
-pub taken-spare : (old new : Image) (home : HomeFields) (lbn count : ℕ) → HasSoundVolume old home → Marks false (storage_bitmap old home) lbn count old new
-    → lbn + count ≤ (storage_bitmap old home).size → ((k : ℕ) → lbn ≤ k → k < lbn + count → is_free old (storage_bitmap old home) k ≡ true) → AreSpare (volume_of new home) lbn count
+pub taken-unreferenced : (old new : Image) (home : HomeFields) (lbn count : ℕ) → HasSoundVolume old home → Marks false (storage_bitmap old home) lbn count old new
+    → lbn + count ≤ (storage_bitmap old home).size → ((k : ℕ) → lbn ≤ k → k < lbn + count → is_free old (storage_bitmap old home) k ≡ true) → AreUnreferenced (volume_of new home) lbn count
 unfolding volume_of
-taken-spare old new home lbn count is marks inside free =
+taken-unreferenced old new home lbn count is marks inside free =
     let kept : KeepsButFree home old new = used-keeps old new home lbn count is marks in
-    subst (λ (v : Volume). AreSpare v lbn count) (sym kept.volume) (record {
+    subst (λ (v : Volume). AreUnreferenced v lbn count) (sym kept.volume) (record {
       inside = inside;
       used = marks.inside;
       unnamed = λ k low high. free-unnamed (volume_of old home) k is.sound (free k low high);
@@ -39,11 +39,11 @@ taken-spare old new home lbn count is marks inside free =
 in-row : (lbn count i k : ℕ) → slice_get (range_with_len lbn count) i ≡ Some k → (lbn ≤ k) × (k < lbn + count)
 in-row lbn count i k at = let is = slice_get-range lbn count i k at in (omega (arith, is.1), omega (arith, is.0, is.1))
 
-pub spare-names : (v : Volume) (n lbn count : ℕ) → AreSpare v lbn count → MayName v n (range_with_len lbn count)
-spare-names v n lbn count spare = record {
-  inside = λ i k at. let row = in-row lbn count i k at in omega (arith, row.1, spare.inside);
-  used = λ i k at. let row = in-row lbn count i k at in spare.used k row.0 row.1;
-  alone = λ i k m place at away cell. let row = in-row lbn count i k at in spare.unnamed k row.0 row.1 (record { header = m; place = place; cell = cell });
+pub unreferenced-names : (v : Volume) (n lbn count : ℕ) → AreUnreferenced v lbn count → MayName v n (range_with_len lbn count)
+unreferenced-names v n lbn count unreferenced = record {
+  inside = λ i k at. let row = in-row lbn count i k at in omega (arith, row.1, unreferenced.inside);
+  used = λ i k at. let row = in-row lbn count i k at in unreferenced.used k row.0 row.1;
+  alone = λ i k m place at away cell. let row = in-row lbn count i k at in unreferenced.unnamed k row.0 row.1 (record { header = m; place = place; cell = cell });
   apart = λ i j k one other. let here = slice_get-range lbn count i k one in let there = slice_get-range lbn count j k other in omega (arith, here.1, there.1);
 }
 
@@ -81,11 +81,11 @@ both-names v n xs ys one other away = record {
     go i j k (inr there) (inl here) = absurd (away j _ k here there.1)
     go i j k (inr here) (inr there) = let same = other.apart _ _ k here.1 there.1 in omega (arith, same, here.0, there.0)
 
-pub more-names : (v : Volume) (n lbn count : ℕ) → IsSoundVolume v → IsLive v.table n → AreSpare v lbn count → MayName v n (blocks_named (v.table.header n) ++ range_with_len lbn count)
-more-names v n lbn count sound live spare =
-    both-names v n (blocks_named (v.table.header n)) (range_with_len lbn count) (own-names v n sound live) (spare-names v n lbn count spare) (λ i j k at there.
+pub more-names : (v : Volume) (n lbn count : ℕ) → IsSoundVolume v → IsLive v.table n → AreUnreferenced v lbn count → MayName v n (blocks_named (v.table.header n) ++ range_with_len lbn count)
+more-names v n lbn count sound live unreferenced =
+    both-names v n (blocks_named (v.table.header n)) (range_with_len lbn count) (own-names v n sound live) (unreferenced-names v n lbn count unreferenced) (λ i j k at there.
     let row = in-row lbn count j k there in
-    spare.unnamed k row.0 row.1 (record { header = n; place = i; cell = record { live = live; names = at } }))
+    unreferenced.unnamed k row.0 row.1 (record { header = n; place = i; cell = record { live = live; names = at } }))
 
 -- what stands among the first
 take-at : (count : ℕ) (xs : List ℕ) (i k : ℕ) → slice_get (take count xs) i ≡ Some k → (i < count) × (slice_get xs i ≡ Some k)
@@ -134,25 +134,25 @@ cut-unnamed old new n left place lbn sound others was behind names =
     let same = (sound.apart n i n place lbn (record { live = was.live; names = there.1 }) was).1 in
     omega (arith, there.0, same, behind))
 
-pub part-spare : (v : Volume) (lbn count from some : ℕ) → AreSpare v lbn count → lbn ≤ from → from + some ≤ lbn + count → AreSpare v from some
-part-spare v lbn count from some spare low high = record {
-  inside = omega (arith, high, spare.inside);
-  used = λ k above below. spare.used k (omega (arith, low, above)) (omega (arith, high, below));
-  unnamed = λ k above below. spare.unnamed k (omega (arith, low, above)) (omega (arith, high, below));
+pub part-unreferenced : (v : Volume) (lbn count from some : ℕ) → AreUnreferenced v lbn count → lbn ≤ from → from + some ≤ lbn + count → AreUnreferenced v from some
+part-unreferenced v lbn count from some unreferenced low high = record {
+  inside = omega (arith, high, unreferenced.inside);
+  used = λ k above below. unreferenced.used k (omega (arith, low, above)) (omega (arith, high, below));
+  unnamed = λ k above below. unreferenced.unnamed k (omega (arith, low, above)) (omega (arith, high, below));
 }
 
-pub spare-stay : (old new : Image) (home : HomeFields) (lbn count : ℕ) → KeepsVolume home old new → AreSpare (volume_of old home) lbn count → AreSpare (volume_of new home) lbn count
-spare-stay old new home lbn count keeps spare = subst (λ (v : Volume). AreSpare v lbn count) (sym keeps.volume) spare
+pub unreferenced-stay : (old new : Image) (home : HomeFields) (lbn count : ℕ) → KeepsVolume home old new → AreUnreferenced (volume_of old home) lbn count → AreUnreferenced (volume_of new home) lbn count
+unreferenced-stay old new home lbn count keeps unreferenced = subst (λ (v : Volume). AreUnreferenced v lbn count) (sym keeps.volume) unreferenced
 
-pub other-spare : (old new : Image) (home : HomeFields) (n lbn count : ℕ) → KeepsButSlot n home old new → AreSpare (volume_of old home) lbn count
-    → ((place k : ℕ) → lbn ≤ k → k < lbn + count → ¬ IsCell (table_of new home) n place k) → AreSpare (volume_of new home) lbn count
+pub other-unreferenced : (old new : Image) (home : HomeFields) (n lbn count : ℕ) → KeepsButSlot n home old new → AreUnreferenced (volume_of old home) lbn count
+    → ((place k : ℕ) → lbn ≤ k → k < lbn + count → ¬ IsCell (table_of new home) n place k) → AreUnreferenced (volume_of new home) lbn count
 unfolding volume_of
-other-spare old new home n lbn count slot spare none = subst (λ (v : Volume). AreSpare v lbn count) (sym slot.volume) (record {
-  inside = spare.inside;
-  used = spare.used;
+other-unreferenced old new home n lbn count slot unreferenced none = subst (λ (v : Volume). AreUnreferenced v lbn count) (sym slot.volume) (record {
+  inside = unreferenced.inside;
+  used = unreferenced.used;
   unnamed = λ k low high named. elim (cases_eq named.header n) [
     | inl here ↦ none named.place k low high (subst (λ (m : ℕ). IsCell (table_of new home) m named.place k) here named.cell)
-    | inr away ↦ spare.unnamed k low high (record {
+    | inr away ↦ unreferenced.unnamed k low high (record {
       header = named.header;
       place = named.place;
       cell = cell-was (table_of old home) (table_of new home) n named.header named.place k slot.others away named.cell;
@@ -160,7 +160,7 @@ other-spare old new home n lbn count slot spare none = subst (λ (v : Volume). A
   ];
 })
 
-pub unentered-spare : (old new : Image) (home : HomeFields) (n lbn count : ℕ) → KeepsButSlot n home old new → AreSpare (volume_of old home) lbn count
-    → (table_of new home).in_use n ≡ false → AreSpare (volume_of new home) lbn count
-unentered-spare old new home n lbn count slot spare unused =
-    other-spare old new home n lbn count slot spare (λ place k low high cell. let used = sym unused ∙ cell.live.in_use in cc)
+pub unentered-unreferenced : (old new : Image) (home : HomeFields) (n lbn count : ℕ) → KeepsButSlot n home old new → AreUnreferenced (volume_of old home) lbn count
+    → (table_of new home).in_use n ≡ false → AreUnreferenced (volume_of new home) lbn count
+unentered-unreferenced old new home n lbn count slot unreferenced unused =
+    other-unreferenced old new home n lbn count slot unreferenced (λ place k low high cell. let used = sym unused ∙ cell.live.in_use in cc)

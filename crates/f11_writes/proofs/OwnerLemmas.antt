@@ -4,7 +4,7 @@ use Rattle.std.specs.List.{slice_get}
 use Rattle.f11_dev.specs.Image.{Image}
 use Rattle.f11_home.specs.Home.{HomeFields}
 use Rattle.f11_map.specs.HeaderBlock.{blocks_named}
-use Rattle.f11_index.specs.IndexFile.{index_file}
+use Rattle.f11_index.specs.IndexFile.{index_file_blocks}
 use Rattle.f11_index.specs.Table.{Table, table_of, IsFile, IsHeaderOf}
 use Rattle.f11_index.proofs.ChainLemmas.{live_of-header}
 use Rattle.f11_index.proofs.HeadersLemmas.{chained-apart}
@@ -53,7 +53,7 @@ module _ (image : Image) (home : HomeFields) (is : HasSoundVolume image home) wh
   owned-once = one-file (volume_of image home) is.sound
 
   -- the blocks that the volume is read from are those of its first three files
-  pub in-index-file : (i lbn : ℕ) → slice_get (index_file image home) i ≡ Some lbn → IsNamedIn table 1 lbn
+  pub in-index-file : (i lbn : ℕ) → slice_get (index_file_blocks image home) i ≡ Some lbn → IsNamedIn table 1 lbn
   in-index-file i lbn at =
       let good = is.framed.indexed.file in
       in-file 1 i lbn good.whole.file (subst (λ xs. slice_get xs i ≡ Some lbn) (sym (file-one image home good)) at)

@@ -9,7 +9,7 @@ use Rattle.f11_bits.proofs.LawLemmas.{KeepsBitmap-write}
 use Rattle.f11_dev.specs.Image.{Image, image_block}
 use Rattle.f11_dev.proofs.ImageLemmas.{image_block-other}
 use Rattle.f11_home.specs.Home.{HomeFields, candidate}
-use Rattle.f11_index.specs.IndexFile.{index_of, index_file, slots, header_lbn, HasNonePast}
+use Rattle.f11_index.specs.IndexFile.{index_of, index_file_blocks, slots, header_lbn, HasNonePast}
 use Rattle.f11_index.proofs.LawLemmas.{header_at}
 use Rattle.f11_index.specs.Sound.{IsIndexFile}
 use Rattle.f11_index.specs.Table.{Table, table_of, IsFile, IsHeaderOf, IsWholeFile}
@@ -39,7 +39,7 @@ pub record SparesOwn (n : ℕ) (old new : Table) : Type 0 where
 -- Where a block is in the index file: it isn't the home block.
 pub record IsPlacedAt (image : Image) (home : HomeFields) (lbn : ℕ) : Type 0 where
   pub place : ℕ
-  pub at : slice_get (index_file image home) place ≡ Some lbn
+  pub at : slice_get (index_file_blocks image home) place ≡ Some lbn
   pub not_home : place ≢ 1
 
 pub header-placed-at : (image : Image) (home : HomeFields) (n : ℕ) → IsIndexFile image home → 0 < n → n ≤ slots (index_of image home)
@@ -118,7 +118,7 @@ module _ (image : Image) (home : HomeFields) (is : HasSoundVolume image home) (l
         ∙ (λ i. record { table = u; size = (volume_of image home).size; free = free-stays image new home is blocks i })
 
     -- once the volume is sound, which files are as they were
-    module _ (sound : HasSoundVolume new home) (there : slice_get (index_file new home) placed.place ≡ Some lbn) where
+    module _ (sound : HasSoundVolume new home) (there : slice_get (index_file_blocks new home) placed.place ≡ Some lbn) where
       module _ (f : ℕ) (is_file : IsFile u f) where
         now-whole : IsWholeFile u f
         now-whole = ((image-files new home sound).each f is_file).whole
@@ -161,7 +161,7 @@ module _ (image : Image) (home : HomeFields) (is : HasSoundVolume image home) (l
     abbrev pub with-table : Volume
     with-table = record (volume_of image home) { table = u }
 
-    pub slot-keeps : IsIndexFile new home → HasNonePast (index_of new home) → slice_get (index_file new home) placed.place ≡ Some lbn → IsSoundVolume with-table
+    pub slot-keeps : IsIndexFile new home → HasNonePast (index_of new home) → slice_get (index_file_blocks new home) placed.place ≡ Some lbn → IsSoundVolume with-table
         → KeepsButSlot n home image new
     slot-keeps indexed past there sound =
         slot-kept (record { framed = framed-slot indexed past; sound = subst IsSoundVolume (sym volume-slot) sound }) there

@@ -29,7 +29,8 @@ KillKeeps =
     ((m : ℕ) → IsInFile (table_of image home) m → ¬ IsNext (table_of image home) m n) →
     WritesHeader n block home image (with_header image home n block)
 
--- Header n isn't one of the storage bitmap file's, 2, or of file 3's, and where it is one of the index file's, 1, this block leads to the same.
+-- Header n isn't one of the storage bitmap file's, 2, or of file 3's, and where it is one of the index file's, 1, this block
+-- leads to the same.
 pub record SparesOwnFiles (t : Table) (n : ℕ) (block : List ℕ) : Type 0 where
   pub two : ¬ IsHeaderOf t 2 n
   pub three : ¬ IsHeaderOf t 3 n
@@ -39,7 +40,8 @@ pub record SparesOwnFiles (t : Table) (n : ℕ) (block : List ℕ) : Type 0 wher
 abbrev pub HeaderRewriteKeeps : Type 0
 HeaderRewriteKeeps =
     (image : Image) (home : HomeFields) (n : ℕ) (block : List ℕ) →
-    HasSoundVolume image home → IsLive (table_of image home) n → MayBecome (volume_of image home) n block → SparesOwnFiles (table_of image home) n block →
+    HasSoundVolume image home → IsLive (table_of image home) n → MayBecome (volume_of image home) n block →
+    SparesOwnFiles (table_of image home) n block →
     WritesHeader n block home image (with_header image home n block)
 
 -- as over a header of a file from 4 on
@@ -68,12 +70,14 @@ BitClearKeeps =
 abbrev pub IndexFileMayGrow : Type 0
 IndexFileMayGrow =
     (image : Image) (home : HomeFields) (n : ℕ) (block : List ℕ) (lbn count : ℕ) →
-    HasSoundVolume image home → MayNameMore (table_of image home) n block lbn count → lbn + count ≤ length image → MayBecome (volume_of image home) n block →
+    HasSoundVolume image home → MayNameMore (table_of image home) n block lbn count → lbn + count ≤ length image →
+    MayBecome (volume_of image home) n block →
     WritesGrowth n block lbn count home image (with_header image home n block)
 
 -- and where it links to a header that does
 abbrev pub IndexFileMayGrowByHeader : Type 0
 IndexFileMayGrowByHeader =
     (image : Image) (home : HomeFields) (n m : ℕ) (block : List ℕ) (lbn count : ℕ) →
-    HasSoundVolume image home → MayLinkOn (table_of image home) n m block lbn count → lbn + count ≤ length image → MayBecome (volume_of image home) n block →
+    HasSoundVolume image home → MayLinkOn (table_of image home) n m block lbn count → lbn + count ≤ length image →
+    MayBecome (volume_of image home) n block →
     WritesGrowth n block lbn count home image (with_header image home n block)

@@ -59,9 +59,11 @@ pub record KeepsButSlot (n : ℕ) (home : HomeFields) (old new : Image) : Type 0
   pub bitmap : storage_bitmap new home ≡ storage_bitmap old home
   pub volume : volume_of new home ≡ record (volume_of old home) { table = table_of new home }
   pub others : KeepsOtherSlots n (table_of old home) (table_of new home)
-  pub files : (f : ℕ) → IsFile (table_of new home) f → f ≢ 1 → ¬ IsHeaderOf (table_of new home) f n → file_in home f new ≡ file_in home f old
+  pub files : (f : ℕ) → IsFile (table_of new home) f → f ≢ 1 → ¬ IsHeaderOf (table_of new home) f n →
+      file_in home f new ≡ file_in home f old
   pub said : (f : ℕ) → IsFile (table_of new home) f → ¬ IsHeaderOf (table_of new home) f n → said_of home f new ≡ said_of home f old
-  pub contents : (f : ℕ) → IsFile (table_of new home) f → f ≢ 1 → (file_in home f new).blocks ≡ map (block_or_zeros old) (file_blocks (table_of new home) f)
+  pub contents : (f : ℕ) → IsFile (table_of new home) f → f ≢ 1 →
+      (file_in home f new).blocks ≡ map (block_or_zeros old) (file_blocks (table_of new home) f)
 
 -- This was written as header n.
 pub record WritesHeader (n : ℕ) (block : List ℕ) (home : HomeFields) (old new : Image) : Type 0 where

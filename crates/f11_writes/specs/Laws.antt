@@ -3,7 +3,7 @@ use Rattle.std.specs.Prelude.{◌≡◌, ◌≢◌, ◌⊎◌, ℕ, ◌+◌, ◌
 use Rattle.f11_bits.specs.Bitmap.{is_free, KeepsOthers, Marks}
 use Rattle.f11_dev.specs.Image.{Image}
 use Rattle.f11_home.specs.Home.{HomeFields, candidate}
-use Rattle.f11_index.specs.IndexFile.{index_file}
+use Rattle.f11_index.specs.IndexFile.{index_file_blocks}
 use Rattle.f11_index.specs.Sound.{IsNoneOf}
 use Rattle.f11_index.specs.Table.{table_of, IsFile}
 use Rattle.f11_chain.specs.FileHeaders.{block_by_vbn}
@@ -16,7 +16,7 @@ use Rattle.f11_writes.specs.Kept.{KeepsVolume, KeepsFiles, WritesBlock, KeepsBut
 -- block, nor the storage bitmap file.
 pub record IsUnread (image : Image) (home : HomeFields) (lbn : ℕ) : Type 0 where
   pub candidates : (k : ℕ) → candidate k < home.lbn → candidate k ≢ lbn
-  pub index_file : IsNoneOf lbn (index_file image home)
+  pub index_file : IsNoneOf lbn (index_file_blocks image home)
   pub bitmap_file : IsNoneOf lbn (bitmap_file (table_of image home))
 
 -- a write of a block that the volume isn't read from leaves the volume
@@ -49,12 +49,14 @@ BitmapWriteKeeps =
 -- so where blocks are marked used
 abbrev pub UsedMarksKeep : Type 0
 UsedMarksKeep =
-    (old new : Image) (home : HomeFields) (lbn count : ℕ) → HasSoundVolume old home → Marks false (storage_bitmap old home) lbn count old new →
+    (old new : Image) (home : HomeFields) (lbn count : ℕ) → HasSoundVolume old home →
+    Marks false (storage_bitmap old home) lbn count old new →
     KeepsButFree home old new
 
 -- and where blocks are marked free that no header names
 abbrev pub FreeMarksKeep : Type 0
 FreeMarksKeep =
-    (old new : Image) (home : HomeFields) (lbn count : ℕ) → HasSoundVolume old home → Marks true (storage_bitmap old home) lbn count old new →
+    (old new : Image) (home : HomeFields) (lbn count : ℕ) → HasSoundVolume old home →
+    Marks true (storage_bitmap old home) lbn count old new →
     ((k : ℕ) → lbn ≤ k → k < lbn + count → ¬ IsNamed (table_of old home) k) →
     KeepsButFree home old new

@@ -1,5 +1,5 @@
--- Laws of the blocks that a header may name, and of those that none names (Files-11 On-Disk Structure Level 1, "Map Area" and "Storage Bitmap
--- File").
+-- Laws of the blocks that a header may name, and of those that none names (Files-11 On-Disk Structure Level 1, "Map Area" and
+-- "Storage Bitmap File").
 use Rattle.std.specs.Prelude.{◌≡◌, ℕ, ◌+◌, ◌<◌, ◌≤◌, true, false, List, ◌++◌, take}
 use Rattle.std.specs.List.{range_with_len}
 use Rattle.f11_bits.specs.Bitmap.{is_free, Marks}
@@ -14,8 +14,8 @@ use Rattle.f11_writes.specs.Kept.{KeepsVolume, KeepsButSlot}
 use Rattle.f11_writes.specs.OtherSlots.{KeepsOtherSlots}
 use Rattle.f11_writes.specs.Volumes.{MayName}
 
--- So many blocks in a row are spare: in the volume, used, and named by no header.
-pub record AreSpare (v : Volume) (lbn count : ℕ) : Type 0 where
+-- So many blocks in a row are unreferenced: in the volume, used, and named by no header.
+pub record AreUnreferenced (v : Volume) (lbn count : ℕ) : Type 0 where
   pub inside : lbn + count ≤ v.size
   pub used : (k : ℕ) → lbn ≤ k → k < lbn + count → v.free k ≡ false
   pub unnamed : (k : ℕ) → lbn ≤ k → k < lbn + count → ¬ IsNamed v.table k
@@ -24,25 +24,26 @@ pub record AreSpare (v : Volume) (lbn count : ℕ) : Type 0 where
 abbrev pub FreeIsUnnamed : Type 0
 FreeIsUnnamed = (v : Volume) (lbn : ℕ) → IsSoundVolume v → v.free lbn ≡ true → ¬ IsNamed v.table lbn
 
--- so free blocks are spare once they are marked used
-abbrev pub TakenAreSpare : Type 0
-TakenAreSpare =
-    (old new : Image) (home : HomeFields) (lbn count : ℕ) → HasSoundVolume old home → Marks false (storage_bitmap old home) lbn count old new →
+-- so free blocks are unreferenced once they are marked used
+abbrev pub TakenAreUnreferenced : Type 0
+TakenAreUnreferenced =
+    (old new : Image) (home : HomeFields) (lbn count : ℕ) → HasSoundVolume old home →
+    Marks false (storage_bitmap old home) lbn count old new →
     lbn + count ≤ (storage_bitmap old home).size → ((k : ℕ) → lbn ≤ k → k < lbn + count → is_free old (storage_bitmap old home) k ≡ true) →
-    AreSpare (volume_of new home) lbn count
+    AreUnreferenced (volume_of new home) lbn count
 
 -- any header may name these
-abbrev pub SpareMayBeNamed : Type 0
-SpareMayBeNamed = (v : Volume) (n lbn count : ℕ) → AreSpare v lbn count → MayName v n (range_with_len lbn count)
+abbrev pub UnreferencedMayBeNamed : Type 0
+UnreferencedMayBeNamed = (v : Volume) (n lbn count : ℕ) → AreUnreferenced v lbn count → MayName v n (range_with_len lbn count)
 
 -- a live one those that it names
 abbrev pub OwnMayBeNamed : Type 0
 OwnMayBeNamed = (v : Volume) (n : ℕ) → IsSoundVolume v → IsLive v.table n → MayName v n (blocks_named (v.table.header n))
 
--- and spare ones behind them
+-- and unreferenced ones behind them
 abbrev pub MoreMayBeNamed : Type 0
 MoreMayBeNamed =
-    (v : Volume) (n lbn count : ℕ) → IsSoundVolume v → IsLive v.table n → AreSpare v lbn count →
+    (v : Volume) (n lbn count : ℕ) → IsSoundVolume v → IsLive v.table n → AreUnreferenced v lbn count →
     MayName v n (blocks_named (v.table.header n) ++ range_with_len lbn count)
 
 -- and the first of those that a header may name it may name alone
@@ -58,33 +59,36 @@ LostIsUnnamed =
 -- as one that it named where it isn't live now
 abbrev pub KilledIsUnnamed : Type 0
 KilledIsUnnamed =
-    (old new : Volume) (n place lbn : ℕ) → IsSoundVolume old → KeepsOtherSlots n old.table new.table → IsCell old.table n place lbn → ¬ IsLive new.table n →
+    (old new : Volume) (n place lbn : ℕ) → IsSoundVolume old → KeepsOtherSlots n old.table new.table → IsCell old.table n place lbn →
+    ¬ IsLive new.table n →
     ¬ IsNamed new.table lbn
 
 -- and one behind those that it names now, where these are the first of those that it named
 abbrev pub CutIsUnnamed : Type 0
 CutIsUnnamed =
-    (old new : Volume) (n left place lbn : ℕ) → IsSoundVolume old → KeepsOtherSlots n old.table new.table → IsCell old.table n place lbn → left ≤ place →
+    (old new : Volume) (n left place lbn : ℕ) → IsSoundVolume old → KeepsOtherSlots n old.table new.table → IsCell old.table n place lbn →
+    left ≤ place →
     blocks_named (new.table.header n) ≡ take left (blocks_named (old.table.header n)) → ¬ IsNamed new.table lbn
 
--- some of spare blocks are spare
-abbrev pub PartIsSpare : Type 0
-PartIsSpare =
-    (v : Volume) (lbn count from some : ℕ) → AreSpare v lbn count → lbn ≤ from → from + some ≤ lbn + count → AreSpare v from some
+-- some of unreferenced blocks are unreferenced
+abbrev pub PartIsUnreferenced : Type 0
+PartIsUnreferenced =
+    (v : Volume) (lbn count from some : ℕ) → AreUnreferenced v lbn count → lbn ≤ from → from + some ≤ lbn + count →
+    AreUnreferenced v from some
 
--- spare blocks are spare still where a volume is as it was
-abbrev pub SpareStay : Type 0
-SpareStay =
-    (old new : Image) (home : HomeFields) (lbn count : ℕ) → KeepsVolume home old new → AreSpare (volume_of old home) lbn count →
-    AreSpare (volume_of new home) lbn count
+-- unreferenced blocks are unreferenced still where a volume is as it was
+abbrev pub UnreferencedStay : Type 0
+UnreferencedStay =
+    (old new : Image) (home : HomeFields) (lbn count : ℕ) → KeepsVolume home old new → AreUnreferenced (volume_of old home) lbn count →
+    AreUnreferenced (volume_of new home) lbn count
 
 -- and where a slot was written whose header names none of them, as one does that isn't in use
-abbrev pub OtherSpareStay : Type 0
-OtherSpareStay =
-    (old new : Image) (home : HomeFields) (n lbn count : ℕ) → KeepsButSlot n home old new → AreSpare (volume_of old home) lbn count →
-    ((place k : ℕ) → lbn ≤ k → k < lbn + count → ¬ IsCell (table_of new home) n place k) → AreSpare (volume_of new home) lbn count
+abbrev pub OtherUnreferencedStay : Type 0
+OtherUnreferencedStay =
+    (old new : Image) (home : HomeFields) (n lbn count : ℕ) → KeepsButSlot n home old new → AreUnreferenced (volume_of old home) lbn count →
+    ((place k : ℕ) → lbn ≤ k → k < lbn + count → ¬ IsCell (table_of new home) n place k) → AreUnreferenced (volume_of new home) lbn count
 
-abbrev pub SpareStayUnentered : Type 0
-SpareStayUnentered =
-    (old new : Image) (home : HomeFields) (n lbn count : ℕ) → KeepsButSlot n home old new → AreSpare (volume_of old home) lbn count →
-    (table_of new home).in_use n ≡ false → AreSpare (volume_of new home) lbn count
+abbrev pub UnreferencedStayUnentered : Type 0
+UnreferencedStayUnentered =
+    (old new : Image) (home : HomeFields) (n lbn count : ℕ) → KeepsButSlot n home old new → AreUnreferenced (volume_of old home) lbn count →
+    (table_of new home).in_use n ≡ false → AreUnreferenced (volume_of new home) lbn count

@@ -25,7 +25,8 @@ OtherSlotsStayBefore = (old new : Table) (f n : ℕ) → KeepsOtherSlots n old n
 
 -- and where header n is as good, so are the headers of its file up to it, and those before it link as they did
 abbrev pub OtherSlotsStayUpTo : Type 0
-OtherSlotsStayUpTo = (old new : Table) (f n : ℕ) → IsHeaderOf old f n → KeepsOtherSlots n old new → IsAsGood old new n → StayUpTo f n old new
+OtherSlotsStayUpTo = (old new : Table) (f n : ℕ) → IsHeaderOf old f n → KeepsOtherSlots n old new → IsAsGood old new n →
+    StayUpTo f n old new
 
 -- where header n isn't live now, each header of a file was one of that file
 abbrev pub OtherHeadersWere : Type 0

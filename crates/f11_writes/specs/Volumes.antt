@@ -40,8 +40,8 @@ pub record MayName (v : Volume) (n : ℕ) (lbns : List ℕ) : Type 0 where
   pub alone : (i lbn m place : ℕ) → slice_get lbns i ≡ Some lbn → m ≢ n → ¬ IsCell v.table m place lbn
   pub apart : AreApart lbns
 
--- A header may have the link of this block to a live header, which has none and is no other's next: it is on this volume, the sequence number
--- is right, and the segment is the next one.
+-- A header may have the link of this block to a live header, which has none and is no other's next: it is on this volume, the
+-- sequence number is right, and the segment is the next one.
 pub record LinksAnew (v : Volume) (block : List ℕ) : Type 0 where
   pub not_last : segment_number block < 255
   pub here : (link_of block).volume ≡ 0
@@ -74,4 +74,5 @@ pub record HasHeader (n : ℕ) (block : List ℕ) (old new : Volume) : Type 0 wh
 
 -- where it may become that, the volume is sound still
 abbrev pub SetIsSound : Type 0
-SetIsSound = (old new : Volume) (n : ℕ) (block : List ℕ) → IsSoundVolume old → MayBecome old n block → HasHeader n block old new → IsSoundVolume new
+SetIsSound = (old new : Volume) (n : ℕ) (block : List ℕ) → IsSoundVolume old → MayBecome old n block → HasHeader n block old new →
+    IsSoundVolume new

@@ -1,5 +1,5 @@
--- Worked examples: the writes that add a block of zeros to a file, make an empty file, give a file one more header, and delete one, and what
--- stands after each.
+-- Worked examples: the writes that add a block of zeros to a file, make an empty file, give a file one more header, and delete
+-- one, and what stands after each.
 use Rattle.std.specs.Prelude.{◌≡◌, ◌≢◌, ℕ, ◌+◌, ◌<◌, ◌≤◌, true, false, List, [], ◌∷◌, ◌++◌, slice_set}
 use Rattle.std.specs.List.{range_with_len}
 use Rattle.f11_bytes.specs.Block.{zero_block}
@@ -34,18 +34,20 @@ zeroed marked lbn = slice_set marked lbn zero_block
 abbrev pub with_block_added : Image → HomeFields → ℕ → ℕ → List ℕ → Image
 with_block_added marked home n lbn header = with_header (zeroed marked lbn) home n header
 
--- The volume is sound after each write, and at the end the file has a block of zeros more, and each other from 2 on is as it was but the storage
--- bitmap file.
+-- The volume is sound after each write, and at the end the file has a block of zeros more, and each other from 2 on is as it was
+-- but the storage bitmap file.
 pub record AddsBlock (f n lbn : ℕ) (header : List ℕ) (home : HomeFields) (old marked : Image) : Type 0 where
   pub first : HasSoundVolume marked home
   pub second : HasSoundVolume (zeroed marked lbn) home
   pub third : HasSoundVolume (with_block_added marked home n lbn header) home
   pub file : (file_in home f (with_block_added marked home n lbn header)).blocks ≡ (file_in home f old).blocks ++ zero_block ∷ []
-  pub others : (g : ℕ) → IsFile (table_of old home) g → g ≢ f → 3 ≤ g → file_in home g (with_block_added marked home n lbn header) ≡ file_in home g old
+  pub others : (g : ℕ) → IsFile (table_of old home) g → g ≢ f → 3 ≤ g →
+      file_in home g (with_block_added marked home n lbn header) ≡ file_in home g old
 
 abbrev pub BlockIsAdded : Type 0
 BlockIsAdded =
-    (old marked : Image) (home : HomeFields) (f n lbn : ℕ) (header : List ℕ) → HasSoundVolume old home → NamesOneMore (table_of old home) f n lbn header →
+    (old marked : Image) (home : HomeFields) (f n lbn : ℕ) (header : List ℕ) → HasSoundVolume old home →
+    NamesOneMore (table_of old home) f n lbn header →
     is_free old (storage_bitmap old home) lbn ≡ true → Marks false (storage_bitmap old home) lbn 1 old marked →
     AddsBlock f n lbn header home old marked
 
@@ -68,11 +70,13 @@ pub record MakesFile (n : ℕ) (header : List ℕ) (after : Index) (home : HomeF
   pub entered : HasSoundVolume (with_new_header old home n header after) home
   pub file : IsFile (table_of (with_new_header old home n header after) home) n
   pub empty : (file_in home n (with_new_header old home n header after)).blocks ≡ []
-  pub others : (g : ℕ) → IsFile (table_of old home) g → 2 ≤ g → file_in home g (with_new_header old home n header after) ≡ file_in home g old
+  pub others : (g : ℕ) → IsFile (table_of old home) g → 2 ≤ g →
+      file_in home g (with_new_header old home n header after) ≡ file_in home g old
 
 abbrev pub FileIsMade : Type 0
 FileIsMade =
-    (old : Image) (home : HomeFields) (n : ℕ) (header : List ℕ) (after : Index) → HasSoundVolume old home → IsNewHeader (index_of old home) n header →
+    (old : Image) (home : HomeFields) (n : ℕ) (header : List ℕ) (after : Index) → HasSoundVolume old home →
+    IsNewHeader (index_of old home) n header →
     segment_number header ≡ 0 → SetsBit true n (index_of old home) after → MakesFile n header after home old
 
 -- Header n, the last of a file from 4 on, may become this block, which names what it names and links to this header m.
@@ -85,8 +89,8 @@ pub record LinksToNew (t : Table) (f n m : ℕ) (last header : List ℕ) : Type 
   pub link : link_of last ≡ record { number = m; sequence = file_sequence header; volume = 0 }
   pub segment : segment_number header ≡ segment_number (t.header n) + 1
 
--- The new header was written, its bit was set, and the last header of the file was written: the volume is sound after each write, and at the end
--- the file has the header m more and the blocks that it had.
+-- The new header was written, its bit was set, and the last header of the file was written: the volume is sound after each write,
+-- and at the end the file has the header m more and the blocks that it had.
 pub record LinksHeader (f m : ℕ) (header : List ℕ) (after : Index) (home : HomeFields) (old new : Image) : Type 0 where
   pub written : HasSoundVolume (with_header old home m header) home
   pub entered : HasSoundVolume (with_new_header old home m header after) home
@@ -96,7 +100,8 @@ pub record LinksHeader (f m : ℕ) (header : List ℕ) (after : Index) (home : H
 
 abbrev pub HeaderIsLinked : Type 0
 HeaderIsLinked =
-    (old : Image) (home : HomeFields) (f n m : ℕ) (last header : List ℕ) (after : Index) → HasSoundVolume old home → IsNewHeader (index_of old home) m header →
+    (old : Image) (home : HomeFields) (f n m : ℕ) (last header : List ℕ) (after : Index) → HasSoundVolume old home →
+    IsNewHeader (index_of old home) m header →
     LinksToNew (table_of old home) f n m last header → SetsBit true m (index_of old home) after →
     LinksHeader f m header after home old (with_header (with_new_header old home m header after) home n last)
 
@@ -107,14 +112,15 @@ pub record MayDelete (t : Table) (n lbn count : ℕ) (dead : List ℕ) : Type 0 
   pub blocks : blocks_named (t.header n) ≡ range_with_len lbn count
   pub is_dead : IsDead dead
 
--- That header was killed, its blocks were marked free, and its bit was cleared: the volume is sound after each write, and at the end there is no
--- file n, and each other from 3 on is as it was.
+-- That header was killed, its blocks were marked free, and its bit was cleared: the volume is sound after each write, and at the
+-- end there is no file n, and each other from 3 on is as it was.
 pub record DeletesFile (n : ℕ) (dead : List ℕ) (after : Index) (home : HomeFields) (old freed : Image) : Type 0 where
   pub killed : HasSoundVolume (with_header old home n dead) home
   pub given : HasSoundVolume freed home
   pub cleared : HasSoundVolume (with_bitmap_block freed after n) home
   pub gone : ¬ IsFile (table_of (with_bitmap_block freed after n) home) n
-  pub others : (g : ℕ) → IsFile (table_of old home) g → g ≢ n → 3 ≤ g → file_in home g (with_bitmap_block freed after n) ≡ file_in home g old
+  pub others : (g : ℕ) → IsFile (table_of old home) g → g ≢ n → 3 ≤ g →
+      file_in home g (with_bitmap_block freed after n) ≡ file_in home g old
 
 abbrev pub FileIsDeleted : Type 0
 FileIsDeleted =

@@ -63,23 +63,23 @@ pub fn growth()
 /// The blocks that no header names.
 pub fn unnamed_blocks()
     ensures free { names.FreeIsUnnamed }
-    ensures taken { names.TakenAreSpare }
+    ensures taken { names.TakenAreUnreferenced }
     ensures lost { names.LostIsUnnamed }
     ensures killed { names.KilledIsUnnamed }
     ensures cut { names.CutIsUnnamed }
 {}
 
-/// Spare blocks, in use and named by no header, which are spare still.
-pub fn spare_blocks()
-    ensures part { names.PartIsSpare }
-    ensures stay { names.SpareStay }
-    ensures others { names.OtherSpareStay }
-    ensures unentered { names.SpareStayUnentered }
+/// Unreferenced blocks, in use and named by no header, which are unreferenced still.
+pub fn unreferenced_blocks()
+    ensures part { names.PartIsUnreferenced }
+    ensures stay { names.UnreferencedStay }
+    ensures others { names.OtherUnreferencedStay }
+    ensures unentered { names.UnreferencedStayUnentered }
 {}
 
 /// The blocks that a header may name.
 pub fn names()
-    ensures spare { names.SpareMayBeNamed }
+    ensures unreferenced { names.UnreferencedMayBeNamed }
     ensures own { names.OwnMayBeNamed }
     ensures more { names.MoreMayBeNamed }
     ensures fewer { names.FewerMayBeNamed }

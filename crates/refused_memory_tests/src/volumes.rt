@@ -3,9 +3,10 @@ use f11_bytes::NoMemory;
 use f11_commands::{Answer, Failure, print_rt_list, print_rt_vfy, print_vfy};
 use f11_dev::{DeviceFault, Memory};
 use f11_fixtures::{
-    Lines, are_found, file, keep, lines, linked, memory, put_words, rt_volumes, text_of, volumes,
+    Lines, are_found, file, has_words, keep, lines, linked, memory, put_words, rt_volumes, text_of,
+    volumes,
 };
-use f11_vfy::{Report, VfyError, verify};
+use f11_vfy::{Accepted, Report, VfyError, reclaim, verify};
 use rt11_volume::{RtAccepted, RtArea, RtKind, RtName, RtRefusal, RtReport, RtVfyError};
 use std::alloc::Global;
 use std::test::Fail;
@@ -46,6 +47,33 @@ fn a_volume_is_verified(rt: HostRuntime) -> Result<(), Fail> {
     assert!(rt; are_found(&faults, &[(8, 5, 0), (10, 21, 0)]));
     let wanted = [(1, 22, 22), (6, 5, 0), (7, 4, 4), (8, 4, 4), (9, 4, 2)];
     assert!(rt; are_found(&notes, &wanted));
+    Ok(())
+}
+
+/// Reclaims an accepted volume, once more where there was no memory, and gives its device.
+fn reclaimed(alloc: Global, volume: Accepted<Memory>) -> Result<Memory, DeviceFault> {
+    match reclaim(alloc, volume) {
+        Ok(volume) => Ok(volume.device()),
+        Err(VfyError::NoMemory(device)) => match verified(alloc, device) {
+            Ok(Report::Accepted(volume, _)) => match reclaim(alloc, volume) {
+                Ok(volume) => Ok(volume.device()),
+                Err(_) => Err(DeviceFault),
+            },
+            _ => Err(DeviceFault),
+        },
+        Err(VfyError::DeviceFault(_)) => Err(DeviceFault),
+    }
+}
+
+#[test]
+fn a_volume_is_reclaimed(rt: HostRuntime) -> Result<(), Fail> {
+    let mut device = volumes::fresh(rt.alloc(), volumes::BLOCKS)?;
+    put_words(&mut device, 20, &[(2, 0x80)])?;
+    let Ok(Report::Accepted(volume, _)) = verified(rt.alloc(), device) else {
+        return Err(DeviceFault)?;
+    };
+    let mut device = reclaimed(rt.alloc(), volume)?;
+    assert!(rt; has_words(&mut device, 20, &[(2, 0xc0)])?);
     Ok(())
 }
 

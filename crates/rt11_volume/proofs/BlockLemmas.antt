@@ -12,9 +12,9 @@ use Rattle.f11_dev.proofs.ImageLemmas.{image_block-written, image_block-other, i
 use Rattle.rt11_volume.specs.Directory.{segment_of, visited, data_start, count_of}
 use Rattle.rt11_volume.specs.Entry.{area_length}
 use Rattle.rt11_volume.specs.Files.{HasFile, file_area, IsBlockAt, HasBlock, HasBlockWritten, WritesBlock}
-use Rattle.rt11_volume.specs.Searching.Looking.{IsSoundDisk}
+use Rattle.rt11_volume.specs.Verifying.Verdict.{IsSoundDisk}
 use Rattle.rt11_volume.specs.Operations.{with_block}
-use Rattle.rt11_volume.specs.Segment.{Segment, segment_words, segment_with, words_of, area_start}
+use Rattle.rt11_volume.specs.Segment.{Segment, segment_words, segment_with, words_in, area_start}
 use Rattle.rt11_volume.specs.Store.{RtStore, rt_store_of, area_at}
 use Rattle.rt11_volume.proofs.Searching.File.{segments-at, area-begins, area-ends}
 use Rattle.rt11_volume.proofs.Verifying.Keep.{KeepsLinks, visited-same, visited-low, sound-kept, keeps-words}
@@ -73,7 +73,7 @@ unfolding segment_words
 segment-kept image lbn k block behind low =
     let one = image_block-other image lbn (4 + 2 * k) block (λ same. omega (arith, same, behind, low)) in
     let two = image_block-other image lbn (4 + 2 * k + 1) block (λ same. omega (arith, same, behind, low)) in
-    λ i. words_of (one i ++ two i)
+    λ i. words_in (one i ++ two i)
 
 links-kept : (image : Image) (lbn : ℕ) (block : List ℕ) → IsSoundImage image → data_start image ≤ lbn → KeepsLinks image (slice_set image lbn block)
 links-kept image lbn block sound behind =

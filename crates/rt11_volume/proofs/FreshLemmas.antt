@@ -16,7 +16,7 @@ use Rattle.rt11_volume.specs.Entry.{status, area_length, is_end, is_one_kind, em
 use Rattle.rt11_volume.specs.Verifying.Faults.{IsDirectoryFault, IsHighestBelow, IsHighestAbove}
 use Rattle.rt11_volume.specs.Verifying.Faults.IsDirectoryFault.{links_outside, links_back, extra_wrong, no_end, status_wrong, area_outside, begins_early, highest_wrong}
 use Rattle.rt11_volume.specs.Fresh.{HasRoom, start_of, space_of, fresh_block, IsFreshDirectory, MayStand, IsFreshStore}
-use Rattle.rt11_volume.specs.Segment.{segment_words, words_of, extra_bytes, entry_place, entry_words, entries, HasEnd, area_start}
+use Rattle.rt11_volume.specs.Segment.{segment_words, words_in, extra_bytes, entry_place, entry_words, entries, HasEnd, area_start}
 use Rattle.rt11_volume.specs.Store.{rt_store_of}
 use Rattle.rt11_volume.specs.Verifying.Verdict.{IsRtFault, IsRtAccepted}
 use Rattle.rt11_volume.specs.Verifying.Verdict.IsRtFault.{size_wrong, of_directory}
@@ -96,7 +96,7 @@ length-fresh : (n blocks : ℕ) → length (fresh_block n blocks) ≡ 512
 unfolding fresh_block zero_block
 length-fresh n blocks = refl
 
-fresh_words : (n blocks : ℕ) (high : List ℕ) → HasFreshWords n (space_of n blocks) (words_of (fresh_block n blocks ++ high))
+fresh_words : (n blocks : ℕ) (high : List ℕ) → HasFreshWords n (space_of n blocks) (words_in (fresh_block n blocks ++ high))
 unfolding fresh_block zero_block
 fresh_words n blocks high = record {
   count = at 0 (omega arith) ∙ (let e : n % 256 + 256 * (n / 256) ≡ n = omega arith in e);
@@ -114,7 +114,7 @@ fresh_words n blocks high = record {
   end = at 12 (omega arith);
 }
   where
-    at : (i : ℕ) → i < 256 → slice_index (words_of (fresh_block n blocks ++ high)) i ≡ word (fresh_block n blocks) (2 * i)
+    at : (i : ℕ) → i < 256 → slice_index (words_in (fresh_block n blocks ++ high)) i ≡ word (fresh_block n blocks) (2 * i)
     at i within = words_of-low (fresh_block n blocks) high i (length-fresh n blocks) within
 
 -- A fresh image: what its directory says.
@@ -126,8 +126,8 @@ record IsFresh (n space : ℕ) (image : Image) : Type 0 where
 is_fresh : (n : ℕ) (old new : Image) → IsFreshDirectory n old new → IsFresh n (space_of n (length old)) new
 unfolding segment_words
 is_fresh n old new fresh =
-    let words : HasFreshWords n (space_of n (length old)) (words_of (image_block new 6 ++ image_block new 7)) =
-    subst (λ (b : List ℕ). HasFreshWords n (space_of n (length old)) (words_of (b ++ image_block new 7))) (sym fresh.first) (fresh_words n (length old) (image_block new 7)) in
+    let words : HasFreshWords n (space_of n (length old)) (words_in (image_block new 6 ++ image_block new 7)) =
+    subst (λ (b : List ℕ). HasFreshWords n (space_of n (length old)) (words_in (b ++ image_block new 7))) (sym fresh.first) (fresh_words n (length old) (image_block new 7)) in
     record {
       words = words;
       visits = visited-one new words.next;
@@ -254,7 +254,7 @@ seven_words (a ∷ b ∷ c ∷ d ∷ e ∷ f ∷ g ∷ h ∷ more) size = absurd
 
 -- a segment has 512 words, and its first entry is whole
 length-segment : (image : Image) (k : ℕ) → length (segment_words image k) ≡ 512
-unfolding segment_words words_of
+unfolding segment_words words_in
 length-segment image k = simp (length-map, length-range_with_len)
 
 length-entry : (s : List ℕ) → length s ≡ 512 → length (entry_words 0 s 0) ≡ 7

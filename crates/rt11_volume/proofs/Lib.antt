@@ -11,3 +11,4 @@ pub mod DeleteLemmas
 pub mod CreateLemmas
 pub mod Splitting
 pub mod TextLemmas
+pub mod Named

@@ -14,7 +14,7 @@ use Rattle.rt11_volume.specs.declared.verifier.verdict.RtReport.TheVariants.{Acc
 use Rattle.rt11_volume.specs.declared.verifier.verdict.RtVfyError.{RtVfyError}
 use Rattle.rt11_volume.specs.declared.verifier.verdict.RtVfyError.TheVariants.{DeviceFault as VfyDeviceFault, NoMemory as VfyNoMemory}
 
--- each block of the directory is read once at most, 31 segments of two
+-- so many blocks are read at most: a directory has 31 segments of two
 abbrev pub most_transfers : ℕ
 most_transfers = 62
 

@@ -1,5 +1,31 @@
 -- The directory of an RT-11 volume: its segments in link order (RT-11 Volume and File Formats Manual, "Directory Structure").
-use Rattle.std.specs.Prelude.{◌≡◌, ℕ, zero, suc, ◌+◌, ◌*◌, ◌%◌, ◌<◌, ◌≤◌, ◌==◌, ◌&&◌, ◌||◌, Bool, false, not, nat_le, nat_lt, if◌then◌else◌, List, [], ◌∷◌, ◌++◌, length, Some, slice_index}
+use Rattle.std.specs.Prelude.{
+  ◌≡◌,
+  ℕ,
+  zero,
+  suc,
+  ◌+◌,
+  ◌*◌,
+  ◌%◌,
+  ◌<◌,
+  ◌≤◌,
+  ◌==◌,
+  ◌&&◌,
+  ◌||◌,
+  Bool,
+  false,
+  not,
+  nat_le,
+  nat_lt,
+  if◌then◌else◌,
+  List,
+  [],
+  ◌∷◌,
+  ◌++◌,
+  length,
+  Some,
+  slice_index,
+}
 use Rattle.std.specs.List.{list_any, slice_get}
 use Rattle.f11_dev.specs.Image.{Image}
 use Rattle.rt11_volume.specs.Segment.{Segment, segment_words, segment_count, next_segment, extra_bytes, segment_with, areas_end}

@@ -1,21 +1,50 @@
 -- What the calls on an RT-11 volume's files answer, and what they do to its disk.
-use Rattle.std.specs.Prelude.{◌≡◌, ◌↔◌, ℕ, ◌+◌, ◌<◌, ◌≤◌, Bool, true, false, ◌||◌, if◌then◌else◌, List, Result, Ok, Err, IsErrOf, Some, ⊤, slice_set}
+use Rattle.std.specs.Prelude.{
+  ◌≡◌,
+  ◌↔◌,
+  ℕ,
+  ◌+◌,
+  ◌<◌,
+  ◌≤◌,
+  Bool,
+  true,
+  false,
+  ◌||◌,
+  if◌then◌else◌,
+  List,
+  Result,
+  Ok,
+  Err,
+  IsErrOf,
+  Some,
+  ⊤,
+  slice_set,
+}
 use Rattle.std.specs.List.{slice_get}
 use Rattle.f11_dev.specs.Disk.{Disk}
 use Rattle.f11_dev.specs.Image.{Image}
 use Rattle.f11_dev.specs.declared.device.Device.{Ghosts}
 use Rattle.rt11_volume.specs.Calls.{volume_device, has_failed}
 use Rattle.rt11_volume.specs.Entry.{is_file_named}
-use Rattle.rt11_volume.specs.Searching.Looking.{IsSoundDisk}
 use Rattle.rt11_volume.specs.Directory.{count_of}
 use Rattle.rt11_volume.specs.Fresh.{KeepsData}
 use Rattle.rt11_volume.specs.Operations.{needs_split, with_area_emptied, with_block, with_new_file}
 use Rattle.rt11_volume.specs.Searching.Search.{IsFirst, HasNone, is_empty_for}
 use Rattle.rt11_volume.specs.Segment.{Segment}
 use Rattle.rt11_volume.specs.Store.{RtStore, rt_store_of, Area, area_at}
-use Rattle.rt11_volume.specs.Verifying.Verdict.{IsRtAccepted}
+use Rattle.rt11_volume.specs.Verifying.Verdict.{IsRtAccepted, IsSoundDisk}
 use Rattle.rt11_volume.specs.declared.refusal.RtRefusal.{RtRefusal}
-use Rattle.rt11_volume.specs.declared.refusal.RtRefusal.TheVariants.{Failed, NoSuchFile, EndOfFile, Protected, DuplicateName, NoSpace, DirectoryFull, NoMemory, DeviceFault}
+use Rattle.rt11_volume.specs.declared.refusal.RtRefusal.TheVariants.{
+  Failed,
+  NoSuchFile,
+  EndOfFile,
+  Protected,
+  DuplicateName,
+  NoSpace,
+  DirectoryFull,
+  NoMemory,
+  DeviceFault,
+}
 use Rattle.rt11_volume.specs.declared.volume.RtAccepted.{RtAccepted}
 
 -- whether a refusal is that of a transfer that failed
@@ -40,7 +69,8 @@ abbrev pub faults_in : {T : Type 0} → Result T RtRefusal → ℕ
 faults_in result = if is_device_fault result then 1 else 0
 
 -- A call answers `Failed` exactly where an earlier one answered `DeviceFault`, and then does nothing.
-pub record Answers {D T : Type 0} {met : Ghosts D} (disk : D → Disk) (result : Result T RtRefusal) (old new : RtAccepted D met) : Type 0 where
+pub record AnswersRt {D T : Type 0} {met : Ghosts D} (disk : D → Disk) (result : Result T RtRefusal)
+    (old new : RtAccepted D met) : Type 0 where
   pub failed : IsErrOf result Failed ↔ (has_failed old ≡ true)
   pub untouched : has_failed old ≡ true → disk (volume_device new) ≡ disk (volume_device old)
   pub next : has_failed new ≡ (has_failed old || is_device_fault result)
@@ -68,16 +98,16 @@ pub record IsFileAt (name : List ℕ) (store : RtStore) (start length : ℕ) : T
   pub length_is : length ≡ (file_area file).length
 
 -- why a file is not found
-abbrev pub FailsToFind : RtRefusal → List ℕ → Disk → Type 0
-FailsToFind Failed name disk = ⊤
-FailsToFind NoSuchFile name disk = IsSoundDisk disk → HasNoFile name (rt_store_of disk.image)
-FailsToFind EndOfFile name disk = ⊥
-FailsToFind Protected name disk = ⊥
-FailsToFind DuplicateName name disk = ⊥
-FailsToFind NoSpace name disk = ⊥
-FailsToFind DirectoryFull name disk = ⊥
-FailsToFind NoMemory name disk = ⊥
-FailsToFind DeviceFault name disk = ⊤
+abbrev pub FailsToFindFile : RtRefusal → List ℕ → Disk → Type 0
+FailsToFindFile Failed name disk = ⊤
+FailsToFindFile NoSuchFile name disk = IsSoundDisk disk → HasNoFile name (rt_store_of disk.image)
+FailsToFindFile EndOfFile name disk = ⊥
+FailsToFindFile Protected name disk = ⊥
+FailsToFindFile DuplicateName name disk = ⊥
+FailsToFindFile NoSpace name disk = ⊥
+FailsToFindFile DirectoryFull name disk = ⊥
+FailsToFindFile NoMemory name disk = ⊥
+FailsToFindFile DeviceFault name disk = ⊤
 
 -- The file has a block at this place, from 0.
 pub record HasBlock (name : List ℕ) (store : RtStore) (place : ℕ) (block : List ℕ) : Type 0 where

@@ -31,7 +31,8 @@ space_of segments blocks = min blocks 65535 - start_of segments
 -- the first block of the directory: the header, an empty area, and the end mark
 unfoldable pub fresh_block : ℕ → ℕ → List ℕ
 fresh_block segments blocks =
-    with_word (with_word (with_word (with_word (with_word (with_word zero_block 0 segments) 4 1) 8 (start_of segments)) 10 512) 18 (space_of segments blocks)) 24 2048
+    with_word (with_word (with_word (with_word (with_word (with_word zero_block 0 segments) 4 1) 8
+    (start_of segments)) 10 512) 18 (space_of segments blocks)) 24 2048
 
 -- The image with a fresh directory: its first block, and zeros behind it. All others are as they were.
 pub record IsFreshDirectory (segments : ℕ) (old new : Image) : Type 0 where
@@ -66,7 +67,12 @@ pub record IsFreshStore (segments blocks : ℕ) (store : RtStore) : Type 0 where
   pub count : store.count ≡ segments
   pub highest : store.highest ≡ 1
   pub extra : store.extra ≡ 0
-  pub one_area : store.segments ≡ record { number = 1; first = start_of segments; entries = empty_entry 0 (space_of segments blocks) ∷ [] } ∷ []
+  pub one_area : store.segments ≡ record {
+    number = 1;
+    first = start_of segments;
+    entries =
+        empty_entry 0 (space_of segments blocks) ∷ [];
+  } ∷ []
 
 -- The volume was made: there was room, the directory alone was written, and the image is accepted, with one empty area.
 pub record Inits {D : Type 0} {met : Ghosts D} (segments : ℕ) (disk : D → Disk) (volume : RtAccepted D met) (old : Disk) : Type 0 where

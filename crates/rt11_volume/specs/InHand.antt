@@ -1,5 +1,24 @@
 -- A segment in hand.
-use Rattle.std.specs.Prelude.{◌≡◌, ◌≢◌, ℕ, ◌+◌, ◌<◌, ◌-◌, ◌&&◌, not, if◌then◌else◌, IsTrue, List, [], length, map, Option, Some, None, slice_index_or}
+use Rattle.std.specs.Prelude.{
+  ◌≡◌,
+  ◌≢◌,
+  ℕ,
+  ◌+◌,
+  ◌<◌,
+  ◌-◌,
+  ◌&&◌,
+  not,
+  if◌then◌else◌,
+  IsTrue,
+  List,
+  [],
+  length,
+  map,
+  Option,
+  Some,
+  None,
+  slice_index_or,
+}
 use Rattle.f11_dev.specs.Disk.{Disk}
 use Rattle.f11_dev.specs.Looked.{Looked}
 use Rattle.f11_dev.specs.Went.{Went}
@@ -59,7 +78,8 @@ unfoldable pub link_from : List Visited → Option ℕ
 link_from vs =
     let first = (visit_at vs 0).segment in
     let last = (last_visit vs).segment in
-    if not (are_extra_wrong (extra_bytes first) (extra_bytes last)) && is_link_on (segment_count first) (map (λ v. v.number) vs) (next_segment last)
+    if not (are_extra_wrong (extra_bytes first) (extra_bytes last)) && is_link_on (segment_count first)
+    (map (λ v. v.number) vs) (next_segment last)
     then Some (next_segment last) else None
 
 -- All segments were visited, the first of which was in hand.

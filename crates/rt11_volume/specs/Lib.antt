@@ -14,3 +14,5 @@ pub mod Files
 pub mod Listing
 pub mod Rewriting
 pub mod FreshLaws
+pub mod Named
+pub mod Laws

@@ -10,7 +10,17 @@ use Rattle.rt11_volume.specs.declared.area.RtKind.{RtKind}
 use Rattle.rt11_volume.specs.declared.area.RtKind.TheVariants.{Tentative, Empty, Permanent}
 use Rattle.rt11_volume.specs.declared.entry.Entry.{Entry}
 use Rattle.rt11_volume.specs.declared.refusal.RtRefusal.{RtRefusal}
-use Rattle.rt11_volume.specs.declared.refusal.RtRefusal.TheVariants.{Failed, NoSuchFile, EndOfFile, Protected, DuplicateName, NoSpace, DirectoryFull, NoMemory, DeviceFault}
+use Rattle.rt11_volume.specs.declared.refusal.RtRefusal.TheVariants.{
+  Failed,
+  NoSuchFile,
+  EndOfFile,
+  Protected,
+  DuplicateName,
+  NoSpace,
+  DirectoryFull,
+  NoMemory,
+  DeviceFault,
+}
 
 -- the name that is shown of an area: that of a file, where its words are one
 abbrev pub shown_name : RtKind → List ℕ → Option (List ℕ)
@@ -28,11 +38,25 @@ ListsAreas store areas = areas ≡ map shown_area (areas_of store)
 
 -- an area whose entry is in hand and that begins at a block, up to the last that a word can tell
 abbrev pub shown_entry : Entry → ℕ → RtArea
-shown_entry e start = record { kind = kind_of e.status; name = shown_name (kind_of e.status) e.name; start = min start 65535; length = e.length; protected = has_bit e.status 15 }
+shown_entry e start = record {
+  kind = kind_of e.status;
+  name = shown_name (kind_of e.status) e.name;
+  start =
+      min start 65535;
+  length = e.length;
+  protected = has_bit e.status 15;
+}
 
 -- the same of an entry's words
 abbrev pub shown_words : List ℕ → ℕ → RtArea
-shown_words e start = record { kind = kind e; name = shown_name (kind e) (name_words e); start = min start 65535; length = area_length e; protected = is_protected e }
+shown_words e start = record {
+  kind = kind e;
+  name = shown_name (kind e) (name_words e);
+  start =
+      min start 65535;
+  length = area_length e;
+  protected = is_protected e;
+}
 
 -- the areas of a segment, as they are shown
 abbrev pub shown_segment : Segment → List RtArea

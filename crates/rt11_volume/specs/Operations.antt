@@ -1,5 +1,26 @@
 -- What the calls on an RT-11 volume make of a store (profile: the choice of the area, the split and the joining).
-use Rattle.std.specs.Prelude.{ℕ, ◌+◌, ◌-◌, ◌/◌, ◌==◌, ◌&&◌, Bool, not, nat_le, nat_lt, if◌then◌else◌, List, [], ◌∷◌, ◌++◌, length, take, drop, slice_set, slice_index_or}
+use Rattle.std.specs.Prelude.{
+  ℕ,
+  ◌+◌,
+  ◌-◌,
+  ◌/◌,
+  ◌==◌,
+  ◌&&◌,
+  Bool,
+  not,
+  nat_le,
+  nat_lt,
+  if◌then◌else◌,
+  List,
+  [],
+  ◌∷◌,
+  ◌++◌,
+  length,
+  take,
+  drop,
+  slice_set,
+  slice_index_or,
+}
 use Rattle.rt11_volume.specs.Entry.{area_length, is_empty, empty_entry, file_entry, entry_size}
 use Rattle.rt11_volume.specs.Segment.{Segment, area_start}
 use Rattle.rt11_volume.specs.Store.{RtStore}
@@ -23,7 +44,8 @@ with_file extra es i name blocks day =
 
 -- the segment at this place with other entries
 abbrev pub with_entries : List Segment → ℕ → List (List ℕ) → List Segment
-with_entries segments place es = slice_set segments place (record (slice_index_or segments place (record { number = 0; first = 0; entries = [] })) { entries = es })
+with_entries segments place es = slice_set segments place
+    (record (slice_index_or segments place (record { number = 0; first = 0; entries = [] })) { entries = es })
 
 -- how many entries stay where a segment of so many is split
 abbrev pub kept_of : ℕ → ℕ
@@ -54,8 +76,10 @@ segments_with_file store place i seg name blocks day =
     let kept = kept_of (length seg.entries) in
     if needs_split store.extra seg i blocks then
     (if nat_lt i kept
-    then with_entries (split_at store.segments place (store.highest + 1) seg) place (with_file store.extra (front_half seg).entries i name blocks day)
-    else with_entries (split_at store.segments place (store.highest + 1) seg) (place + 1) (with_file store.extra (back_half (store.highest + 1) seg).entries (i - kept) name blocks day))
+    then with_entries (split_at store.segments place (store.highest + 1) seg) place
+    (with_file store.extra (front_half seg).entries i name blocks day)
+    else with_entries (split_at store.segments place (store.highest + 1) seg) (place + 1)
+    (with_file store.extra (back_half (store.highest + 1) seg).entries (i - kept) name blocks day))
     else with_entries store.segments place (with_file store.extra seg.entries i name blocks day)
 
 -- the store with a file in the front of area i of the segment at this place

@@ -1,7 +1,17 @@
 -- The names of refusals (profile).
 use Rattle.std.specs.Prelude.{ℕ, List, codes}
 use Rattle.rt11_volume.specs.declared.refusal.RtRefusal.{RtRefusal}
-use Rattle.rt11_volume.specs.declared.refusal.RtRefusal.TheVariants.{Failed, NoSuchFile, EndOfFile, Protected, DuplicateName, NoSpace, DirectoryFull, NoMemory, DeviceFault}
+use Rattle.rt11_volume.specs.declared.refusal.RtRefusal.TheVariants.{
+  Failed,
+  NoSuchFile,
+  EndOfFile,
+  Protected,
+  DuplicateName,
+  NoSpace,
+  DirectoryFull,
+  NoMemory,
+  DeviceFault,
+}
 
 -- the name of a refusal, as it is printed
 abbrev pub refusal_name : RtRefusal → List ℕ

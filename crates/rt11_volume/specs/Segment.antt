@@ -10,12 +10,12 @@ abbrev pub segment_lbn : ℕ → ℕ
 segment_lbn k = 4 + 2 * k
 
 -- the words of 1024 bytes
-unfoldable pub words_of : List ℕ → List ℕ
-words_of bytes = map (λ i. word bytes (2 * i)) (range_with_len 0 512)
+unfoldable pub words_in : List ℕ → List ℕ
+words_in bytes = map (λ i. word bytes (2 * i)) (range_with_len 0 512)
 
 -- the words of segment k
 unfoldable pub segment_words : Image → ℕ → List ℕ
-segment_words image k = words_of (image_block image (segment_lbn k) ++ image_block image (segment_lbn k + 1))
+segment_words image k = words_in (image_block image (segment_lbn k) ++ image_block image (segment_lbn k + 1))
 
 -- The header of a segment is its first five words.
 -- how many segments there are, which counts in segment 1 alone

@@ -3,7 +3,7 @@ ghost use Rattle.std.specs.Prelude.{◌≡◌, false, IfErr, IsErrOf, OnErr, OnO
 ghost use Rattle.f11_dev.specs.Looked.{Looked};
 ghost use Rattle.f11_dev.specs.Went.{Went};
 ghost use Rattle.rt11_volume.specs.Files.{is_device_fault, faults_in, DeletesFile, FailsToDelete, KeepsFiles};
-ghost use Rattle.rt11_volume.specs.Searching.Looking.{IsSoundDisk};
+ghost use Rattle.rt11_volume.specs.Verifying.Verdict.{IsSoundDisk};
 
 use crate::lookup::file::find_file;
 use crate::refusal::RtRefusal;

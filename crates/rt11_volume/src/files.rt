@@ -4,7 +4,7 @@ ghost use Rattle.f11_dev.specs.Looked.{Looked};
 ghost use Rattle.f11_dev.specs.Went.{Went};
 ghost use Rattle.rt11_volume.specs.Files.{is_device_fault, faults_in, FailsToReach, HasBlock, WritesBlock, HasBlockWritten, KeepsFiles, DeletesFile, FailsToDelete, CreatesFile, FailsToCreate};
 ghost use Rattle.rt11_volume.specs.Listing.{ListsAreas, FailsToList};
-ghost use Rattle.rt11_volume.specs.Searching.Looking.{IsSoundDisk};
+ghost use Rattle.rt11_volume.specs.Verifying.Verdict.{IsSoundDisk};
 ghost use Rattle.rt11_volume.specs.Store.{rt_store_of};
 
 use crate::area::RtArea;
@@ -71,7 +71,7 @@ fn write_block<D: Device>(
 
 impl<D: Device> RtAccepted<D> {
     ghost use Rattle.rt11_volume.specs.Calls.{volume_device};
-    ghost use Rattle.rt11_volume.specs.Files.{Answers, IsFileAt, FailsToFind};
+    ghost use Rattle.rt11_volume.specs.Files.{AnswersRt, IsFileAt, FailsToFindFile};
 
     /// All areas, in the order of the segments and of their entries (profile: a name is shown for a file alone). It takes memory
     /// for the list.
@@ -81,7 +81,7 @@ impl<D: Device> RtAccepted<D> {
     /// `Failed` where an earlier call answered `DeviceFault`, `NoMemory` where there was no memory, `DeviceFault` where a transfer
     /// failed.
     pub fn list(&mut self, alloc: Global) -> Result<Vec<RtArea>, RtRefusal>
-        ensures answers { Answers D.disk result self.old self.new }
+        ensures answers { AnswersRt D.disk result self.old self.new }
         ensures looked { Looked (D.disk (volume_device self.old))
             (D.disk (volume_device self.new)) 62 (faults_in result) }
         ensures listed { IfOk result (λ areas. IsSoundDisk (D.disk (volume_device self.old))
@@ -102,13 +102,13 @@ impl<D: Device> RtAccepted<D> {
     ///
     /// `Failed` where an earlier call answered `DeviceFault`, `NoSuchFile` where there is none, `DeviceFault` where a transfer failed.
     pub fn find(&mut self, name: &RtName) -> Result<(u16, u16), RtRefusal>
-        ensures answers { Answers D.disk result self.old self.new }
+        ensures answers { AnswersRt D.disk result self.old self.new }
         ensures looked { Looked (D.disk (volume_device self.old))
             (D.disk (volume_device self.new)) 62 (faults_in result) }
         ensures found { IfOk result (λ at. IsSoundDisk (D.disk (volume_device self.old))
             → IsFileAt name.now (rt_store_of (D.disk (volume_device self.old)).image) at.0 at.1) }
         ensures refused { IfErr result (λ refusal.
-            FailsToFind refusal name.now (D.disk (volume_device self.old))) }
+            FailsToFindFile refusal name.now (D.disk (volume_device self.old))) }
     {
         if self.failed {
             return Err(RtRefusal::Failed);
@@ -125,7 +125,7 @@ impl<D: Device> RtAccepted<D> {
     /// `Failed` where an earlier call answered `DeviceFault`, `NoSuchFile` where there is no such file, `EndOfFile` where it has no
     /// block at that place, `DeviceFault` where a transfer failed.
     pub fn read(&mut self, name: &RtName, place: u16, into: &mut Block) -> Result<(), RtRefusal>
-        ensures answers { Answers D.disk result self.old self.new }
+        ensures answers { AnswersRt D.disk result self.old self.new }
         ensures looked { Looked (D.disk (volume_device self.old))
             (D.disk (volume_device self.new)) 63 (faults_in result) }
         ensures read { OnOk result (IsSoundDisk (D.disk (volume_device self.old))
@@ -150,7 +150,7 @@ impl<D: Device> RtAccepted<D> {
     /// `Failed` where an earlier call answered `DeviceFault`, `NoSuchFile` where there is no such file, `EndOfFile` where it has no
     /// block at that place, `DeviceFault` where a transfer failed.
     pub fn write(&mut self, name: &RtName, place: u16, block: &Block) -> Result<(), RtRefusal>
-        ensures answers { Answers D.disk result self.old self.new }
+        ensures answers { AnswersRt D.disk result self.old self.new }
         ensures went { Went
             (HasBlockWritten name.now place block.now (D.disk (volume_device self.old)))
             (D.disk (volume_device self.old)) (D.disk (volume_device self.new))
@@ -183,7 +183,7 @@ impl<D: Device> RtAccepted<D> {
     /// empty area is so long, `DirectoryFull` where the segment has no room and each one is in use, `DeviceFault` where a transfer
     /// failed.
     pub fn create(&mut self, name: &RtName, length: u16, date: u16) -> Result<(), RtRefusal>
-        ensures answers { Answers D.disk result self.old self.new }
+        ensures answers { AnswersRt D.disk result self.old self.new }
         ensures went { Went (KeepsFiles (D.disk (volume_device self.old)))
             (D.disk (volume_device self.old)) (D.disk (volume_device self.new))
             70 (faults_in result) }
@@ -216,7 +216,7 @@ impl<D: Device> RtAccepted<D> {
     /// `Failed` where an earlier call answered `DeviceFault`, `NoSuchFile` where there is no such file, `Protected` where it is
     /// protected, `DeviceFault` where a transfer failed.
     pub fn delete(&mut self, name: &RtName) -> Result<(), RtRefusal>
-        ensures answers { Answers D.disk result self.old self.new }
+        ensures answers { AnswersRt D.disk result self.old self.new }
         ensures went { Went (KeepsFiles (D.disk (volume_device self.old)))
             (D.disk (volume_device self.old)) (D.disk (volume_device self.new))
             64 (faults_in result) }

@@ -15,6 +15,7 @@ mod entry;
 mod files;
 mod fresh;
 pub mod fresh_laws;
+pub mod laws;
 mod list;
 mod lookup;
 mod name;

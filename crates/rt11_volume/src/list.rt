@@ -4,7 +4,7 @@ ghost use Rattle.f11_dev.specs.Looked.{Looked};
 ghost use Rattle.rt11_volume.specs.Files.{faults_in};
 ghost use Rattle.rt11_volume.specs.InHand.{SaysEntry};
 ghost use Rattle.rt11_volume.specs.Listing.{shown_name, shown_entry, shown_segment, ListsAreas, FailsToList};
-ghost use Rattle.rt11_volume.specs.Searching.Looking.{IsSoundDisk};
+ghost use Rattle.rt11_volume.specs.Verifying.Verdict.{IsSoundDisk};
 ghost use Rattle.rt11_volume.specs.Segment.{segment_with};
 ghost use Rattle.rt11_volume.specs.Store.{rt_store_of};
 
@@ -60,7 +60,7 @@ fn add_areas(areas: &mut Vec<RtArea>, segment: &Segment) -> Result<(), NoMemory>
     Ok(())
 }
 
-/// All areas, in link order. Each block of the directory is read once at most.
+/// All areas, in link order, from at most 62 reads.
 pub(crate) fn list_areas<D: Device>(alloc: Global, device: &mut D) -> Result<Vec<RtArea>, RtRefusal>
     ensures looked { Looked (D.disk device.old) (D.disk device.new) 62 (faults_in result) }
     ensures listed { IfOk result (λ areas. IsSoundDisk (D.disk device.old)

@@ -29,7 +29,7 @@ pub(crate) struct Segment {
 
 impl Model for Segment {
     ghost use Rattle.std.specs.Prelude.{ℕ, List, ◌++◌};
-    ghost use Rattle.rt11_volume.specs.Segment.{words_of as words};
+    ghost use Rattle.rt11_volume.specs.Segment.{words_in as words};
 
     ghost Value = { List ℕ };
 

@@ -22,7 +22,7 @@ use Rattle.f11_image_store.specs.FieldLaws.{SaysBut, ChangesFile}
 use Rattle.f11_files.specs.Changing.Fields.{Alters, FailsToAlter}
 use Rattle.f11_files.specs.Finding.First.{FindsFile}
 use Rattle.f11_image_store.specs.StoreOf.{store_of}
-use Rattle.f11_files.specs.Structure.{index_in, bitmap_in, home_of, store_on, Keeps, IsFor, StaysFor}
+use Rattle.f11_files.specs.Structure.{index_in, bitmap_in, home_of, store_on, IsStructureOf, IsStructureFor, StaysFor}
 use Rattle.f11_files.specs.declared.structure.Structure.{Structure}
 use Rattle.f11_files.proofs.AnswerLemmas.{right-fault, reads-looked}
 use Rattle.f11_image_store.proofs.FieldLemmas.{changes-file, field-keeps}
@@ -32,13 +32,13 @@ use Rattle.f11_image_store.proofs.StoreLemmas.{free-count}
 use Rattle.f11_files.proofs.WriteLemmas.{breaks-off, failed-stays, served-stays, writes-behind}
 
 -- where a slot was written, the blocks that were free are free still
-pub free-slot : (s : Structure) (n : ℕ) (old new : Image) → KeepsButSlot n (home_of s) old new → Keeps s old → s.storage.free ≡ free_blocks new (bitmap_in s)
+pub free-slot : (s : Structure) (n : ℕ) (old new : Image) → KeepsButSlot n (home_of s) old new → IsStructureOf s old → s.storage.free ≡ free_blocks new (bitmap_in s)
 free-slot s n old new kept keeps =
     keeps.free ∙ ap (free_blocks old) keeps.bitmap_is ∙ free-count old (home_of s) ∙ ap (λ (v : Volume). count_below v.free v.size) (sym kept.volume)
     ∙ sym (free-count new (home_of s)) ∙ ap (free_blocks new) (kept.bitmap ∙ sym keeps.bitmap_is)
 
 -- where a header was written, what is kept stays
-pub keeps-header : (s : Structure) (n : ℕ) (block : List ℕ) (old new : Image) → WritesHeader n block (home_of s) old new → Keeps s old → Keeps s new
+pub keeps-header : (s : Structure) (n : ℕ) (block : List ℕ) (old new : Image) → WritesHeader n block (home_of s) old new → IsStructureOf s old → IsStructureOf s new
 keeps-header s n block old new wrote keeps = record {
   index_is = keeps.index_is ∙ sym wrote.index_file.index;
   bitmap_is = keeps.bitmap_is ∙ sym wrote.slot.bitmap;
@@ -46,7 +46,7 @@ keeps-header s n block old new wrote keeps = record {
 }
 
 -- the header was read, and is written with the change
-module _ (s : Structure) (f : FileId) (change : File → File) (was block : List ℕ) (old now : Disk) (lbn : ℕ) (for : IsFor s old) (own : 4 ≤ f.number) (finds : FindsFile (index_in s) f was old now)
+module _ (s : Structure) (f : FileId) (change : File → File) (was block : List ℕ) (old now : Disk) (lbn : ℕ) (for : IsStructureFor s old) (own : 4 ≤ f.number) (finds : FindsFile (index_in s) f was old now)
     (says : SaysBut change was block) (at : lbn ≡ header_lbn (index_in s) f.number) where
   abbrev work : Work
   work = one_part f.number (file_changes f.number change)
@@ -96,7 +96,7 @@ module _ (s : Structure) (f : FileId) (change : File → File) (was block : List
 
     pub altered-stays : new ≡ with_transfer true (with_block_at lbn block now) → StaysFor false s s new
     altered-stays is = served-stays s work old new false for (alters is).writes.went
-        (λ honest. subst (Keeps s) (ap (λ (d : Disk). d.image) (sym is)) (keeps-header s f.number block old.image written (changes honest).header (for.keeps honest)))
+        (λ honest. subst (IsStructureOf s) (ap (λ (d : Disk). d.image) (sym is)) (keeps-header s f.number block old.image written (changes honest).header (for.keeps honest)))
 
     pub fails-alter : (new ≡ with_transfer false now) ⊎ (new ≡ with_transfer false (with_block_at lbn block now)) → FailsToAlter false change (home_of s) f DeviceFault old new
     fails-alter is =

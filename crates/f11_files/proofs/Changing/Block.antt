@@ -16,7 +16,7 @@ use Rattle.f11_image_store.specs.Allocation.{KeepsBlocks}
 use Rattle.f11_files.specs.Answers.{Meanwhile}
 use Rattle.f11_files.specs.Finding.Blocks.{FindsBlock, StoresBlock, FailsToStore, block_work}
 use Rattle.f11_image_store.specs.StoreOf.{store_of}
-use Rattle.f11_files.specs.Structure.{home_of, store_on, Keeps, IsFor, StaysFor}
+use Rattle.f11_files.specs.Structure.{home_of, store_on, IsStructureOf, IsStructureFor, StaysFor}
 use Rattle.f11_files.specs.declared.structure.Structure.{Structure}
 use Rattle.f11_image_store.proofs.AllocationLemmas.{keeps-same}
 use Rattle.f11_files.proofs.AnswerLemmas.{right-fault}
@@ -24,7 +24,7 @@ use Rattle.f11_image_store.proofs.StoreLemmas.{block-stored}
 use Rattle.f11_files.proofs.WriteLemmas.{breaks-off, keeps-volume, failed-stays, served-stays, writes-behind}
 
 -- the block was found, and is written there
-module _ (s : Structure) (f : FileId) (vbn lbn : ℕ) (block : List ℕ) (old now : Disk) (for : IsFor s old) (own : 4 ≤ f.number) (finds : FindsBlock (home_of s) f vbn lbn old now) where
+module _ (s : Structure) (f : FileId) (vbn lbn : ℕ) (block : List ℕ) (old now : Disk) (for : IsStructureFor s old) (own : 4 ≤ f.number) (finds : FindsBlock (home_of s) f vbn lbn old now) where
   abbrev written : Image
   written = set now.image lbn block
 
@@ -61,7 +61,7 @@ module _ (s : Structure) (f : FileId) (vbn lbn : ℕ) (block : List ℕ) (old no
 
     pub stored-stays : new ≡ with_transfer true (with_block_at lbn block now) → StaysFor false s s new
     stored-stays is = served-stays s (block_work f vbn block) old new false for (stores-block is).writes.went
-        (λ honest. subst (Keeps s) (ap (λ (d : Disk). d.image) (sym is)) (keeps-volume s old.image written (writes honest).keeps (for.keeps honest)))
+        (λ honest. subst (IsStructureOf s) (ap (λ (d : Disk). d.image) (sym is)) (keeps-volume s old.image written (writes honest).keeps (for.keeps honest)))
 
     pub fails-store : (new ≡ with_transfer false now) ⊎ (new ≡ with_transfer false (with_block_at lbn block now)) → FailsToStore false (home_of s) f vbn block DeviceFault old new
     fails-store is = breaks-off finds.no_cause refl (right-fault _ _) (writes-behind finds.reads (went_failed_write P now new lbn block is moment))

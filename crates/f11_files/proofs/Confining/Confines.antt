@@ -1,16 +1,16 @@
 -- What carries `Confines` from call to call.
-use Rattle.std.proofs.Common.{◌≡◌, ◌≢◌, ◌⊎◌, ◌-◌, ◌<◌, ◌≤◌, ℕ, Bool, true, false, List, [], ◌∷◌, ◌++◌, All, length, set, get_or, refl, sym, ap, subst, ◌∙◌, append_assoc, arith}
+use Rattle.std.proofs.Common.{◌≡◌, ◌≢◌, ◌⊎◌, ℕ, Bool, true, false, List, [], ◌∷◌, ◌++◌, All, get_or, refl, sym, ap, subst, ◌∙◌, append_assoc, arith}
 use Rattle.std.proofs.lemmas.List.Elements.{All-append}
-use Rattle.f11_bits.specs.Bitmap.{Bitmap, KeepsOthers}
-use Rattle.f11_bits.proofs.BitmapLemmas.{slice_get-set_other}
+use Rattle.f11_bits.specs.Bitmap.{Bitmap}
 use Rattle.f11_dev.specs.Disk.{Disk, with_transfer, with_block_at}
 use Rattle.f11_dev.specs.Image.{Image}
 use Rattle.f11_dev.specs.Looked.{Looked}
 use Rattle.f11_dev.specs.Went.{Went, newest}
 use Rattle.f11_dev.proofs.WentLemmas.{went_looked, went_write, went_failed_write}
-use Rattle.f11_index.specs.IndexFile.{Index, slots, header_lbn}
+use Rattle.f11_index.specs.IndexFile.{Index}
 use Rattle.f11_store.specs.Changes.{is_in}
 use Rattle.f11_image_store.specs.Confines.{IsNoPart, Spares, Confines, AreAlike}
+use Rattle.f11_image_store.proofs.ConfinesLemmas.{spares-other}
 
 -- what is known of each image that stood meanwhile
 pub confines-went : (headers : ℕ → Bool) (index : Index) (bitmap : Bitmap) (others : List ℕ) {P : Image → Type 0} {old new : Disk} {most faults : ℕ} → ((image : Image) → P image → Spares headers index bitmap others old.image image)
@@ -27,15 +27,6 @@ confines-looked headers index bitmap others {old = old} looked = confines-went h
 
 pub confines-none : (headers : ℕ → Bool) (index : Index) (bitmap : Bitmap) (others : List ℕ) (disk : Disk) → Confines headers index bitmap others disk disk
 confines-none headers index bitmap others disk = record { since = []; history = refl; image = refl; each = λ k d within. absurd (omega arith) }
-
--- a block that is one of those
-pub spares-other : (headers : ℕ → Bool) (index : Index) (bitmap : Bitmap) (others : List ℕ) (old : Image) (lbn : ℕ) (block : List ℕ) → ((l : ℕ) → IsNoPart headers index bitmap l → is_in others l ≡ false → lbn ≢ l)
-    → Spares headers index bitmap others old (set old lbn block)
-spares-other headers index bitmap others old lbn block apart l none out = slice_get-set_other old lbn l block (apart l none out)
-
--- header n
-pub header-apart : (headers : ℕ → Bool) (index : Index) (bitmap : Bitmap) (n lbn : ℕ) → headers n ≡ true → 0 < n → n ≤ slots index → lbn ≡ header_lbn index n → (l : ℕ) → IsNoPart headers index bitmap l → lbn ≢ l
-header-apart headers index bitmap n lbn may some slot at l none same = none.header n may some slot (sym at ∙ same)
 
 pub confines-write : (headers : ℕ → Bool) (index : Index) (bitmap : Bitmap) (others : List ℕ) (old new : Disk) (lbn : ℕ) (block : List ℕ) → ((l : ℕ) → IsNoPart headers index bitmap l → is_in others l ≡ false → lbn ≢ l)
     → new ≡ with_transfer true (with_block_at lbn block old) → Confines headers index bitmap others old new
@@ -73,15 +64,6 @@ confines-wider headers fewer index bitmap others more may less one = record {
   each = λ k d within l none out. one.each k d within l (fewer-part headers fewer index bitmap may l none) (less l out);
 }
 
--- what is no part before is none after
-pub alike-part : (headers : ℕ → Bool) (index after : Index) (bitmap later : Bitmap) → AreAlike index after bitmap later → (lbn : ℕ) → IsNoPart headers index bitmap lbn → IsNoPart headers after later lbn
-unfolding header_lbn
-alike-part headers index after bitmap later alike lbn none = record {
-  header = λ n is some slot same. none.header n is some (let count = ap (λ (hs : List ℕ). length hs) alike.headers in omega (arith, slot, count)) (ap (λ (hs : List ℕ). get_or hs (n - 1) 0) (sym alike.headers) ∙ same);
-  index_bitmap = λ k within same. none.index_bitmap k (let count = alike.bitmap_blocks in omega (arith, within, count)) (let at = alike.bitmap_lbn in omega (arith, at, same));
-  storage = λ i within same. none.storage i (let count = ap (λ (ps : List ℕ). length ps) alike.places in omega (arith, within, count)) (ap (λ (ps : List ℕ). get_or ps i 0) (sym alike.places) ∙ same);
-}
-
 -- one call after another
 pub confines-then : (headers last : ℕ → Bool) (index after : Index) (bitmap later : Bitmap) (others more : List ℕ) {a b c : Disk}
     → ((l : ℕ) → IsNoPart headers index bitmap l → is_in others l ≡ false → IsNoPart last after later l) → ((l : ℕ) → is_in others l ≡ false → is_in more l ≡ false)
@@ -96,7 +78,3 @@ confines-then headers last index after bitmap later others more {a = a} {b = b} 
 
 pub alike-same : (index : Index) (bitmap : Bitmap) → AreAlike index index bitmap bitmap
 alike-same index bitmap = record { headers = refl; bitmap_lbn = refl; bitmap_blocks = refl; places = refl }
-
--- blocks of the bitmap
-pub spares-bitmap : (headers : ℕ → Bool) (index : Index) (bitmap : Bitmap) (others : List ℕ) (old image : Image) → KeepsOthers bitmap old image → Spares headers index bitmap others old image
-spares-bitmap headers index bitmap others old image keeps l none out = keeps.others l none.storage

@@ -27,7 +27,8 @@ use Rattle.f11_files.specs.Finding.First.{FindsFile}
 use Rattle.f11_files.specs.Structure.{index_in, bitmap_in, ConfinesTo, WritesParts, StandsAlike, StandsWithin}
 use Rattle.f11_files.specs.declared.structure.Structure.{Structure}
 use Rattle.f11_files.proofs.Removing.Loss.{in-append, in-run}
-use Rattle.f11_files.proofs.Confining.Confines.{alike-part, alike-same, confines-failed, confines-looked, confines-none, confines-then, confines-went, confines-wider, confines-write, fewer-part, header-apart, spares-bitmap, spares-other}
+use Rattle.f11_image_store.proofs.ConfinesLemmas.{alike-part, header-apart, spares-bitmap, spares-other}
+use Rattle.f11_files.proofs.Confining.Confines.{alike-same, confines-failed, confines-looked, confines-none, confines-then, confines-went, confines-wider, confines-write, fewer-part}
 
 pub stands-same : (s : Structure) → StandsAlike s s
 stands-same s = alike-same (index_in s) (bitmap_in s)

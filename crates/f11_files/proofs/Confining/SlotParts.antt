@@ -48,8 +48,8 @@ module _ (s : Structure) (n lbn : ℕ) (block : List ℕ) (old read : Disk) (lea
       parts-behind s new (looked_read old read reads) (parts-then s s new (stands-same s) header (bit-went s new true n (least-some least) least.high went))
 
 -- a header in use was written, and then its bit, or that failed
-pub slot-buried : (s : Structure) (n lbn : ℕ) (block : List ℕ) (old now : Disk) {end : Disk} {most faults : ℕ} → is_in_use (index_in s) n ≡ true → lbn ≡ header_lbn (index_in s) n → now ≡ with_transfer true (with_block_at lbn block old)
+pub slot-freed : (s : Structure) (n lbn : ℕ) (block : List ℕ) (old now : Disk) {end : Disk} {most faults : ℕ} → is_in_use (index_in s) n ≡ true → lbn ≡ header_lbn (index_in s) n → now ≡ with_transfer true (with_block_at lbn block old)
     → Went (HasBitWritten false n (index_in s) now.image) now end most faults → WritesParts s (only_header n) old end
-slot-buried s n lbn block old now used at wrote went =
+slot-freed s n lbn block old now used at wrote went =
     parts-then s s (only_header n) (stands-same s) (only-wrote s n lbn block old now used at wrote)
     (bit-went s (only_header n) false n (in_use-some (index_in s) n used) (in_use-slot (index_in s) n used) went)

@@ -14,7 +14,7 @@ use Rattle.f11_dev.proofs.WentLemmas.{went_write, went_failed_write, went_more, 
 use Rattle.f11_header.specs.Fields.{file_sequence}
 use Rattle.f11_home.specs.Home.{HomeFields}
 use Rattle.f11_index.specs.Calls.{SetsBit, HasBitWritten, WritesBit, FailsToWriteBit, bitmap_place, bitmap_block, with_bitmap_block}
-use Rattle.f11_index.specs.IndexFile.{Index, index_of, header_lbn, free_slots as free_in_index}
+use Rattle.f11_index.specs.IndexFile.{Index, index_of, header_lbn, free_slots_in as free_in_index}
 use Rattle.f11_index.specs.Slots.{IsLeastFree}
 use Rattle.f11_store.specs.Causes.{first_of}
 use Rattle.f11_store.specs.Changes.{next_sequence}
@@ -35,7 +35,7 @@ use Rattle.f11_image_store.specs.NewFileLaws.{IsNewFirst, WritesNewFirst, Enters
 use Rattle.f11_files.specs.Operations.{create_causes}
 use Rattle.f11_image_store.specs.SlotLaws.{with_last}
 use Rattle.f11_image_store.specs.StoreOf.{store_of}
-use Rattle.f11_files.specs.Structure.{index_in, bitmap_in, home_of, store_on, Lies, Keeps, IsFor, StaysFor}
+use Rattle.f11_files.specs.Structure.{index_in, bitmap_in, home_of, store_on, Lies, IsStructureOf, IsStructureFor, StaysFor}
 use Rattle.f11_files.specs.declared.structure.Structure.{Structure}
 use Rattle.f11_files.proofs.Changing.Alter.{free-slot, keeps-header}
 use Rattle.f11_files.proofs.AnswerLemmas.{right-fault, reads-looked}
@@ -75,12 +75,12 @@ lies-bit s t value n blocks bitmap bit lies =
     }
 
 -- no slot is free
-pub none-free : (s : Structure) (disk : Disk) → IsFor s disk → IsTrue disk.honest → free_in_index (index_in s) ≡ [] → first_of (create_causes (store_on s disk)) ≡ Some NoHeader
+pub none-free : (s : Structure) (disk : Disk) → IsStructureFor s disk → IsTrue disk.honest → free_in_index (index_in s) ≡ [] → first_of (create_causes (store_on s disk)) ≡ Some NoHeader
 none-free s disk for honest none =
     let count : free_headers (store_on s disk) ≡ 0 = ap (λ (l : List ℕ). length l) (free-stored disk.image (home_of s) ∙ ap free_in_index (sym (for.keeps honest).index_is) ∙ none) in
     ap (λ (b : Bool). cond b (Some NoHeader) None) (eq-eqb (free_headers (store_on s disk)) 0 count)
 
-module _ (s : Structure) (owner : Uic) (protection : ℕ) (ident attr : List ℕ) (n : ℕ) (old mid : Disk) (lbn : ℕ) (was : List ℕ) (sequence : ℕ) (for : IsFor s old) (least : IsLeastFree (index_in s) n)
+module _ (s : Structure) (owner : Uic) (protection : ℕ) (ident attr : List ℕ) (n : ℕ) (old mid : Disk) (lbn : ℕ) (was : List ℕ) (sequence : ℕ) (for : IsStructureFor s old) (least : IsLeastFree (index_in s) n)
     (at : lbn ≡ header_lbn (index_in s) n) (counts : mid ≡ with_transfer true old) (gives : IsTrue old.honest → slice_get old.image lbn ≡ Some was)
     (next : sequence ≡ next_sequence (file_sequence was)) where
   abbrev st : Store
@@ -202,11 +202,11 @@ module _ (s : Structure) (owner : Uic) (protection : ℕ) (ident attr : List ℕ
               keeps = λ _ honest. keeps (sym writes.went.honest ∙ honest);
             }
           where
-            keeps : IsTrue old.honest → Keeps t new.image
+            keeps : IsTrue old.honest → IsStructureOf t new.image
             keeps honest =
                 let made = entered (index_in t) honest wrote_bit.bit in
                 let here : new.image ≡ with_bitmap_block first (index_in t) n = image-two (index_in t) new wrote_bit in
-                subst (Keeps t) (sym here) record {
+                subst (IsStructureOf t) (sym here) record {
                   index_is = sym made.bit.index_file.index_is ∙ ap (index_of (with_bitmap_block first (index_in t) n)) (sym same);
                   bitmap_is = bitmap ∙ (for.keeps honest).bitmap_is ∙ sym (wrote honest).header.slot.bitmap ∙ sym made.bit.slot.bitmap ∙ ap (storage_bitmap (with_bitmap_block first (index_in t) n)) (sym same);
                   free = free ∙ free-slot s n first (with_bitmap_block first (index_in t) n) made.bit.slot (keeps-header s n block old.image first (wrote honest).header (for.keeps honest)) ∙ ap (free_blocks (with_bitmap_block first (index_in t) n)) (sym bitmap);

@@ -11,7 +11,7 @@ use Rattle.f11_index.specs.Table.{Table, table_in, table_of, last_sequence}
 use Rattle.f11_chain.proofs.StepLemmas.{table-header}
 use Rattle.f11_store.specs.Changes.{next_sequence}
 use Rattle.f11_image_store.specs.StoreOf.{store_of}
-use Rattle.f11_files.specs.Structure.{index_in, home_of, store_on, IsFor}
+use Rattle.f11_files.specs.Structure.{index_in, home_of, store_on, IsStructureFor}
 use Rattle.f11_files.specs.declared.structure.Structure.{Structure}
 use Rattle.f11_files.proofs.Finding.First.{table-of}
 use Rattle.f11_image_store.proofs.InstanceLemmas.{last-at}
@@ -26,7 +26,7 @@ pub record IsReadAt (s : Structure) (n place sequence : ℕ) (old mid : Disk) : 
   pub given : sequence ≡ next_sequence ((store_on s old).last n)
   pub written : (block : List ℕ) → set mid.image place block ≡ with_header old.image (home_of s) n block
 
-pub read-at : (s : Structure) (n place : ℕ) (was : List ℕ) (sequence : ℕ) (old mid : Disk) → IsFor s old → IsLeastFree (index_in s) n → place ≡ header_lbn (index_in s) n
+pub read-at : (s : Structure) (n place : ℕ) (was : List ℕ) (sequence : ℕ) (old mid : Disk) → IsStructureFor s old → IsLeastFree (index_in s) n → place ≡ header_lbn (index_in s) n
     → mid ≡ with_transfer true old → (IsTrue old.honest → slice_get old.image place ≡ Some was) → sequence ≡ next_sequence (file_sequence was) → IsTrue old.honest → IsReadAt s n place sequence old mid
 unfolding store_of table_in
 read-at s n place was sequence old mid for is_least at counts gives next honest =

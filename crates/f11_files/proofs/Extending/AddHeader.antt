@@ -16,7 +16,7 @@ use Rattle.f11_store.specs.declared.callers.Uic.{Uic}
 use Rattle.f11_store.specs.declared.files.FileId.{FileId}
 use Rattle.f11_store.specs.declared.refusals.Refusal.TheVariants.{DeviceFault}
 use Rattle.f11_volume.specs.Contents.{block_or_zeros}
-use Rattle.f11_image_store.specs.Allocation.{LinksLoose, NamesMore}
+use Rattle.f11_image_store.specs.Allocation.{LinksFileless, NamesMore}
 use Rattle.f11_files.specs.Answers.{Breaks}
 use Rattle.f11_store.specs.Pieces.{with_more_free, MayExtend}
 use Rattle.f11_files.specs.Extending.Header.{AppendingRun, AppendsRun, EntersHeader}
@@ -24,7 +24,7 @@ use Rattle.f11_image_store.specs.FileLaws.{pointers_in, room_in, with_header_mor
 use Rattle.f11_files.specs.Extending.Growing.{Taking, Grew, SameFree}
 use Rattle.f11_files.specs.Extending.Link.{Linking, LinksTail}
 use Rattle.f11_image_store.specs.StoreOf.{store_of}
-use Rattle.f11_files.specs.Structure.{home_of, store_on, IsFor, StaysFor}
+use Rattle.f11_files.specs.Structure.{home_of, store_on, IsStructureFor, StaysFor}
 use Rattle.f11_files.specs.Extending.Tail.{HasStore, HoldsLast, MayBeGiven, whose, ownership_of}
 use Rattle.f11_files.specs.declared.structure.Structure.{Structure}
 use Rattle.f11_files.specs.declared.extend.tail.Tail.{Tail}
@@ -36,7 +36,7 @@ use Rattle.f11_files.proofs.Extending.NameRun.{held-zeros}
 use Rattle.f11_files.proofs.Extending.NewHeader.{no-room, taken-moment}
 use Rattle.f11_store.proofs.PieceLemmas.{linked-extends}
 
-module _ (s : Structure) (tail : Tail) (lbn count : ℕ) (old : Disk) (for : IsFor s old) (last : HoldsLast s tail old) (own : 4 ≤ tail.file.number) (given : MayBeGiven (home_of s) lbn count old)
+module _ (s : Structure) (tail : Tail) (lbn count : ℕ) (old : Disk) (for : IsStructureFor s old) (last : HoldsLast s tail old) (own : 4 ≤ tail.file.number) (given : MayBeGiven (home_of s) lbn count old)
     (full : room_in tail.block ≡ 0) (may : IsTrue old.honest → MayExtend (with_more_free (store_on s old) count) tail.file.number count) where
   abbrev home : HomeFields
   home = home_of s
@@ -57,7 +57,7 @@ module _ (s : Structure) (tail : Tail) (lbn count : ℕ) (old : Disk) (for : IsF
   moment = taken-moment (Extends free k count) s tail k lbn count old for last refl given full may
 
   module _ (after : Structure) (id : FileId) (block : List ℕ) (mid : Disk) (enters : EntersHeader s after tail lbn count id block old mid) (stays : StaysFor false s after mid) where
-    for-mid : IsFor after mid
+    for-mid : IsStructureFor after mid
     for-mid = stays-for stays
 
     still-honest : IsTrue old.honest → IsTrue mid.honest
@@ -145,8 +145,8 @@ module _ (s : Structure) (tail : Tail) (lbn count : ℕ) (old : Disk) (for : IsF
       -- the file has the run
       names-run : IsTrue old.honest → NamesMore k (ownership_of tail) (range_with_len lbn count) (table_of old.image home) (table_of new.image home)
       names-run honest =
-          let there : LinksLoose k id.number (table_of mid.image home) (table_of new.image home) =
-          subst (λ (h : HomeFields). LinksLoose k id.number (table_of mid.image h) (table_of new.image h)) stays.home (links.links (still-honest honest)) in
+          let there : LinksFileless k id.number (table_of mid.image home) (table_of new.image home) =
+          subst (λ (h : HomeFields). LinksFileless k id.number (table_of mid.image h) (table_of new.image h)) stays.home (links.links (still-honest honest)) in
           let live : IsLive (table_of mid.image home) id.number = (enters.follows honest).live in
           subst (λ (l : List ℕ). NamesMore k (ownership_of tail) l (table_of old.image home) (table_of new.image home))
           (ap blocks_named (here honest) ∙ enters.extension.names)

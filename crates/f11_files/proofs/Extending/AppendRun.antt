@@ -16,15 +16,15 @@ use Rattle.f11_store.specs.declared.refusals.Refusal.{Refusal}
 use Rattle.f11_store.specs.declared.refusals.Refusal.TheVariants.{DeviceFault}
 use Rattle.f11_volume.specs.Sound.{HasSoundVolume}
 use Rattle.f11_volume.specs.Volume.{volume_of}
-use Rattle.f11_writes.specs.NameLaws.{AreSpare}
+use Rattle.f11_writes.specs.NameLaws.{AreUnreferenced}
 use Rattle.f11_image_store.specs.Allocation.{NamesMore}
-use Rattle.f11_files.specs.Answers.{Writes, Breaks}
+use Rattle.f11_files.specs.Answers.{WritesAtMost, Breaks}
 use Rattle.f11_store.specs.Pieces.{with_more_free, file_numbered, MayExtend, TakesSome, with_zeros_more}
 use Rattle.f11_files.specs.Extending.Header.{AppendingRun, AppendsRun}
 use Rattle.f11_image_store.specs.FileLaws.{room_in}
 use Rattle.f11_files.specs.Extending.Growing.{Grew, GrowingInto, SameFree}
 use Rattle.f11_image_store.specs.StoreOf.{store_of}
-use Rattle.f11_files.specs.Structure.{bitmap_in, home_of, store_on, IsFor, StaysFor}
+use Rattle.f11_files.specs.Structure.{bitmap_in, home_of, store_on, IsStructureFor, StaysFor}
 use Rattle.f11_files.specs.Extending.Tail.{HoldsLast, Naming, NamesRun, FailsToName, HasNoPlace, pointers_more, whose, ownership_of}
 use Rattle.f11_files.specs.Extending.Zeros.{Keeping, Zeroes, FailsToZero}
 use Rattle.f11_files.specs.declared.structure.Structure.{Structure}
@@ -43,8 +43,8 @@ pub at-most-one : (b : Bool) → cond b 0 1 ≤ 1
 at-most-one true = omega arith
 at-most-one false = omega arith
 
-module _ (s : Structure) (tail : Tail) (lbn count : ℕ) (old : Disk) (for : IsFor s old) (last : HoldsLast s tail old) (own : 4 ≤ tail.file.number) (within : lbn + count ≤ (bitmap_in s).size) (some : 0 < count)
-    (few : count ≤ 256) (spare : IsTrue old.honest → AreSpare (volume_of old.image (home_of s)) lbn count)
+module _ (s : Structure) (tail : Tail) (lbn count : ℕ) (old : Disk) (for : IsStructureFor s old) (last : HoldsLast s tail old) (own : 4 ≤ tail.file.number) (within : lbn + count ≤ (bitmap_in s).size) (some : 0 < count)
+    (few : count ≤ 256) (unreferenced : IsTrue old.honest → AreUnreferenced (volume_of old.image (home_of s)) lbn count)
     (may : IsTrue old.honest → MayExtend (with_more_free (store_on s old) count) tail.file.number count) where
   abbrev home : HomeFields
   home = home_of s
@@ -74,11 +74,11 @@ module _ (s : Structure) (tail : Tail) (lbn count : ℕ) (old : Disk) (for : IsF
 
   -- the blocks are zeros
   module _ (mid : Disk) (zeroed : Zeroes home lbn count old mid) where
-    zeros-written : Writes P count old mid 0
+    zeros-written : WritesAtMost P count old mid 0
     zeros-written = went-writes (went_weaker (Keeping home old) P zero-moment zeroed.went)
 
     zeros-free : IsTrue old.honest → SameFree home old.image mid.image
-    zeros-free = free-mid s tail lbn count old mid for last within some few spare zeroed
+    zeros-free = free-mid s tail lbn count old mid for last within some few unreferenced zeroed
 
     zeros-table : IsTrue old.honest → table_of mid.image home ≡ table_of old.image home
     zeros-table honest = (zeroed.keeps honest).volume.index_file.table

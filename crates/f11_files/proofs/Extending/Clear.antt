@@ -35,7 +35,7 @@ use Rattle.f11_files.specs.Extending.Mark.{Clearing, ClearsMark}
 use Rattle.f11_image_store.specs.FieldLaws.{SaysBut, ChangesFile}
 use Rattle.f11_files.specs.Finding.First.{HoldsFile, IsFirstOf}
 use Rattle.f11_image_store.specs.StoreOf.{as_seen}
-use Rattle.f11_files.specs.Structure.{index_in, home_of, store_on, Lies, Keeps, IsFor}
+use Rattle.f11_files.specs.Structure.{index_in, home_of, store_on, Lies, IsStructureOf, IsStructureFor}
 use Rattle.f11_files.specs.Extending.Tail.{HasStore}
 use Rattle.f11_files.specs.declared.structure.Structure.{Structure}
 use Rattle.f11_image_store.proofs.AllocationLemmas.{gains-nothing}
@@ -88,7 +88,7 @@ changes-own image home f block change is (inl one) file says =
 changes-own image home f block change is (inr late) file says = changes-file image home f block change is late file says
 
 -- a file's first header in hand
-module _ (s : Structure) (f : FileId) (was : List ℕ) (old : Disk) (for : IsFor s old) (holds : HoldsFile (index_in s) f was old) where
+module _ (s : Structure) (f : FileId) (was : List ℕ) (old : Disk) (for : IsStructureFor s old) (holds : HoldsFile (index_in s) f was old) where
   abbrev home : HomeFields
   home = home_of s
 
@@ -167,11 +167,11 @@ module _ (s : Structure) (f : FileId) (was : List ℕ) (old : Disk) (for : IsFor
       was-honest : IsTrue new.honest → IsTrue old.honest
       was-honest honest = sym went.honest ∙ honest
 
-      for-new : IsFor s new
+      for-new : IsStructureFor s new
       for-new = record {
         lies = subst (λ (k : ℕ). Lies s k) (sym went.size) for.lies;
         sound = λ honest. let before = was-honest honest in subst (λ (i : Image). HasSoundVolume i home) (sym (image before)) (store-next before).sound;
-        keeps = λ honest. let before = was-honest honest in subst (Keeps s) (sym (image before)) (keeps-header s f.number block old.image next (changes before).header (for.keeps before));
+        keeps = λ honest. let before = was-honest honest in subst (IsStructureOf s) (sym (image before)) (keeps-header s f.number block old.image next (changes before).header (for.keeps before));
       }
 
       first-now : IsFirstOf f block

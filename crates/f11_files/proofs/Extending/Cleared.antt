@@ -20,13 +20,13 @@ use Rattle.f11_store.specs.declared.files.FileId.{FileId}
 use Rattle.f11_store.specs.declared.refusals.Refusal.TheVariants.{Damaged}
 use Rattle.f11_store.specs.declared.refusals.Refusal.{Refusal}
 use Rattle.f11_volume.specs.Space.{storage_bitmap}
-use Rattle.f11_files.specs.Answers.{IsRight, Reads, is_cause, is_grave}
+use Rattle.f11_files.specs.Answers.{IsRight, ReadsAtMost, is_cause, is_fatal}
 use Rattle.f11_files.specs.Extending.Mark.{ClearsMark}
 use Rattle.f11_files.specs.Extending.Runs.{IsTailOf}
 use Rattle.f11_files.specs.Finding.First.{HoldsFile}
 use Rattle.f11_files.specs.Extending.Room.{FindsRoom}
 use Rattle.f11_image_store.specs.StoreOf.{store_of}
-use Rattle.f11_files.specs.Structure.{index_in, bitmap_in, home_of, store_on, IsFor}
+use Rattle.f11_files.specs.Structure.{index_in, bitmap_in, home_of, store_on, IsStructureFor}
 use Rattle.f11_files.specs.Extending.Tail.{HoldsLast, ownership_of}
 use Rattle.f11_files.specs.declared.structure.Structure.{Structure}
 use Rattle.f11_files.specs.declared.extend.tail.Tail.{Tail}
@@ -51,10 +51,10 @@ enough b x = omega arith
 pub fewer-needed : (room n : ℕ) → need room n ≤ (n + 101) / 102
 fewer-needed room n = omega arith
 
--- a grave refusal is right whatever the causes
-pub grave-right : (causes : List Cause) (r : Refusal) (honest : Bool) → is_grave r ≡ true → (IsTrue honest → r ≢ Damaged) → IsRight false honest causes r
-grave-right causes r honest grave undamaged = record {
-  volume = λ is. let no : true ≡ false = sym grave ∙ ap is_grave is in cc;
+-- a fatal refusal is right whatever the causes
+pub fatal-right : (causes : List Cause) (r : Refusal) (honest : Bool) → is_fatal r ≡ true → (IsTrue honest → r ≢ Damaged) → IsRight false honest causes r
+fatal-right causes r honest fatal undamaged = record {
+  volume = λ is. let no : true ≡ false = sym fatal ∙ ap is_fatal is in cc;
   among = λ is. absurd (no-cause is);
   cause = λ _ is. absurd (no-cause is);
   undamaged = undamaged;
@@ -64,14 +64,14 @@ grave-right causes r honest grave undamaged = record {
     no-cause is = grind (arith, nat_tests)
 
 -- the storage bitmap has so many blocks
-pub covered : (s : Structure) (old : Disk) → IsFor s old → IsTrue old.honest → (bitmap_in s).size ≤ 4096 * (store_on s old).bitmap_blocks
+pub covered : (s : Structure) (old : Disk) → IsStructureFor s old → IsTrue old.honest → (bitmap_in s).size ≤ 4096 * (store_on s old).bitmap_blocks
 covered s old for honest =
     let many = s.storage.valid.covered in
     let count = ap (λ (b : Bitmap). length b.places) (for.keeps honest).bitmap_is in
     let blocks = store-bitmap old.image (home_of s) in
     omega (arith, many, count, blocks)
 
-module _ (s : Structure) (f : FileId) (n : ℕ) (end : FileEnd) (was last : List ℕ) (old read : Disk) (for : IsFor s old) (finds : FindsRoom s f n end was last old read) where
+module _ (s : Structure) (f : FileId) (n : ℕ) (end : FileEnd) (was last : List ℕ) (old read : Disk) (for : IsStructureFor s old) (finds : FindsRoom s f n end was last old read) where
   abbrev home : HomeFields
   home = home_of s
 
@@ -90,7 +90,7 @@ module _ (s : Structure) (f : FileId) (n : ℕ) (end : FileEnd) (was last : List
   pub honest-read : read.honest ≡ old.honest
   honest-read = finds.ends.looked.looked.honest
 
-  for-read : IsFor s read
+  for-read : IsStructureFor s read
   for-read = looked-for s old read _ _ for finds.ends.looked.looked
 
   holds-read : HoldsFile (index_in s) f was read
@@ -103,7 +103,7 @@ module _ (s : Structure) (f : FileId) (n : ℕ) (end : FileEnd) (was last : List
     is_first = finds.holds.is_first;
   }
 
-  pub reads-found : Reads (header_count named) old read 0
+  pub reads-found : ReadsAtMost (header_count named) old read 0
   reads-found = reads-along s f was old read 0 for finds.holds finds.ends.looked
 
   module _ (block : List ℕ) (cleared : Disk) (clears : ClearsMark s f was block read cleared) where

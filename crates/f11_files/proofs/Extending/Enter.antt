@@ -16,7 +16,7 @@ use Rattle.f11_chain.specs.Calls.{HoldsHeader}
 use Rattle.f11_chain.proofs.StepLemmas.{table-in_use}
 use Rattle.f11_index.specs.Calls.{SetsBit, HasBitWritten, WritesBit, FailsToWriteBit, bitmap_place, bitmap_block, with_bitmap_block}
 use Rattle.f11_map.specs.HeaderBlock.{segment_number, link_of}
-use Rattle.f11_index.specs.IndexFile.{Index, index_of, index_file, is_in_use, header_lbn, slots, free_slots as free_in_index}
+use Rattle.f11_index.specs.IndexFile.{Index, index_of, index_file_blocks, is_in_use, header_lbn, slots, free_slots_in as free_in_index}
 use Rattle.f11_index.specs.Kept.{index_kept, room}
 use Rattle.f11_index.specs.Slots.{IsLeastFree}
 use Rattle.f11_index.specs.Table.{Table, table_of}
@@ -32,11 +32,11 @@ use Rattle.f11_volume.specs.Sound.{HasSoundVolume}
 use Rattle.f11_volume.specs.Volume.{Volume, volume_of, IsNamed}
 use Rattle.f11_volume.proofs.FileLemmas.{index-apart}
 use Rattle.f11_writes.specs.Kept.{WritesHeader}
-use Rattle.f11_writes.specs.NameLaws.{AreSpare}
+use Rattle.f11_writes.specs.NameLaws.{AreUnreferenced}
 use Rattle.f11_writes.proofs.HeaderLemmas.{unused-keeps}
-use Rattle.f11_writes.proofs.NameLemmas.{unentered-spare}
+use Rattle.f11_writes.proofs.NameLemmas.{unentered-unreferenced}
 use Rattle.f11_writes.proofs.OwnerLemmas.{in-index-file, named-of}
-use Rattle.f11_files.specs.Answers.{Breaks, Writes}
+use Rattle.f11_files.specs.Answers.{Breaks, WritesAtMost}
 use Rattle.f11_files.specs.Extending.Header.{IsExtension, EntersHeader}
 use Rattle.f11_image_store.specs.ExtensionLaws.{IsNewExtension, EntersExtension}
 use Rattle.f11_files.specs.Extending.Growing.{IsTaking, Taking}
@@ -44,12 +44,12 @@ use Rattle.f11_files.specs.Extending.Link.{MayFollow}
 use Rattle.f11_store.specs.Pieces.{TakesSome}
 use Rattle.f11_image_store.specs.SlotLaws.{with_last, with_use}
 use Rattle.f11_image_store.specs.StoreOf.{store_of}
-use Rattle.f11_files.specs.Structure.{index_in, home_of, store_on, Lies, Keeps, IsFor, StaysFor}
+use Rattle.f11_files.specs.Structure.{index_in, home_of, store_on, Lies, IsStructureOf, IsStructureFor, StaysFor}
 use Rattle.f11_files.specs.Extending.Tail.{HoldsLast, MayBeGiven, ownership_of}
 use Rattle.f11_files.specs.Extending.Zeros.{HoldsZeros}
 use Rattle.f11_files.specs.declared.structure.Structure.{Structure}
 use Rattle.f11_files.specs.declared.extend.tail.Tail.{Tail}
-use Rattle.f11_image_store.proofs.AllocationLemmas.{adds-loose}
+use Rattle.f11_image_store.proofs.AllocationLemmas.{adds-fileless}
 use Rattle.f11_files.proofs.GrowingIndex.ZeroSlots.{zero-entered}
 use Rattle.f11_files.proofs.Changing.Alter.{free-slot, keeps-header}
 use Rattle.f11_files.proofs.AnswerLemmas.{reads-looked}
@@ -104,17 +104,17 @@ takes-slot s n unused = record {
     before true b is = absurd cc
 
 -- blocks that no header names are none of the index file's, and stay where one of those is written
-zeros-kept : (image : Image) (home : HomeFields) (place at lbn count : ℕ) (block : List ℕ) → HasSoundVolume image home → slice_get (index_file image home) place ≡ Some at
-    → AreSpare (volume_of image home) lbn count → HoldsZeros image lbn count → HoldsZeros (set image at block) lbn count
+zeros-kept : (image : Image) (home : HomeFields) (place at lbn count : ℕ) (block : List ℕ) → HasSoundVolume image home → slice_get (index_file_blocks image home) place ≡ Some at
+    → AreUnreferenced (volume_of image home) lbn count → HoldsZeros image lbn count → HoldsZeros (set image at block) lbn count
 unfolding volume_of
-zeros-kept image home place at lbn count block is there spare zeros =
+zeros-kept image home place at lbn count block is there unreferenced zeros =
     let named : IsNamed (table_of image home) at = named-of (table_of image home) 1 at (in-index-file image home is place at there) in
     record {
       each = λ k low high.
-          get_or-set_other image at k block zero_block (λ same. spare.unnamed k low high (subst (IsNamed (table_of image home)) (sym same) named)) ∙ zeros.each k low high;
+          get_or-set_other image at k block zero_block (λ same. unreferenced.unnamed k low high (subst (IsNamed (table_of image home)) (sym same) named)) ∙ zeros.each k low high;
     }
 
-module _ (s : Structure) (tail : Tail) (lbn count : ℕ) (old : Disk) (for : IsFor s old) (last : HoldsLast s tail old) (given : MayBeGiven (home_of s) lbn count old) where
+module _ (s : Structure) (tail : Tail) (lbn count : ℕ) (old : Disk) (for : IsStructureFor s old) (last : HoldsLast s tail old) (given : MayBeGiven (home_of s) lbn count old) where
   abbrev st : Store
   st = store_on s old
 
@@ -127,7 +127,7 @@ module _ (s : Structure) (tail : Tail) (lbn count : ℕ) (old : Disk) (for : IsF
   -- no slot is free, though one should be
   pub none-free : (IsTrue old.honest → 0 < free_headers st) → free_in_index (index_in s) ≡ [] → Breaks P 3 Damaged old old
   none-free free none = record {
-    grave = refl;
+    fatal = refl;
     undamaged = λ honest _.
         let count : free_headers st ≡ 0 = ap (λ (l : List ℕ). length l) (free-stored old.image home ∙ ap free_in_index (sym (for.keeps honest).index_is) ∙ none) in
         let some = free honest in
@@ -161,6 +161,7 @@ module _ (s : Structure) (tail : Tail) (lbn count : ℕ) (old : Disk) (for : IsF
         ownership_is = λ i. (new.owner_is i, new.protection_is i);
         no_characteristics = new.no_characteristics;
         no_attributes = new.no_attributes;
+        no_ident = new.no_ident;
       }
 
       is-new : IsTrue old.honest → IsNewExtension (index_of old.image home) n lbn count block
@@ -178,7 +179,7 @@ module _ (s : Structure) (tail : Tail) (lbn count : ℕ) (old : Disk) (for : IsF
       entered : (after : Index) → IsTrue old.honest → SetsBit true n (index_in s) after → EntersExtension n block after home old.image first (second after)
       entered after honest bit =
           subst (λ (i : Image). EntersExtension n block after home old.image i (with_bitmap_block i after n)) (sym ((slot honest).written block))
-          (enters-extension old.image home n lbn count block after (for.sound honest) (is-new honest) (given.spare honest)
+          (enters-extension old.image home n lbn count block after (for.sound honest) (is-new honest) (given.unreferenced honest)
           (subst (λ (x : Index). SetsBit true n x after) (for.keeps honest).index_is bit))
 
       one : IsTrue old.honest → WritesHeader n block home old.image first
@@ -212,7 +213,7 @@ module _ (s : Structure) (tail : Tail) (lbn count : ℕ) (old : Disk) (for : IsF
           let sound = for.sound honest in
           let there = header_at old.image home sound.framed.indexed.file n some (slot honest).least.high in
           subst (λ (i : Image). HoldsZeros i lbn count) (sym ((slot honest).written block))
-          (zeros-kept old.image home _ (header_lbn (index_of old.image home) n) lbn count block sound there (given.spare honest) (given.zeros honest))
+          (zeros-kept old.image home _ (header_lbn (index_of old.image home) n) lbn count block sound there (given.unreferenced honest) (given.zeros honest))
 
       zeros-second : (after : Index) → IsTrue old.honest → SetsBit true n (index_in s) after → HoldsZeros (second after) lbn count
       zeros-second after honest bit =
@@ -222,8 +223,8 @@ module _ (s : Structure) (tail : Tail) (lbn count : ℕ) (old : Disk) (for : IsF
           let sets = subst (λ (x : Index). SetsBit true n x after) ((for.keeps honest).index_is ∙ sym same) bit in
           let there = block-at first home sound.framed.indexed.file true n after (index-apart first home sound) some few sets in
           let unused = ap (λ (f : ℕ → Bool). f n) (one honest).in_use ∙ (slot honest).unused in
-          let spare = unentered-spare old.image first home n lbn count (one honest).slot (given.spare honest) unused in
-          zeros-kept first home _ (after.bitmap_lbn + bitmap_place n) lbn count (bitmap_block after n) sound there spare (zeros-first honest)
+          let unreferenced = unentered-unreferenced old.image first home n lbn count (one honest).slot (given.unreferenced honest) unused in
+          zeros-kept first home _ (after.bitmap_lbn + bitmap_place n) lbn count (bitmap_block after n) sound there unreferenced (zeros-first honest)
 
       module _ (wrote : Disk) where
         -- the header couldn't be written
@@ -234,7 +235,7 @@ module _ (s : Structure) (tail : Tail) (lbn count : ℕ) (old : Disk) (for : IsF
           image-one : wrote.image ≡ first
           image-one = ap (λ (d : Disk). d.image) landed
 
-          behind : (done : Disk) (faults : ℕ) → Went (HasBitWritten true n (index_in s) wrote.image) wrote done 1 faults → Writes P 3 old done faults
+          behind : (done : Disk) (faults : ℕ) → Went (HasBitWritten true n (index_in s) wrote.image) wrote done 1 faults → WritesAtMost P 3 old done faults
           behind done faults went =
               writes-behind (reads-looked (looked_read old mid counts)) (went_more P (went_write P mid wrote place block landed first-moment)
               (went_weaker _ P (λ image has. second-moment image (subst (λ (i : Image). HasBitWritten true n (index_in s) i image) image-one has)) went))
@@ -250,7 +251,7 @@ module _ (s : Structure) (tail : Tail) (lbn count : ℕ) (old : Disk) (for : IsF
             image-two : done.image ≡ second (index_kept after)
             image-two = bit.image ∙ ap (λ (i : Image). with_bitmap_block i (index_kept after) n) image-one
 
-            writes : Writes P 3 old done 0
+            writes : WritesAtMost P 3 old done 0
             writes = behind done 0 bit.went
 
             made : IsTrue old.honest → EntersExtension n block (index_kept after) home old.image first done.image
@@ -259,7 +260,7 @@ module _ (s : Structure) (tail : Tail) (lbn count : ℕ) (old : Disk) (for : IsF
             was-honest : IsTrue done.honest → IsTrue old.honest
             was-honest honest = sym writes.went.honest ∙ honest
 
-            keeps : IsTrue old.honest → Keeps t done.image
+            keeps : IsTrue old.honest → IsStructureOf t done.image
             keeps honest =
                 let here = made honest in
                 let kept = keeps-header s n block old.image first (one honest) (for.keeps honest) in
@@ -277,7 +278,7 @@ module _ (s : Structure) (tail : Tail) (lbn count : ℕ) (old : Disk) (for : IsF
               keeps = λ _ honest. keeps (was-honest honest);
             }
 
-            for-now : IsFor t done
+            for-now : IsStructureFor t done
             for-now = stays-for entered-stays
 
             -- the new one is none that the file has
@@ -341,7 +342,7 @@ module _ (s : Structure) (tail : Tail) (lbn count : ℕ) (old : Disk) (for : IsF
               bitmap = refl;
               free = λ honest. ap (λ (v : Volume). v.free) (made honest).bit.slot.volume ∙ ap (λ (v : Volume). v.free) (made honest).header.slot.volume;
               adds = λ honest.
-                  adds-loose tail.file.number tail.number n (ownership_of tail) block (index_kept after) home old.image first done.image (last.is_last honest)
+                  adds-fileless tail.file.number tail.number n (ownership_of tail) block (index_kept after) home old.image first done.image (last.is_last honest)
                   (slot honest).unused says-only (made honest);
               slots = λ honest. zero-entered n block (index_kept after) home old.image first done.image (made honest);
               slot = λ honest. sym (least-stored old.image home n (slot honest).least);

@@ -18,19 +18,19 @@ use Rattle.f11_store.specs.declared.refusals.Refusal.{Refusal}
 use Rattle.f11_store.proofs.LagLaws.{lags_itself}
 use Rattle.f11_volume.specs.Volume.{volume_of}
 use Rattle.f11_image_store.specs.Allocation.{GainsBlocks, ownership_in, GainsBlocksAs}
-use Rattle.f11_files.specs.Answers.{Breaks, Meanwhile, Writes}
+use Rattle.f11_files.specs.Answers.{Breaks, Meanwhile, WritesAtMost}
 use Rattle.f11_files.specs.Extending.Mark.{Clearing, ClearsMark}
 use Rattle.f11_files.specs.Extending.Runs.{ExtendsBy, ExtendsFile, FailsToExtend, IsLengthAfter, IsTailOf}
 use Rattle.f11_files.specs.Operations.{extend_causes}
 use Rattle.f11_store.specs.Pieces.{MayExtend, file_numbered}
 use Rattle.f11_files.specs.Extending.Room.{FindsRoom}
 use Rattle.f11_image_store.specs.StoreOf.{store_of}
-use Rattle.f11_files.specs.Structure.{home_of, store_on, IsFor, StaysFor}
+use Rattle.f11_files.specs.Structure.{home_of, store_on, IsStructureFor, StaysFor}
 use Rattle.f11_files.specs.declared.structure.Structure.{Structure}
 use Rattle.f11_image_store.proofs.AllocationLemmas.{gains-add}
 use Rattle.f11_files.proofs.AnswerLemmas.{right-fault}
 use Rattle.f11_files.proofs.Extending.Clear.{stored}
-use Rattle.f11_files.proofs.Extending.Cleared.{enough, fewer-needed, grave-right, covered, image-read, honest-read, reads-found, honest-cleared, tail-ownership}
+use Rattle.f11_files.proofs.Extending.Cleared.{enough, fewer-needed, fatal-right, covered, image-read, honest-read, reads-found, honest-cleared, tail-ownership}
 use Rattle.f11_files.proofs.Finding.Locate.{counts-last}
 use Rattle.f11_files.proofs.Finding.Named.{found-named, held-named, is-file}
 use Rattle.f11_store.proofs.PieceLagLemmas.{cleared-lags}
@@ -53,7 +53,7 @@ cleared-room s k = go (eqb k k) (s.file k)
 clear-lags : (s : Store) (k room n : ℕ) → LagsBy (extend_work k room n) (with_change s k with_no_mark) s
 clear-lags s k room n = cleared-lags s (with_change s k with_no_mark) k room n (lags_itself (extend_work k room n) (with_change s k with_no_mark))
 
-module _ (s : Structure) (f : FileId) (n : ℕ) (end : FileEnd) (was last : List ℕ) (old read : Disk) (for : IsFor s old) (own : 4 ≤ f.number) (finds : FindsRoom s f n end was last old read) where
+module _ (s : Structure) (f : FileId) (n : ℕ) (end : FileEnd) (was last : List ℕ) (old read : Disk) (for : IsStructureFor s old) (own : 4 ≤ f.number) (finds : FindsRoom s f n end was last old read) where
   abbrev home : HomeFields
   home = home_of s
 
@@ -122,7 +122,7 @@ module _ (s : Structure) (f : FileId) (n : ℕ) (end : FileEnd) (was last : List
     room-cleared : IsTrue old.honest → (file_numbered after k).room ≡ named.room
     room-cleared honest = ap (λ (x : Store). (file_numbered x k).room) (store-cleared honest) ∙ cleared-room st k ∙ ap (λ (g : File). g.room) (numbered honest)
 
-    writes-cleared : Writes (Meanwhile work home old) (header_count named + 1) old cleared 0
+    writes-cleared : WritesAtMost (Meanwhile work home old) (header_count named + 1) old cleared 0
     writes-cleared = writes-behind (reads-found s f n end was last old read for finds) (went_weaker (Clearing s f read) (Meanwhile work home old) clear-moment clears.went)
 
     pub may-extend : IsTrue cleared.honest → MayExtend after k n
@@ -144,7 +144,7 @@ module _ (s : Structure) (f : FileId) (n : ℕ) (end : FileEnd) (was last : List
         → Breaks (Meanwhile (extend_work k (file_numbered after k).room n) home cleared) (after.bitmap_blocks + 5 * n + 3 * need (file_numbered after k).room n + 3) r cleared new
         → FailsToExtend false home f n r old new
     fails-growing r new breaks =
-        breaks-off finds.no_cause breaks.grave (grave-right (extend_causes st f n) r old.honest breaks.grave (λ honest. breaks.undamaged (still-honest ∙ honest)))
+        breaks-off finds.no_cause breaks.fatal (fatal-right (extend_causes st f n) r old.honest breaks.fatal (λ honest. breaks.undamaged (still-honest ∙ honest)))
         (record {
           transfers = writes-cleared.transfers + breaks.writes.transfers;
           went = went_more (Meanwhile work home old) writes-cleared.went (went_weaker _ (Meanwhile work home old) grown-moment breaks.writes.went);

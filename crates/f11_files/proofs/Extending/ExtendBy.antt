@@ -17,12 +17,12 @@ use Rattle.f11_store.specs.declared.refusals.Refusal.{Refusal}
 use Rattle.f11_volume.specs.Sound.{HasSoundVolume}
 use Rattle.f11_volume.specs.Volume.{volume_of}
 use Rattle.f11_image_store.specs.Allocation.{GainsBlocksAs}
-use Rattle.f11_files.specs.Answers.{Meanwhile, Writes, Breaks}
+use Rattle.f11_files.specs.Answers.{Meanwhile, WritesAtMost, Breaks}
 use Rattle.f11_files.specs.Extending.Runs.{AddsRun, ExtendsBy}
 use Rattle.f11_files.specs.Extending.Growing.{GrowingBy, Grew, IsGrowing}
 use Rattle.f11_store.specs.Pieces.{file_numbered, MayExtend, TakesSome, ExtendsSome}
 use Rattle.f11_image_store.specs.StoreOf.{store_of}
-use Rattle.f11_files.specs.Structure.{bitmap_in, home_of, store_on, IsFor, StaysFor}
+use Rattle.f11_files.specs.Structure.{bitmap_in, home_of, store_on, IsStructureFor, StaysFor}
 use Rattle.f11_files.specs.Extending.Tail.{HoldsLast, whose, ownership_of}
 use Rattle.f11_files.specs.Extending.Take.{NoneBelow}
 use Rattle.f11_files.specs.declared.structure.Structure.{Structure}
@@ -52,7 +52,7 @@ pub record Extending (s t : Structure) (tail later : Tail) (n from left : ℕ) (
       IsTrue old.honest → GainsBlocksAs tail.file.number (ownership_of tail) done (volume_of old.image (home_of s)) (volume_of now.image (home_of s))
   pub grew : Grew (Meanwhile (tail_work s tail n old) (home_of s) old) (home_of s) (store_on s old) tail.file.number done (from / 4096 + 5 * done) old now
 
-module _ (s : Structure) (tail : Tail) (n : ℕ) (old : Disk) (for : IsFor s old) (last : HoldsLast s tail old) (may : IsTrue old.honest → MayExtend (store_on s old) tail.file.number n) where
+module _ (s : Structure) (tail : Tail) (n : ℕ) (old : Disk) (for : IsStructureFor s old) (last : HoldsLast s tail old) (may : IsTrue old.honest → MayExtend (store_on s old) tail.file.number n) where
   abbrev home : HomeFields
   home = home_of s
 
@@ -149,7 +149,7 @@ module _ (s : Structure) (tail : Tail) (n : ℕ) (old : Disk) (for : IsFor s old
         let sum = so_far.sum in
         omega (arith, headers, room, sum)
 
-    written : Writes P (from / 4096 + 5 * so_far.done + 3 * need (file_numbered st k).room n) old now 0
+    written : WritesAtMost P (from / 4096 + 5 * so_far.done + 3 * need (file_numbered st k).room n) old now 0
     written = record {
       transfers = so_far.grew.transfers;
       went = so_far.grew.went;

@@ -17,12 +17,12 @@ use Rattle.f11_store.specs.declared.refusals.Refusal.TheVariants.{DeviceFault}
 use Rattle.f11_store.proofs.Frees.{same_limits}
 use Rattle.f11_volume.specs.Sound.{HasSoundVolume}
 use Rattle.f11_writes.specs.Kept.{file_in}
-use Rattle.f11_files.specs.Answers.{Writes, Breaks}
+use Rattle.f11_files.specs.Answers.{WritesAtMost, Breaks}
 use Rattle.f11_store.specs.Pieces.{with_more_free, file_numbered, TakesSome}
 use Rattle.f11_image_store.specs.FileLaws.{room_in}
 use Rattle.f11_files.specs.Extending.Growing.{Taking, IsGrowing, Grew, GrowingInto}
 use Rattle.f11_image_store.specs.StoreOf.{as_seen, store_of}
-use Rattle.f11_files.specs.Structure.{home_of, store_on, IsFor, StaysFor}
+use Rattle.f11_files.specs.Structure.{home_of, store_on, IsStructureFor, StaysFor}
 use Rattle.f11_files.specs.Extending.Tail.{HoldsLast}
 use Rattle.f11_files.specs.declared.structure.Structure.{Structure}
 use Rattle.f11_files.specs.declared.extend.tail.Tail.{Tail}
@@ -58,7 +58,7 @@ takes-within a b g h s t few fewer takes = record {
 }
 
 -- the room of a file is that of its last header, in hand
-module _ (s : Structure) (tail : Tail) (disk : Disk) (for : IsFor s disk) (last : HoldsLast s tail disk) (honest : IsTrue disk.honest) where
+module _ (s : Structure) (tail : Tail) (disk : Disk) (for : IsStructureFor s disk) (last : HoldsLast s tail disk) (honest : IsTrue disk.honest) where
   abbrev k : ℕ
   k = tail.file.number
 
@@ -92,7 +92,7 @@ into-same home s t k n a b same store image is honest =
     subst (λ (x : Store). IsGrowing home 0 (need (file_numbered x k).room n) (Extends (with_more_free x n) k n) x image) (store honest) (is (same ∙ honest))
 
 -- a file that grew after more was done
-module _ {P Q : Image → Type 0} {home : HomeFields} {s t : Store} {k n m most : ℕ} {a b c : Disk} (weaker : (image : Image) → Q image → P image) (store : IsTrue a.honest → t ≡ s) (one : Writes P m a b 0)
+module _ {P Q : Image → Type 0} {home : HomeFields} {s t : Store} {k n m most : ℕ} {a b c : Disk} (weaker : (image : Image) → Q image → P image) (store : IsTrue a.honest → t ≡ s) (one : WritesAtMost P m a b 0)
     (grew : Grew Q home t k n most b c) where
   moved : IsTrue a.honest → (e : Extends s k n (store_of c.image home)) × (grew.transfers ≤ most + 3 * e.added)
   moved honest =
@@ -118,14 +118,14 @@ grew-within fewer grew = record {
 
 -- what was only taken so far: the volume is sound at the end
 pub sound-growing : {P : Image → Type 0} {home : HomeFields} {old new : Disk} {most faults : ℕ} → ((image : Image) → P image → IsTrue old.honest → HasSoundVolume image home)
-    → (IsTrue old.honest → HasSoundVolume old.image home) → Writes P most old new faults → IsTrue new.honest → HasSoundVolume new.image home
+    → (IsTrue old.honest → HasSoundVolume old.image home) → WritesAtMost P most old new faults → IsTrue new.honest → HasSoundVolume new.image home
 sound-growing {P = P} {home = home} {old = old} weaker sound writes honest =
     let Q : Image → Type 0 = λ image. IsTrue old.honest → HasSoundVolume image home in
     went_last Q (went_weaker P Q weaker writes.went) sound (sym writes.went.honest ∙ honest)
 
 -- where it broke off nothing more is known of what is kept
 pub breaks-stays : {P : Image → Type 0} {s t : Structure} {old new : Disk} {most : ℕ} {r : Refusal} → ((image : Image) → P image → IsTrue old.honest → HasSoundVolume image (home_of s)) → home_of t ≡ home_of s
-    → IsFor s old → Breaks P most r old new → StaysFor true s t new
+    → IsStructureFor s old → Breaks P most r old new → StaysFor true s t new
 breaks-stays {s = s} {t = t} {new = new} weaker same for breaks = record {
   home = same;
   lies = λ not. absurd cc;
@@ -136,22 +136,22 @@ breaks-stays {s = s} {t = t} {new = new} weaker same for breaks = record {
 pub taking-sound : (home : HomeFields) (blocks headers : ℕ) (from : Store) (old : Disk) (image : Image) → Taking home blocks headers from old image → IsTrue old.honest → HasSoundVolume image home
 taking-sound home blocks headers from old image is honest = (is honest).sound
 
-pub taking-stays : {blocks headers most : ℕ} {from : Store} {r : Refusal} {s t : Structure} {old new : Disk} → home_of t ≡ home_of s → IsFor s old → Breaks (Taking (home_of s) blocks headers from old) most r old new
+pub taking-stays : {blocks headers most : ℕ} {from : Store} {r : Refusal} {s t : Structure} {old new : Disk} → home_of t ≡ home_of s → IsStructureFor s old → Breaks (Taking (home_of s) blocks headers from old) most r old new
     → StaysFor true s t new
 taking-stays {blocks = blocks} {headers = headers} {from = from} {s = s} {old = old} same for breaks = breaks-stays (taking-sound (home_of s) blocks headers from old) same for breaks
 
 -- so many transfers at most
-pub went-writes : {P : Image → Type 0} {old new : Disk} {most faults : ℕ} → Went P old new most faults → Writes P most old new faults
+pub went-writes : {P : Image → Type 0} {old new : Disk} {most faults : ℕ} → Went P old new most faults → WritesAtMost P most old new faults
 went-writes {most = most} went = record { transfers = most; went = went; few = λ _. omega arith }
 
 -- of another kind of images
 pub breaks-weaker : {P Q : Image → Type 0} {most : ℕ} {old new : Disk} {r : Refusal} → ((image : Image) → Q image → P image) → Breaks Q most r old new → Breaks P most r old new
 breaks-weaker {P = P} {Q = Q} weaker breaks = record {
-  grave = breaks.grave;
+  fatal = breaks.fatal;
   undamaged = breaks.undamaged;
   writes = record { transfers = breaks.writes.transfers; went = went_weaker Q P weaker breaks.writes.went; few = breaks.writes.few };
 }
 
 -- a transfer that failed
-pub breaks-fault : {P : Image → Type 0} {most : ℕ} {old new : Disk} → Writes P most old new 1 → Breaks P most DeviceFault old new
-breaks-fault writes = record { grave = refl; undamaged = λ _ is. let no : 19 ≡ 20 = ap refusal_number is in omega (arith, no); writes = writes }
+pub breaks-fault : {P : Image → Type 0} {most : ℕ} {old new : Disk} → WritesAtMost P most old new 1 → Breaks P most DeviceFault old new
+breaks-fault writes = record { fatal = refl; undamaged = λ _ is. let no : 19 ≡ 20 = ap refusal_number is in omega (arith, no); writes = writes }

@@ -69,6 +69,7 @@ module _ (tail : Tail) (id : FileId) (segment : ℕ) (empty : List ℕ) (holds :
       protection_is = ap (λ (h : HeaderFields). h.protection) held.1 ∙ blank.protection_is;
       no_characteristics = ap (λ (h : HeaderFields). h.characteristics) held.1 ∙ blank.no_characteristics;
       no_attributes = ap (λ (h : HeaderFields). h.attributes) held.1 ∙ blank.no_attributes;
+      no_ident = appends.header.ident ∙ blank.no_ident;
       segment = segment-more empty block lbn count appends ∙ numbered ∙ ap (λ (k : ℕ). k + 1) is;
       no_link = ap (λ (l : FileId). l.number) (link-more empty block lbn count appends) ∙ links-none;
       names = blocks-more empty block lbn count appends ∙ ap (λ (bs : List ℕ). bs ++ range_with_len lbn count) names-none;

@@ -26,15 +26,15 @@ use Rattle.f11_writes.specs.Kept.{WritesHeader}
 use Rattle.f11_writes.specs.Volumes.{MayName, MayBecome, links_anew}
 use Rattle.f11_writes.proofs.HeaderLemmas.{file-rewrite-keeps}
 use Rattle.f11_writes.proofs.NameLemmas.{own-names}
-use Rattle.f11_image_store.specs.Allocation.{LinksLoose}
+use Rattle.f11_image_store.specs.Allocation.{LinksFileless}
 use Rattle.f11_image_store.specs.FileLaws.{SaysAlike, HasPointersMore, LinksOnTo, with_header_more}
 use Rattle.f11_files.specs.Extending.Growing.{SameFree}
 use Rattle.f11_files.specs.Extending.Link.{MayFollow, Linking, LinksTail}
-use Rattle.f11_files.specs.Structure.{index_in, home_of, store_on, Lies, Keeps, IsFor}
+use Rattle.f11_files.specs.Structure.{index_in, home_of, store_on, Lies, IsStructureOf, IsStructureFor}
 use Rattle.f11_files.specs.Extending.Tail.{HoldsLast, HasStore}
 use Rattle.f11_files.specs.declared.structure.Structure.{Structure}
 use Rattle.f11_files.specs.declared.extend.tail.Tail.{Tail}
-use Rattle.f11_image_store.proofs.AllocationLemmas.{links-loose}
+use Rattle.f11_image_store.proofs.AllocationLemmas.{links-fileless}
 use Rattle.f11_files.proofs.Changing.Alter.{keeps-header}
 use Rattle.f11_image_store.proofs.FileLemmas.{as-header, file-linked, last-linked, m-stays, of-now}
 use Rattle.f11_files.proofs.Finding.First.{table-of}
@@ -64,7 +64,7 @@ module _ (was block : List ℕ) (id : FileId) (sets : SetsLink was block id) whe
     places_are = ap (λ (m : ℕ). min m ((length (map_area block) - 10) / 2) / 2) most ∙ ap (λ (l : ℕ). min (most_words (map_area was)) ((l - 10) / 2) / 2) sets.link.size;
   }
 
-module _ (s : Structure) (tail : Tail) (block : List ℕ) (id : FileId) (old : Disk) (for : IsFor s old) (last : HoldsLast s tail old) (early : segment_number tail.block < 255)
+module _ (s : Structure) (tail : Tail) (block : List ℕ) (id : FileId) (old : Disk) (for : IsStructureFor s old) (last : HoldsLast s tail old) (early : segment_number tail.block < 255)
     (follows : IsTrue old.honest → MayFollow (table_of old.image (home_of s)) tail id) (sets : SetsLink tail.block block id) where
   abbrev home : HomeFields
   home = home_of s
@@ -195,14 +195,14 @@ module _ (s : Structure) (tail : Tail) (block : List ℕ) (id : FileId) (old : D
           is_for = record {
             lies = subst (λ (k : ℕ). Lies s k) (sym went.size) for.lies;
             sound = λ honest. let before = was-honest honest in subst (λ (i : Image). HasSoundVolume i home) (sym (image before)) (store-linked before).sound;
-            keeps = λ honest. let before = was-honest honest in subst (Keeps s) (sym (image before)) (keeps-header s n block old.image next (wrote-link before) (for.keeps before));
+            keeps = λ honest. let before = was-honest honest in subst (IsStructureOf s) (sym (image before)) (keeps-header s n block old.image next (wrote-link before) (for.keeps before));
           };
           is_last = λ honest. subst (λ (i : Image). IsLastOf (table_of i home) f id.number) (sym (image honest)) (last-now honest);
           header_stays = λ honest. ap (λ (i : Image). (table_of i home).header id.number) (image honest) ∙ header-stays honest;
           store = λ honest. subst (HasStore home (with_change (store_on s old) f (with_header_more old.image t id.number))) (sym (image honest)) (store-linked honest);
           links = λ honest.
-              subst (λ (i : Image). LinksLoose f id.number t (table_of i home)) (sym (image honest))
-              (links-loose old.image next home f n id.number block (as-header n block home old.image next (wrote-link honest)) (links honest));
+              subst (λ (i : Image). LinksFileless f id.number t (table_of i home)) (sym (image honest))
+              (links-fileless old.image next home f n id.number block (as-header n block home old.image next (wrote-link honest)) (links honest));
           free = λ honest. subst (SameFree home old.image) (sym (image honest)) (ap (λ (v : Volume). v.free) (wrote-link honest).slot.volume);
           went = went;
         }

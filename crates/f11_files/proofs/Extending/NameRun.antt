@@ -33,7 +33,7 @@ use Rattle.f11_image_store.specs.Allocation.{NamesMore}
 use Rattle.f11_image_store.specs.FileLaws.{SaysAlike, HasPointersMore, NamesMoreOf, held_from, room_in}
 use Rattle.f11_store.specs.Pieces.{with_more_blocks, with_zeros_more}
 use Rattle.f11_files.specs.Extending.Growing.{SameFree}
-use Rattle.f11_files.specs.Structure.{index_in, home_of, store_on, Lies, Keeps, IsFor}
+use Rattle.f11_files.specs.Structure.{index_in, home_of, store_on, Lies, IsStructureOf, IsStructureFor}
 use Rattle.f11_files.specs.Extending.Tail.{HoldsLast, MayBeGiven, HasStore, pointers_more, Naming, NamesRun, FailsToName, ownership_of}
 use Rattle.f11_files.specs.Extending.Zeros.{HoldsZeros}
 use Rattle.f11_files.specs.declared.structure.Structure.{Structure}
@@ -86,6 +86,7 @@ module _ (n : ℕ) (was block : List ℕ) (valid : IsHeader was n) (rewrites : R
     protection_is = ap (λ (h : HeaderFields). h.protection) held.1;
     characteristics_are = ap (λ (h : HeaderFields). h.characteristics) held.1;
     ident_is = ap (λ (h : HeaderFields). h.ident) held.1;
+    ident_room_is = rewrites.ident;
     attributes_are = ap (λ (h : HeaderFields). h.attributes) held.1;
   }
 
@@ -118,7 +119,7 @@ module _ (was block : List ℕ) (lbn count : ℕ) (appends : AppendsBlocks was b
       omega (arith, has.pointers, has.places_are, within)
 
 -- it is a file's last, in hand
-module _ (s : Structure) (tail : Tail) (block : List ℕ) (lbn count : ℕ) (old : Disk) (for : IsFor s old) (last : HoldsLast s tail old)
+module _ (s : Structure) (tail : Tail) (block : List ℕ) (lbn count : ℕ) (old : Disk) (for : IsStructureFor s old) (last : HoldsLast s tail old)
     (given : MayBeGiven (home_of s) lbn count old) (appends : AppendsBlocks tail.block block lbn count) where
   abbrev home : HomeFields
   home = home_of s
@@ -164,7 +165,7 @@ module _ (s : Structure) (tail : Tail) (block : List ℕ) (lbn count : ℕ) (old
       valid = valid;
       good = λ _. good;
       names = subst (MayName (volume_of old.image home) n) (sym blocks-are)
-          (more-names (volume_of old.image home) n lbn count (for.sound honest).sound (live_of-header (last.is_last honest).of) (given.spare honest));
+          (more-names (volume_of old.image home) n lbn count (for.sound honest).sound (live_of-header (last.is_last honest).of) (given.unreferenced honest));
       link = links_to_none no-link;
     }
 
@@ -222,11 +223,11 @@ module _ (s : Structure) (tail : Tail) (block : List ℕ) (lbn count : ℕ) (old
         was-honest : IsTrue new.honest → IsTrue old.honest
         was-honest honest = sym went.honest ∙ honest
 
-        for-new : IsFor s new
+        for-new : IsStructureFor s new
         for-new = record {
           lies = subst (λ (k : ℕ). Lies s k) (sym went.size) for.lies;
           sound = λ honest. let before = was-honest honest in subst (λ (i : Image). HasSoundVolume i home) (sym (image before)) (store-named before).sound;
-          keeps = λ honest. let before = was-honest honest in subst (Keeps s) (sym (image before)) (keeps-header s n block old.image next (wrote-tail before) (for.keeps before));
+          keeps = λ honest. let before = was-honest honest in subst (IsStructureOf s) (sym (image before)) (keeps-header s n block old.image next (wrote-tail before) (for.keeps before));
         }
 
         pub names-run : NamesRun s tail (record tail { block = block }) lbn count old new

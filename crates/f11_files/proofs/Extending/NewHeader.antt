@@ -13,7 +13,7 @@ use Rattle.f11_store.specs.Pieces.{with_more_free, file_numbered, MayExtend}
 use Rattle.f11_image_store.specs.FileLaws.{room_in}
 use Rattle.f11_files.specs.Extending.Growing.{Taking, Growing}
 use Rattle.f11_image_store.specs.StoreOf.{store_of}
-use Rattle.f11_files.specs.Structure.{home_of, store_on, IsFor}
+use Rattle.f11_files.specs.Structure.{home_of, store_on, IsStructureFor}
 use Rattle.f11_files.specs.Extending.Tail.{HoldsLast, MayBeGiven}
 use Rattle.f11_files.specs.declared.structure.Structure.{Structure}
 use Rattle.f11_files.specs.declared.extend.tail.Tail.{Tail}
@@ -26,7 +26,7 @@ same-headers : (s : Store) (count : ℕ) → free_headers (with_more_free s coun
 unfolding free_slots
 same-headers s count = refl
 
-module _ (End : Store → Type 0) (s : Structure) (tail : Tail) (k lbn count : ℕ) (old : Disk) (for : IsFor s old) (last : HoldsLast s tail old) (number : tail.file.number ≡ k) (given : MayBeGiven (home_of s) lbn count old)
+module _ (End : Store → Type 0) (s : Structure) (tail : Tail) (k lbn count : ℕ) (old : Disk) (for : IsStructureFor s old) (last : HoldsLast s tail old) (number : tail.file.number ≡ k) (given : MayBeGiven (home_of s) lbn count old)
     (full : room_in tail.block ≡ 0) (may : IsTrue old.honest → MayExtend (with_more_free (store_on s old) count) k count) where
   abbrev home : HomeFields
   home = home_of s
@@ -61,7 +61,7 @@ module _ (End : Store → Type 0) (s : Structure) (tail : Tail) (k lbn count : �
 
   -- the file has as many headers as it may
   pub too-many : segment_number tail.block ≡ 255 → Breaks P 4 Damaged old old
-  too-many is = record { grave = refl; undamaged = λ honest _. let early = is-early honest in omega (arith, early, is); writes = writes-none P 4 old }
+  too-many is = record { fatal = refl; undamaged = λ honest _. let early = is-early honest in omega (arith, early, is); writes = writes-none P 4 old }
 
   -- a header was taken for it
   pub taken-moment : (image : Image) → Taking home 0 1 st old image → P image

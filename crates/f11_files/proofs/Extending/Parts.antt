@@ -24,7 +24,7 @@ use Rattle.f11_files.specs.Extending.Runs.{IsTailOf}
 use Rattle.f11_files.specs.Extending.Header.{TakesSlot}
 use Rattle.f11_files.specs.GrowingIndex.Slots.{HasSlotsBehind}
 use Rattle.f11_files.specs.Extending.Room.{FindsRoom}
-use Rattle.f11_files.specs.Structure.{index_in, home_of, ConfinesTo, IsFor, WritesParts, StandsAlike, StandsWithin}
+use Rattle.f11_files.specs.Structure.{index_in, home_of, ConfinesTo, IsStructureFor, WritesParts, StandsAlike, StandsWithin}
 use Rattle.f11_files.specs.Extending.Tail.{growth_headers, GrowsWithin, WritesGrowth}
 use Rattle.f11_files.specs.Extending.Take.{TakesRun}
 use Rattle.f11_files.specs.declared.structure.Structure.{Structure}
@@ -136,7 +136,7 @@ growth-of s t listed tail is same =
     (λ n new. in-other listed (new_header (index_in s)) n (ap (λ (x : Index). new_header x n) (sym same) ∙ new))
 
 -- its last header is one of them
-pub tail-listed : (s : Structure) (f : FileId) (n : ℕ) (end : FileEnd) (first last cleared : List ℕ) (old new : Disk) (tail : Tail) → IsFor s old → FindsRoom s f n end first last old new → IsTailOf f cleared end.number last tail → IsTrue old.honest
+pub tail-listed : (s : Structure) (f : FileId) (n : ℕ) (end : FileEnd) (first last cleared : List ℕ) (old new : Disk) (tail : Tail) → IsStructureFor s old → FindsRoom s f n end first last old new → IsTailOf f cleared end.number last tail → IsTrue old.honest
     → is_in (headers_of (table_of old.image (home_of s)) f.number) tail.number ≡ true
 tail-listed s f n end first last cleared old new tail for room of honest = elim (cases_eq (link_of cleared).number 0) [
   | inl none ↦ ap (is_in (headers_of (table_of old.image (home_of s)) f.number)) (of.alone none).0 ∙ first-listed s f first old for room.holds honest
@@ -161,7 +161,7 @@ growth-run s t tail from most lbn count old taken new honest takes alike one two
     growth-taken s t tail (free_list (volume_of old.image (home_of s))) (range_with_len lbn count) takes.index alike (run-free s t from most lbn count old taken honest takes) one two
 
 -- room was found in a file, and reserved in the index file where that is the one
-module _ (s : Structure) (index : IndexFile) (f : FileId) (n : ℕ) (end : FileEnd) (first last : List ℕ) (old read : Disk) (for : IsFor s old) (room : FindsRoom s f n end first last old read)
+module _ (s : Structure) (index : IndexFile) (f : FileId) (n : ℕ) (end : FileEnd) (first last : List ℕ) (old read : Disk) (for : IsStructureFor s old) (room : FindsRoom s f n end first last old read)
     (kept : index_kept index ≡ index_in s) (honest : IsTrue old.honest) where
   abbrev t : Structure
   t = record s { index = index }

@@ -24,12 +24,12 @@ use Rattle.f11_store.specs.declared.refusals.Refusal.TheVariants.{NoSuchFile, To
 use Rattle.f11_volume.specs.Contents.{file_of, headers_reached, room_left, pointer_count}
 use Rattle.f11_volume.proofs.FileLemmas.{reached-are}
 use Rattle.f11_writes.specs.Kept.{file_in}
-use Rattle.f11_files.specs.Answers.{is_among, Reads, FailsToRead, faults_of}
+use Rattle.f11_files.specs.Answers.{is_among, ReadsAtMost, FailsToRead, faults_of}
 use Rattle.f11_image_store.specs.FileLaws.{room_in}
 use Rattle.f11_files.specs.Finding.First.{HoldsFile}
 use Rattle.f11_files.specs.Operations.{extend_causes, file_causes, IsSpaceOf}
 use Rattle.f11_files.specs.Extending.Room.{room_causes, FindsRoom}
-use Rattle.f11_files.specs.Structure.{index_in, home_of, store_on, IsFor}
+use Rattle.f11_files.specs.Structure.{index_in, home_of, store_on, IsStructureFor}
 use Rattle.f11_files.specs.declared.structure.Structure.{Structure}
 use Rattle.f11_files.proofs.AnswerLemmas.{right-cause}
 use Rattle.f11_image_store.proofs.FileLemmas.{last-behind}
@@ -53,17 +53,17 @@ cause-more s f n r is = go (is_missing s f) is
     go false is = absurd cc
 
 -- what is answered where there is no room: no transfer failed
-pub record IsLight (r : Refusal) : Type 0 where
+pub record IsClean (r : Refusal) : Type 0 where
   pub not_failed : refusal_number r ≢ 1
   pub not_damaged : refusal_number r ≢ 20
   pub no_fault : faults_of r ≡ 0
   pub among : (s : Store) (f : FileId) (n : ℕ) → is_among (extend_causes s f n) r ≡ true
 
-light : (a b c : Bool) (r : Refusal) → first_of ((TooManySegments ⇐ a) ∷ (DeviceFull ⇐ b) ∷ (NoHeader ⇐ c) ∷ []) ≡ Some r → IsLight r
-light true b c r is = let same : TooManySegments ≡ r = cc in subst IsLight same record { not_failed = λ no. omega (arith, no); not_damaged = λ no. omega (arith, no); no_fault = refl; among = λ s f n. refl }
-light false true c r is = let same : DeviceFull ≡ r = cc in subst IsLight same record { not_failed = λ no. omega (arith, no); not_damaged = λ no. omega (arith, no); no_fault = refl; among = λ s f n. refl }
-light false false true r is = let same : NoHeader ≡ r = cc in subst IsLight same record { not_failed = λ no. omega (arith, no); not_damaged = λ no. omega (arith, no); no_fault = refl; among = λ s f n. refl }
-light false false false r is = absurd cc
+clean : (a b c : Bool) (r : Refusal) → first_of ((TooManySegments ⇐ a) ∷ (DeviceFull ⇐ b) ∷ (NoHeader ⇐ c) ∷ []) ≡ Some r → IsClean r
+clean true b c r is = let same : TooManySegments ≡ r = cc in subst IsClean same record { not_failed = λ no. omega (arith, no); not_damaged = λ no. omega (arith, no); no_fault = refl; among = λ s f n. refl }
+clean false true c r is = let same : DeviceFull ≡ r = cc in subst IsClean same record { not_failed = λ no. omega (arith, no); not_damaged = λ no. omega (arith, no); no_fault = refl; among = λ s f n. refl }
+clean false false true r is = let same : NoHeader ≡ r = cc in subst IsClean same record { not_failed = λ no. omega (arith, no); not_damaged = λ no. omega (arith, no); no_fault = refl; among = λ s f n. refl }
+clean false false false r is = absurd cc
 
 -- the causes stay where the number of free headers is as far from what is needed
 pub causes-alike : (headers room free a b n : ℕ) → ltb a (need room n) ≡ ltb b (need room n) → first_of (room_causes headers room free a n) ≡ first_of (room_causes headers room free b n)
@@ -98,7 +98,7 @@ module _ (image : Image) (t : Table) (f n : ℕ) (last : IsLastOf t f n) (few : 
   count-is = ap (λ (hs : List ℕ). length hs) (reached ∙ split) ∙ length-append before.0 (n ∷ []) ∙ ap (λ (c : ℕ). c + 1) before.1.count
 
 -- a file's first header in hand, and its last
-module _ (s : Structure) (f : FileId) (block : List ℕ) (old : Disk) (for : IsFor s old) (holds : HoldsFile (index_in s) f block old) (end : FileEnd) (after : List ℕ) (new : Disk)
+module _ (s : Structure) (f : FileId) (block : List ℕ) (old : Disk) (for : IsStructureFor s old) (holds : HoldsFile (index_in s) f block old) (end : FileEnd) (after : List ℕ) (new : Disk)
     (goes : ReadsLast (index_in s) f.number 0 end after old new) where
   abbrev st : Store
   st = store_on s old
@@ -147,8 +147,8 @@ module _ (s : Structure) (f : FileId) (block : List ℕ) (old : Disk) (for : IsF
 
     pub lacks-room : (r : Refusal) → first_of (room_causes end.headers room free headers n) ≡ Some r → FailsToRead false (extend_causes st f n) (header_count (file_named st f)) r old new
     lacks-room r is =
-        let cause = light _ _ _ r is in
+        let cause = clean _ _ _ r is in
         record {
           right = right-cause _ _ r cause.not_failed cause.not_damaged (cause.among st f n) (λ honest. causes-are honest ∙ is);
-          reads = subst (Reads (header_count (file_named st f)) old new) (sym cause.no_fault) (reads-along s f block old new 0 for holds goes.looked);
+          reads = subst (ReadsAtMost (header_count (file_named st f)) old new) (sym cause.no_fault) (reads-along s f block old new 0 for holds goes.looked);
         }

@@ -16,21 +16,21 @@ use Rattle.f11_dev.specs.Image.{Image}
 use Rattle.f11_dev.specs.Went.{Went}
 use Rattle.f11_dev.proofs.WentLemmas.{went_looked, went_weaker}
 use Rattle.f11_home.specs.Home.{HomeFields}
-use Rattle.f11_index.specs.Kept.{LiesWithin, room}
+use Rattle.f11_index.specs.Kept.{IndexLiesWithin, room}
 use Rattle.f11_store.specs.Store.{Store, free_headers, free_slots}
 use Rattle.f11_store.specs.declared.refusals.Refusal.TheVariants.{DeviceFault, Damaged}
 use Rattle.f11_volume.specs.Space.{storage_bitmap}
 use Rattle.f11_volume.specs.Volume.{volume_of}
 use Rattle.f11_writes.specs.Kept.{KeepsButFree}
-use Rattle.f11_writes.specs.NameLaws.{AreSpare}
+use Rattle.f11_writes.specs.NameLaws.{AreUnreferenced}
 use Rattle.f11_writes.proofs.BitmapLemmas.{used-keeps}
-use Rattle.f11_writes.proofs.NameLemmas.{taken-spare}
+use Rattle.f11_writes.proofs.NameLemmas.{taken-unreferenced}
 use Rattle.f11_image_store.specs.Allocation.{free_list}
 use Rattle.f11_files.specs.Answers.{Breaks}
 use Rattle.f11_files.specs.Extending.Growing.{IsTaking, Taking}
 use Rattle.f11_store.specs.Pieces.{TakesSome}
 use Rattle.f11_image_store.specs.StoreOf.{store_of}
-use Rattle.f11_files.specs.Structure.{index_in, bitmap_in, home_of, store_on, IsFor, StaysFor}
+use Rattle.f11_files.specs.Structure.{index_in, bitmap_in, home_of, store_on, IsStructureFor, StaysFor}
 use Rattle.f11_files.specs.Extending.Take.{NoneBelow, TakesRun, with_fewer_free}
 use Rattle.f11_files.specs.declared.structure.Structure.{Structure}
 use Rattle.f11_image_store.proofs.AllocationLemmas.{lowest-taken}
@@ -65,7 +65,7 @@ store-free : (image : Image) (home : HomeFields) → (store_of image home).free 
 unfolding store_of
 store-free image home = refl
 
-module _ (s : Structure) (from most : ℕ) (old : Disk) (for : IsFor s old) where
+module _ (s : Structure) (from most : ℕ) (old : Disk) (for : IsStructureFor s old) where
   abbrev home : HomeFields
   home = home_of s
 
@@ -103,8 +103,8 @@ module _ (s : Structure) (from most : ℕ) (old : Disk) (for : IsFor s old) wher
       takes = subst (TakesSome most 0 st) (sym front-store) (takes-blocks st part most (omega (arith, within, asked)));
     }
 
-    front-spare : AreSpare (volume_of image home) lbn part
-    front-spare = taken-spare old.image image home lbn part (for.sound honest) marks-there front-inside front-free
+    front-unreferenced : AreUnreferenced (volume_of image home) lbn part
+    front-unreferenced = taken-unreferenced old.image image home lbn part (for.sound honest) marks-there front-inside front-free
 
   -- the images that stand while a run is marked used
   run-moment : (lbn count : ℕ) → count ≤ most → (IsTrue old.honest → (k : ℕ) → lbn ≤ k → k < lbn + count → is_free old.image (bitmap_in s) k ≡ true)
@@ -122,7 +122,7 @@ module _ (s : Structure) (from most : ℕ) (old : Disk) (for : IsFor s old) wher
   pub finds-none : (new : Disk) → 0 < most → (IsTrue old.honest → most ≤ st.free) → (IsTrue old.honest → NoneBelow old.image (bitmap_in s) from) → FindsNone (bitmap_in s) from old new
       → Breaks (Taking home most 0 st old) (blocks_from (bitmap_in s) from + 2) Damaged old new
   finds-none new some enough below finds = record {
-    grave = refl;
+    fatal = refl;
     undamaged = λ honest _.
         let all : (k : ℕ) → is_free old.image (bitmap_in s) k ≡ false =
         λ k. elim (cases_lt k from) [ inl low ↦ below honest k low | inr high ↦ finds.none honest k high ] in
@@ -154,8 +154,8 @@ module _ (s : Structure) (from most : ℕ) (old : Disk) (for : IsFor s old) wher
       store-now : store_of new.image home ≡ with_fewer_free st count
       store-now = front-store lbn count count new.image takes.within.some (omega arith) takes.within.asked honest (takes.first honest).each (takes.marked.marks honest)
 
-      spare-now : AreSpare (volume_of new.image home) lbn count
-      spare-now = front-spare lbn count count new.image takes.within.some (omega arith) takes.within.asked honest (takes.first honest).each (takes.marked.marks honest)
+      unreferenced-now : AreUnreferenced (volume_of new.image home) lbn count
+      unreferenced-now = front-unreferenced lbn count count new.image takes.within.some (omega arith) takes.within.asked honest (takes.first honest).each (takes.marked.marks honest)
 
       lowest-now : free_list (volume_of old.image home) ≡ range_with_len lbn count ++ free_list (volume_of new.image home)
       unfolding free_list volume_of
@@ -172,7 +172,7 @@ module _ (s : Structure) (from most : ℕ) (old : Disk) (for : IsFor s old) wher
       left = left;
       within = takes.within;
       keeps = kept;
-      spare = spare-now;
+      unreferenced = unreferenced-now;
       none_below = none-left;
       lowest = lowest-now;
       store = store-now;
@@ -183,7 +183,7 @@ module _ (s : Structure) (from most : ℕ) (old : Disk) (for : IsFor s old) wher
     take-stays t same is = record {
       home = refl;
       lies = λ _. record {
-        index = subst (λ (n : ℕ). LiesWithin (index_in s) n) (sym went.size) for.lies.index;
+        index = subst (λ (n : ℕ). IndexLiesWithin (index_in s) n) (sym went.size) for.lies.index;
         bitmap = is.within;
         volume = let size = ap (λ (b : Bitmap). b.size) same in let device = went.size in let was = for.lies.volume in omega (arith, size, device, was);
       };

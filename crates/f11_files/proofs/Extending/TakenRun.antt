@@ -16,7 +16,7 @@ use Rattle.f11_image_store.specs.Allocation.{AddsZeroSlots, GainsBlocksAs, Names
 use Rattle.f11_store.specs.Pieces.{with_more_free}
 use Rattle.f11_files.specs.Extending.Growing.{SameFree}
 use Rattle.f11_image_store.specs.StoreOf.{store_of}
-use Rattle.f11_files.specs.Structure.{bitmap_in, home_of, store_on, IsFor, StaysFor}
+use Rattle.f11_files.specs.Structure.{bitmap_in, home_of, store_on, IsStructureFor, StaysFor}
 use Rattle.f11_files.specs.Extending.Tail.{HoldsLast}
 use Rattle.f11_files.specs.Extending.Take.{NoneBelow, TakesRun, with_fewer_free}
 use Rattle.f11_files.specs.declared.structure.Structure.{Structure}
@@ -38,7 +38,7 @@ pub break-cost : (bitmap : Bitmap) (from most lbn count : ℕ) → from ≤ lbn 
     → blocks_to bitmap from (lbn + count) + blocks_touched lbn count + (count + 4) ≤ blocks_from bitmap from + 5 * most + 3
 break-cost bitmap from most lbn count above some few asked = omega (arith, above, some, few, asked)
 
-module _ (s t : Structure) (tail : Tail) (from most lbn count : ℕ) (old mid : Disk) (for : IsFor s old) (last : HoldsLast s tail old) (enough : IsTrue old.honest → most ≤ (store_on s old).free)
+module _ (s t : Structure) (tail : Tail) (from most lbn count : ℕ) (old mid : Disk) (for : IsStructureFor s old) (last : HoldsLast s tail old) (enough : IsTrue old.honest → most ≤ (store_on s old).free)
     (takes : TakesRun s t from most lbn count old mid) (stays : StaysFor false s t mid) where
   abbrev home : HomeFields
   home = home_of s
@@ -62,7 +62,7 @@ module _ (s t : Structure) (tail : Tail) (from most lbn count : ℕ) (old mid : 
       let few = takes.within.asked in
       ap (λ (x : Store). with_more_free x count) (store-mid honest) ∙ fewer-more st count (omega (arith, many, few))
 
-  pub run-for : IsFor t mid
+  pub run-for : IsStructureFor t mid
   run-for = stays-for stays
 
   tables : IsTrue old.honest → table_of mid.image home ≡ table_of old.image home

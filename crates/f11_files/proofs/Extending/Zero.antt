@@ -1,4 +1,4 @@
--- Spare blocks that are made zeros.
+-- Unreferenced blocks that are made zeros.
 use Rattle.std.proofs.Common.{◌≡◌, ◌≢◌, ◌⊎◌, ◌+◌, ◌<◌, ◌≤◌, ℕ, true, false, IsTrue, length, inl, inr, refl, sym, ap, subst, ◌∙◌, arith}
 use Rattle.std.proofs.Math.ListN.{set}
 use Rattle.std.proofs.lemmas.Bool.{cases_eq}
@@ -13,8 +13,8 @@ use Rattle.f11_volume.specs.Contents.{block_or_zeros}
 use Rattle.f11_volume.specs.Sound.{HasSoundVolume}
 use Rattle.f11_volume.specs.Volume.{Volume, volume_of, IsNamed}
 use Rattle.f11_writes.specs.Kept.{KeepsVolume, KeepsFiles}
-use Rattle.f11_writes.specs.NameLaws.{AreSpare}
-use Rattle.f11_writes.proofs.NameLemmas.{spare-stay}
+use Rattle.f11_writes.specs.NameLaws.{AreUnreferenced}
+use Rattle.f11_writes.proofs.NameLemmas.{unreferenced-stay}
 use Rattle.f11_writes.proofs.OtherLemmas.{unnamed-keeps}
 use Rattle.f11_files.specs.Extending.Zeros.{HoldsZeros, Keeping, Zeroes, FailsToZero}
 use Rattle.f11_image_store.proofs.StoreLemmas.{stays}
@@ -49,11 +49,11 @@ zero-more image lbn count within zeros = record { each = λ k low high. go k low
     go k low high (inl here) = ap (block_or_zeros (set image (lbn + count) zero_block)) here ∙ get_or-set_same image (lbn + count) zero_block zero_block within
     go k low high (inr away) = get_or-set_other image (lbn + count) k zero_block zero_block away ∙ zeros.each k low (omega (arith, high, away))
 
-unnamed-at : (v : Volume) (lbn count k : ℕ) → AreSpare v lbn count → k < count → ¬ IsNamed v.table (lbn + k)
-unnamed-at v lbn count k spare few = spare.unnamed (lbn + k) (omega arith) (omega (arith, few))
+unnamed-at : (v : Volume) (lbn count k : ℕ) → AreUnreferenced v lbn count → k < count → ¬ IsNamed v.table (lbn + k)
+unnamed-at v lbn count k unreferenced few = unreferenced.unnamed (lbn + k) (omega arith) (omega (arith, few))
 
 module _ (home : HomeFields) (lbn count : ℕ) (old : Disk) (within : lbn + count ≤ length old.image) (sound : IsTrue old.honest → HasSoundVolume old.image home)
-    (spare : IsTrue old.honest → AreSpare (volume_of old.image home) lbn count) where
+    (unreferenced : IsTrue old.honest → AreUnreferenced (volume_of old.image home) lbn count) where
   abbrev P : Image → Type 0
   P = Keeping home old
 
@@ -69,7 +69,7 @@ module _ (home : HomeFields) (lbn count : ℕ) (old : Disk) (within : lbn + coun
     next = set now.image (lbn + k) zero_block
 
     unnamed : (honest : IsTrue old.honest) → ¬ IsNamed (volume_of now.image home).table (lbn + k)
-    unnamed honest = unnamed-at (volume_of now.image home) lbn count k (spare-stay old.image now.image home lbn count (so_far.keeps honest).volume (spare honest)) few
+    unnamed honest = unnamed-at (volume_of now.image home) lbn count k (unreferenced-stay old.image now.image home lbn count (so_far.keeps honest).volume (unreferenced honest)) few
 
     keeps-files : (honest : IsTrue old.honest) → KeepsFiles home now.image next
     unfolding volume_of

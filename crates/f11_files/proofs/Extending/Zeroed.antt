@@ -6,11 +6,11 @@ use Rattle.f11_home.specs.Home.{HomeFields}
 use Rattle.f11_index.specs.Headers.{IsLastOf}
 use Rattle.f11_index.specs.Table.{Table, table_of}
 use Rattle.f11_volume.specs.Volume.{Volume, volume_of}
-use Rattle.f11_writes.specs.NameLaws.{AreSpare}
-use Rattle.f11_writes.proofs.NameLemmas.{spare-stay}
+use Rattle.f11_writes.specs.NameLaws.{AreUnreferenced}
+use Rattle.f11_writes.proofs.NameLemmas.{unreferenced-stay}
 use Rattle.f11_image_store.specs.FileLaws.{room_in}
 use Rattle.f11_files.specs.Extending.Growing.{SameFree}
-use Rattle.f11_files.specs.Structure.{bitmap_in, home_of, Lies, IsFor}
+use Rattle.f11_files.specs.Structure.{bitmap_in, home_of, Lies, IsStructureFor}
 use Rattle.f11_files.specs.Extending.Tail.{HoldsLast, MayBeGiven, HasNoPlace}
 use Rattle.f11_files.specs.Extending.Zeros.{Zeroes}
 use Rattle.f11_files.specs.declared.structure.Structure.{Structure}
@@ -24,15 +24,15 @@ low-block s lbn count within some =
     let is : IsBitmap (bitmap_in s) = s.storage.valid in
     omega (arith, is.few, is.covered, within, some)
 
-module _ (s : Structure) (tail : Tail) (lbn count : ℕ) (old mid : Disk) (for : IsFor s old) (last : HoldsLast s tail old) (within : lbn + count ≤ (bitmap_in s).size) (some : 0 < count) (few : count ≤ 256)
-    (spare : IsTrue old.honest → AreSpare (volume_of old.image (home_of s)) lbn count) (zeroed : Zeroes (home_of s) lbn count old mid) where
+module _ (s : Structure) (tail : Tail) (lbn count : ℕ) (old mid : Disk) (for : IsStructureFor s old) (last : HoldsLast s tail old) (within : lbn + count ≤ (bitmap_in s).size) (some : 0 < count) (few : count ≤ 256)
+    (unreferenced : IsTrue old.honest → AreUnreferenced (volume_of old.image (home_of s)) lbn count) (zeroed : Zeroes (home_of s) lbn count old mid) where
   abbrev home : HomeFields
   home = home_of s
 
   was-honest : IsTrue mid.honest → IsTrue old.honest
   was-honest honest = sym zeroed.went.honest ∙ honest
 
-  pub mid-for : IsFor s mid
+  pub mid-for : IsStructureFor s mid
   mid-for = record {
     lies = subst (λ (n : ℕ). Lies s n) (sym zeroed.went.size) for.lies;
     sound = λ honest. (zeroed.keeps (was-honest honest)).volume.sound;
@@ -64,14 +64,14 @@ module _ (s : Structure) (tail : Tail) (lbn count : ℕ) (old mid : Disk) (for :
     some = some;
     short = few;
     low = low-block s lbn count within some;
-    spare = λ honest. let before = was-honest honest in spare-stay old.image mid.image home lbn count (zeroed.keeps before).volume (spare before);
+    unreferenced = λ honest. let before = was-honest honest in unreferenced-stay old.image mid.image home lbn count (zeroed.keeps before).volume (unreferenced before);
     zeros = λ honest. zeroed.zeros (was-honest honest);
   }
 
   -- no place is left for them, and nothing was done
   module _ (now : Disk) (after : Tail) (full : HasNoPlace tail after lbn count mid now) where
-    pub now-for : IsFor s now
-    now-for = subst (IsFor s) (sym full.disk_is) mid-for
+    pub now-for : IsStructureFor s now
+    now-for = subst (IsStructureFor s) (sym full.disk_is) mid-for
 
     pub now-last : HoldsLast s after now
     now-last = subst (λ (d : Disk). HoldsLast s after d) (sym full.disk_is) (subst (λ (x : Tail). HoldsLast s x mid) (sym full.tail_is) mid-last)

@@ -17,22 +17,22 @@ use Rattle.f11_chain.proofs.StepLemmas.{table-in_use, table-header}
 use Rattle.f11_store.specs.declared.files.FileId.{FileId}
 use Rattle.f11_volume.specs.Volume.{volume_of}
 use Rattle.f11_files.specs.Finding.First.{IsFirstOf, IsFileOf, FindsFile}
-use Rattle.f11_files.specs.Structure.{index_in, home_of, IsFor}
+use Rattle.f11_files.specs.Structure.{index_in, home_of, IsStructureFor}
 use Rattle.f11_files.specs.declared.structure.Structure.{Structure}
 
 -- the headers of the disk are those of its volume
-pub table-of : (s : Structure) (disk : Disk) → IsFor s disk → IsTrue disk.honest → table (index_in s) disk ≡ table_of disk.image (home_of s)
+pub table-of : (s : Structure) (disk : Disk) → IsStructureFor s disk → IsTrue disk.honest → table (index_in s) disk ≡ table_of disk.image (home_of s)
 table-of s disk for honest = ap (table_in disk.image) (for.keeps honest).index_is
 
 -- the place of a header in use is on the device, and on one that is as large
-pub place-within : (s : Structure) (n place : ℕ) (old : Disk) (now : Image) → IsFor s old → is_in_use (index_in s) n ≡ true → length now ≡ length old.image → place ≡ header_lbn (index_in s) n
+pub place-within : (s : Structure) (n place : ℕ) (old : Disk) (now : Image) → IsStructureFor s old → is_in_use (index_in s) n ≡ true → length now ≡ length old.image → place ≡ header_lbn (index_in s) n
     → place < length now
 place-within s n place old now for used size at =
     let within = header-within (index_in s) n (length old.image) for.lies.index (in_use-some (index_in s) n used) (in_use-slot (index_in s) n used) in
     omega (arith, within, size, at)
 
 -- each header in use is dead or valid
-pub dead-or-valid : (s : Structure) (disk : Disk) (n : ℕ) → IsFor s disk → IsTrue disk.honest → is_in_use (index_in s) n ≡ true
+pub dead-or-valid : (s : Structure) (disk : Disk) (n : ℕ) → IsStructureFor s disk → IsTrue disk.honest → is_in_use (index_in s) n ≡ true
     → IsDead ((table (index_in s) disk).header n) ⊎ IsHeader ((table (index_in s) disk).header n) n
 unfolding volume_of
 dead-or-valid s disk n for honest in_use =
@@ -61,7 +61,7 @@ module _ (index : Index) (f : FileId) (lbn : ℕ) (block : List ℕ) (old new : 
   none-read other honest is = other (subst (IsFirstOf f) (sym (read-is honest)) record { valid = is.file.live.valid; first = is.file.first; sequence = is.sequence })
 
 -- it was neither dead nor valid
-pub never-bad : (s : Structure) (f : FileId) (lbn : ℕ) (block : List ℕ) (old new : Disk) → IsFor s old → is_in_use (index_in s) f.number ≡ true → lbn ≡ header_lbn (index_in s) f.number
+pub never-bad : (s : Structure) (f : FileId) (lbn : ℕ) (block : List ℕ) (old new : Disk) → IsStructureFor s old → is_in_use (index_in s) f.number ≡ true → lbn ≡ header_lbn (index_in s) f.number
     → new ≡ with_transfer true old → (IsTrue old.honest → slice_get old.image lbn ≡ Some block) → ¬ IsDead block → ¬ IsHeader block f.number → ¬ IsTrue old.honest
 never-bad s f lbn block old new for in_use at counts gives not_dead not_valid honest =
     let same = read-is (index_in s) f lbn block old new in_use at counts gives honest in

@@ -10,7 +10,7 @@ use Rattle.f11_dev.specs.Image.{Image}
 use Rattle.f11_index.specs.Headers.{headers_of}
 use Rattle.f11_index.specs.IndexFile.{Index}
 use Rattle.f11_index.specs.Table.{Table, table_of, IsFile, IsWholeFile}
-use Rattle.f11_chain.specs.Calls.{table, ReadsFirst, LooksAlong, FindsEnd, FindsBreak, FindsDamage, Locates, ReadsLast}
+use Rattle.f11_chain.specs.Calls.{table, ReadsFirst, LooksAlongFile, FindsEnd, FindsBreak, FindsDamage, Locates, ReadsLast}
 use Rattle.f11_chain.specs.FileHeaders.{file_blocks, block_by_vbn, IsSoundFile}
 use Rattle.f11_chain.specs.declared.blocks.FileEnd.{FileEnd}
 use Rattle.f11_chain.specs.declared.fault.ChainFault.{ChainFault}
@@ -25,12 +25,12 @@ use Rattle.f11_store.specs.declared.refusals.Refusal.TheVariants.{NoSuchFile, En
 use Rattle.f11_volume.specs.Contents.{block_or_zeros}
 use Rattle.f11_volume.proofs.FileLemmas.{image-files, file-headers-are, file-blocks-are}
 use Rattle.f11_writes.specs.Kept.{file_in}
-use Rattle.f11_files.specs.Answers.{Reads, FailsToRead, refusal_for}
+use Rattle.f11_files.specs.Answers.{ReadsAtMost, FailsToRead, refusal_for}
 use Rattle.f11_files.specs.Finding.Blocks.{FindsBlock}
 use Rattle.f11_files.specs.Finding.First.{FindsFile, HoldsFile}
 use Rattle.f11_files.specs.Finding.Length.{CountsBlocks}
 use Rattle.f11_files.specs.Operations.{file_causes, length_causes}
-use Rattle.f11_files.specs.Structure.{index_in, home_of, store_on, IsFor}
+use Rattle.f11_files.specs.Structure.{index_in, home_of, store_on, IsStructureFor}
 use Rattle.f11_files.specs.declared.structure.Structure.{Structure}
 use Rattle.f11_files.proofs.AnswerLemmas.{right-cause, right-fault, right-damaged}
 use Rattle.f11_files.proofs.Finding.First.{table-of}
@@ -42,7 +42,7 @@ pub reads-first : (index : Index) (f : FileId) (block : List ℕ) (old new : Dis
 reads-first index f block old new finds = record { header = finds.holds.header; first = finds.holds.is_first.first; looked = finds.looked }
 
 -- a file's first header in hand, on an honest disk
-module _ (s : Structure) (f : FileId) (block : List ℕ) (disk : Disk) (for : IsFor s disk) (holds : HoldsFile (index_in s) f block disk) (honest : IsTrue disk.honest) where
+module _ (s : Structure) (f : FileId) (block : List ℕ) (disk : Disk) (for : IsStructureFor s disk) (holds : HoldsFile (index_in s) f block disk) (honest : IsTrue disk.honest) where
   abbrev t : Table
   t = table_of disk.image (home_of s)
 
@@ -88,8 +88,8 @@ module _ (s : Structure) (f : FileId) (block : List ℕ) (disk : Disk) (for : Is
       ∙ ap (λ (n : ℕ). cond (ltb n vbn) (Some EndOfFile) None) (length-named own)
 
 -- headers of it were read, no more than there are
-pub reads-along : (s : Structure) (f : FileId) (block : List ℕ) (old new : Disk) (faults : ℕ) → IsFor s old → HoldsFile (index_in s) f block old → LooksAlong (index_in s) f.number 0 old new faults
-    → Reads (header_count (file_named (store_on s old) f)) old new faults
+pub reads-along : (s : Structure) (f : FileId) (block : List ℕ) (old new : Disk) (faults : ℕ) → IsStructureFor s old → HoldsFile (index_in s) f block old → LooksAlongFile (index_in s) f.number 0 old new faults
+    → ReadsAtMost (header_count (file_named (store_on s old) f)) old new faults
 reads-along s f block old new faults for holds looks = record {
   reads = looks.headers;
   looked = looks.looked;
@@ -97,7 +97,7 @@ reads-along s f block old new faults for holds looks = record {
 }
 
 -- a walk to a block of it failed
-module _ (s : Structure) (f : FileId) (block : List ℕ) (old new : Disk) (for : IsFor s old) (holds : HoldsFile (index_in s) f block old) (own : 4 ≤ f.number) (vbn : ℕ) where
+module _ (s : Structure) (f : FileId) (block : List ℕ) (old new : Disk) (for : IsStructureFor s old) (holds : HoldsFile (index_in s) f block old) (own : 4 ≤ f.number) (vbn : ℕ) where
   abbrev Fails : Refusal → Type 0
   Fails refusal = FailsToRead false (length_causes (store_on s old) f vbn) (header_count (file_named (store_on s old) f)) refusal old new
 
@@ -114,11 +114,11 @@ module _ (s : Structure) (f : FileId) (block : List ℕ) (old new : Disk) (for :
     reads = reads-along s f block old new 0 for holds finds.looked;
   }
 
-  pub fails-fault : LooksAlong (index_in s) f.number 0 old new 1 → Fails DeviceFault
+  pub fails-fault : LooksAlongFile (index_in s) f.number 0 old new 1 → Fails DeviceFault
   fails-fault looks = record { right = right-fault _ _; reads = reads-along s f block old new 1 for holds looks }
 
   pub fails-walk : (fault : ChainFault) → (fault ≡ chain.EndOfFile → FindsEnd (index_in s) f.number 0 vbn old new) → (fault ≡ chain.Damaged → FindsDamage (index_in s) f.number old new)
-      → (fault ≡ chain.DeviceFault → LooksAlong (index_in s) f.number 0 old new 1) → Fails (refusal_for fault)
+      → (fault ≡ chain.DeviceFault → LooksAlongFile (index_in s) f.number 0 old new 1) → Fails (refusal_for fault)
   fails-walk chain.EndOfFile end damaged failed = fails-end (end refl)
   fails-walk chain.Damaged end damaged failed = fails-damaged (damaged refl)
   fails-walk chain.DeviceFault end damaged failed = fails-fault (failed refl)
@@ -137,7 +137,7 @@ module _ (s : Structure) (f : FileId) (block : List ℕ) (old new : Disk) (for :
   }
 
 -- what was read there is the file's block
-pub block-read : (s : Structure) (f : FileId) (vbn lbn : ℕ) (block : List ℕ) (old now : Disk) → IsFor s old → FindsBlock (home_of s) f vbn lbn old now → now.image ≡ old.image
+pub block-read : (s : Structure) (f : FileId) (vbn lbn : ℕ) (block : List ℕ) (old now : Disk) → IsStructureFor s old → FindsBlock (home_of s) f vbn lbn old now → now.image ≡ old.image
     → slice_get now.image lbn ≡ Some block → IsTrue old.honest → slice_get (file_named (store_on s old) f).blocks (vbn - 1) ≡ Some block
 block-read s f vbn lbn block old now for finds same at honest =
     let t : Table = table_of old.image (home_of s) in
@@ -149,9 +149,9 @@ block-read s f vbn lbn block old now for finds same at honest =
     ∙ ap Some (get_or_from_slice_get old.image lbn block zero_block here)
 
 -- a walk to its last header
-module _ (s : Structure) (f : FileId) (block : List ℕ) (old new : Disk) (for : IsFor s old) (holds : HoldsFile (index_in s) f block old) where
+module _ (s : Structure) (f : FileId) (block : List ℕ) (old new : Disk) (for : IsStructureFor s old) (holds : HoldsFile (index_in s) f block old) where
   pub fails-last : (fault : ChainFault) → ¬ (fault ≡ chain.EndOfFile) → (fault ≡ chain.Damaged → FindsBreak (index_in s) f.number 0 old new)
-      → (fault ≡ chain.DeviceFault → LooksAlong (index_in s) f.number 0 old new 1)
+      → (fault ≡ chain.DeviceFault → LooksAlongFile (index_in s) f.number 0 old new 1)
       → FailsToRead false (file_causes (store_on s old) f) (header_count (file_named (store_on s old) f)) (refusal_for fault) old new
   fails-last chain.EndOfFile never damaged failed = absurd (never refl)
   fails-last chain.Damaged never damaged failed = record {

@@ -25,7 +25,7 @@ use Rattle.f11_store.specs.declared.refusals.Refusal.{Refusal}
 use Rattle.f11_store.specs.declared.refusals.Refusal.TheVariants.{NoSuchFile}
 use Rattle.f11_files.specs.Answers.{FailsToRead}
 use Rattle.f11_files.specs.Operations.{file_causes, attr_in, attr_of}
-use Rattle.f11_files.specs.Structure.{index_in, home_of, store_on, IsFor}
+use Rattle.f11_files.specs.Structure.{index_in, home_of, store_on, IsStructureFor}
 use Rattle.f11_files.specs.declared.structure.Structure.{Structure}
 use Rattle.f11_files.proofs.AnswerLemmas.{right-cause, right-damaged, reads-looked}
 use Rattle.f11_files.proofs.Finding.First.{table-of, none-read, never-bad}
@@ -92,7 +92,7 @@ module _ (image : Image) (home : HomeFields) (f : FileId) where
           ap (λ (o : Option File). is_none (option_and_then (of_sequence f.sequence) o))
           (file-stored image home f.number ∙ file-at image t f.number None (λ file. let no : true ≡ false = sym ((first-is-tested t f.number).1 file) ∙ is in absurd cc) (λ _. refl))
 
-module _ (s : Structure) (f : FileId) (disk : Disk) (for : IsFor s disk) (honest : IsTrue disk.honest) where
+module _ (s : Structure) (f : FileId) (disk : Disk) (for : IsStructureFor s disk) (honest : IsTrue disk.honest) where
   -- a file that was found
   pub found-named : IsFileOf f (index_in s) disk → (is_missing (store_of disk.image (home_of s)) f ≡ false)
       × (file_named (store_of disk.image (home_of s)) f ≡ as_seen f.number (file_in (home_of s) f.number disk.image))
@@ -111,7 +111,7 @@ module _ (s : Structure) (f : FileId) (disk : Disk) (for : IsFor s disk) (honest
   missing-first none = ap (λ (b : Bool). cond b (Some NoSuchFile) None) (none-named none)
 
 -- another header was read than that of the file
-pub read-refused : (s : Structure) (f : FileId) (lbn : ℕ) (block : List ℕ) (old new : Disk) → IsFor s old → is_in_use (index_in s) f.number ≡ true → lbn ≡ header_lbn (index_in s) f.number
+pub read-refused : (s : Structure) (f : FileId) (lbn : ℕ) (block : List ℕ) (old new : Disk) → IsStructureFor s old → is_in_use (index_in s) f.number ≡ true → lbn ≡ header_lbn (index_in s) f.number
     → new ≡ with_transfer true old → (IsTrue old.honest → slice_get old.image lbn ≡ Some block) → (r : Refusal) → IsOther f block r
     → FailsToRead false (file_causes (store_on s old) f) 1 r old new
 read-refused s f lbn block old new for in_use at counts gives r other = go other
@@ -135,7 +135,7 @@ unfolding said_file
 attr-said image t n = refl
 
 -- a file's first header in hand
-module _ (s : Structure) (f : FileId) (block : List ℕ) (disk : Disk) (for : IsFor s disk) (holds : HoldsFile (index_in s) f block disk) (honest : IsTrue disk.honest) where
+module _ (s : Structure) (f : FileId) (block : List ℕ) (disk : Disk) (for : IsStructureFor s disk) (holds : HoldsFile (index_in s) f block disk) (honest : IsTrue disk.honest) where
   pub block-is : block ≡ (table_of disk.image (home_of s)).header f.number
   block-is = holds.header.block_is honest ∙ ap (λ (t : Table). t.header f.number) (table-of s disk for honest)
 

@@ -18,7 +18,7 @@ use Rattle.f11_store.specs.Store.{Store}
 use Rattle.f11_store.specs.declared.callers.Uic.{Uic}
 use Rattle.f11_store.specs.declared.files.FileId.{FileId}
 use Rattle.f11_store.specs.declared.refusals.Refusal.TheVariants.{DeviceFault}
-use Rattle.f11_image_store.specs.Allocation.{AddsLoose, AddsZeroSlots, LinksLoose, NamesMore}
+use Rattle.f11_image_store.specs.Allocation.{AddsFileless, AddsZeroSlots, LinksFileless, NamesMore}
 use Rattle.f11_files.specs.Answers.{Breaks}
 use Rattle.f11_store.specs.Pieces.{with_more_free, MayExtend}
 use Rattle.f11_files.specs.Extending.Header.{EntersHeader}
@@ -28,7 +28,7 @@ use Rattle.f11_files.specs.Extending.Growing.{Taking, SameFree}
 use Rattle.f11_files.specs.GrowingIndex.Slots.{LinkingSlots, LinksSlots, MayBecomeSlots, NamesThese}
 use Rattle.f11_store.specs.IndexPieces.{MayGrowIndex}
 use Rattle.f11_image_store.specs.StoreOf.{store_of}
-use Rattle.f11_files.specs.Structure.{bitmap_in, home_of, store_on, IsFor, StaysFor}
+use Rattle.f11_files.specs.Structure.{bitmap_in, home_of, store_on, IsStructureFor, StaysFor}
 use Rattle.f11_files.specs.Extending.Tail.{HasStore, HoldsLast, MayBeGiven, whose, ownership_of}
 use Rattle.f11_files.specs.declared.structure.Structure.{Structure}
 use Rattle.f11_files.specs.declared.extend.tail.Tail.{Tail}
@@ -41,7 +41,7 @@ use Rattle.f11_store.proofs.IndexPieceLemmas.{as-file, slots-linked}
 use Rattle.f11_files.proofs.Extending.NewHeader.{no-room, taken-moment}
 use Rattle.f11_store.proofs.PieceLemmas.{with_linked}
 
-module _ (s : Structure) (tail : Tail) (lbn count : ℕ) (old : Disk) (for : IsFor s old) (last : HoldsLast s tail old) (index : tail.file.number ≡ 1) (given : MayBeGiven (home_of s) lbn count old)
+module _ (s : Structure) (tail : Tail) (lbn count : ℕ) (old : Disk) (for : IsStructureFor s old) (last : HoldsLast s tail old) (index : tail.file.number ≡ 1) (given : MayBeGiven (home_of s) lbn count old)
     (full : room_in tail.block ≡ 0) (reserved : count ≤ room s.index) (may : IsTrue old.honest → MayGrowIndex (with_more_free (store_on s old) count) count) where
   abbrev home : HomeFields
   home = home_of s
@@ -62,7 +62,7 @@ module _ (s : Structure) (tail : Tail) (lbn count : ℕ) (old : Disk) (for : IsF
   moment = taken-moment (GrowsIndex free count) s tail 1 lbn count old for last index given full may-file
 
   module _ (after : Structure) (id : FileId) (block : List ℕ) (mid : Disk) (enters : EntersHeader s after tail lbn count id block old mid) (stays : StaysFor false s after mid) where
-    for-mid : IsFor after mid
+    for-mid : IsStructureFor after mid
     for-mid = stays-for stays
 
     still-honest : IsTrue old.honest → IsTrue mid.honest
@@ -167,11 +167,11 @@ module _ (s : Structure) (tail : Tail) (lbn count : ℕ) (old : Disk) (for : IsF
       -- the index file has the run
       names-run : IsTrue old.honest → NamesMore 1 (ownership_of tail) (range_with_len lbn count) (table_of old.image home) (table_of new.image home)
       names-run honest =
-          let there : LinksLoose 1 id.number (table_of mid.image home) (table_of new.image home) =
-          subst (λ (h : HomeFields). LinksLoose 1 id.number (table_of mid.image h) (table_of new.image h)) stays.home (links.links (still-honest honest)) in
+          let there : LinksFileless 1 id.number (table_of mid.image home) (table_of new.image home) =
+          subst (λ (h : HomeFields). LinksFileless 1 id.number (table_of mid.image h) (table_of new.image h)) stays.home (links.links (still-honest honest)) in
           let live : IsLive (table_of mid.image home) id.number = (enters.follows honest).live in
-          let adds : AddsLoose 1 id.number (ownership_of tail) (table_of old.image home) (table_of mid.image home) =
-          subst (λ (f : ℕ). AddsLoose f id.number (ownership_of tail) (table_of old.image home) (table_of mid.image home)) index (enters.adds honest) in
+          let adds : AddsFileless 1 id.number (ownership_of tail) (table_of old.image home) (table_of mid.image home) =
+          subst (λ (f : ℕ). AddsFileless f id.number (ownership_of tail) (table_of old.image home) (table_of mid.image home)) index (enters.adds honest) in
           subst (λ (l : List ℕ). NamesMore 1 (ownership_of tail) l (table_of old.image home) (table_of new.image home))
           (ap blocks_named (here honest) ∙ enters.extension.names)
           (adds-linked 1 id.number (ownership_of tail) (table_of old.image home) (table_of mid.image home) (table_of new.image home) live adds there)

@@ -10,13 +10,13 @@ use Rattle.f11_store.specs.File.{need}
 use Rattle.f11_store.specs.Store.{Store, index_file}
 use Rattle.f11_store.specs.declared.refusals.Refusal.{Refusal}
 use Rattle.f11_volume.specs.Sound.{HasSoundVolume}
-use Rattle.f11_files.specs.Answers.{Writes, Breaks}
+use Rattle.f11_files.specs.Answers.{WritesAtMost, Breaks}
 use Rattle.f11_store.specs.Pieces.{with_more_free, TakesSome}
 use Rattle.f11_files.specs.GrowingIndex.Runs.{AddsSlots, AppendingSlots, AppendsSlots, GrewIndex, GrowingIndexBy, GrowsSome}
 use Rattle.f11_files.specs.Extending.Growing.{Taking, IsGrowing}
 use Rattle.f11_store.specs.IndexPieces.{MayGrowIndex}
 use Rattle.f11_image_store.specs.StoreOf.{store_of}
-use Rattle.f11_files.specs.Structure.{bitmap_in, home_of, store_on, IsFor, StaysFor}
+use Rattle.f11_files.specs.Structure.{bitmap_in, home_of, store_on, IsStructureFor, StaysFor}
 use Rattle.f11_files.specs.Extending.Tail.{HoldsLast, ownership_of}
 use Rattle.f11_files.specs.Extending.Take.{TakesRun}
 use Rattle.f11_files.specs.declared.structure.Structure.{Structure}
@@ -40,12 +40,12 @@ taking-grows s most old image is honest =
 pub fails-take : (s : Structure) (from most : ℕ) (old new : Disk) (r : Refusal) → Breaks (Taking (home_of s) most 0 (store_on s old) old) (blocks_from (bitmap_in s) from + 2) r old new
     → Breaks (GrowingIndexBy (home_of s) (store_on s old) most old) (blocks_from (bitmap_in s) from + 5 * most + 3) r old new
 fails-take s from most old new r breaks = record {
-  grave = breaks.grave;
+  fatal = breaks.fatal;
   undamaged = breaks.undamaged;
   writes = writes-within (λ _. omega arith) (writes-then (taking-grows s most old) (writes-none _ 0 old) breaks.writes);
 }
 
-module _ (s t : Structure) (tail : Tail) (from most lbn count : ℕ) (old mid : Disk) (for : IsFor s old) (last : HoldsLast s tail old)
+module _ (s t : Structure) (tail : Tail) (from most lbn count : ℕ) (old mid : Disk) (for : IsStructureFor s old) (last : HoldsLast s tail old)
     (may : IsTrue old.honest → MayGrowIndex (store_on s old) most) (takes : TakesRun s t from most lbn count old mid) (stays : StaysFor false s t mid) where
   abbrev home : HomeFields
   home = home_of s
@@ -78,7 +78,7 @@ module _ (s t : Structure) (tail : Tail) (from most lbn count : ℕ) (old mid : 
   pub sound-moment : (image : Image) → P image → IsTrue old.honest → HasSoundVolume image home
   sound-moment image is honest = (is honest).sound
 
-  taken : Writes P (blocks_to (bitmap_in s) from (lbn + count) + blocks_touched lbn count) old mid 0
+  taken : WritesAtMost P (blocks_to (bitmap_in s) from (lbn + count) + blocks_touched lbn count) old mid 0
   taken = record { transfers = takes.writes.transfers; went = went_weaker (Taking home most 0 st old) P (taking-grows s most old) takes.writes.went; few = takes.writes.few }
 
   appending-moment : (image : Image) → AppendingSlots t count mid image → P image

@@ -17,9 +17,9 @@ use Rattle.f11_store.specs.declared.refusals.Refusal.{Refusal}
 use Rattle.f11_store.specs.declared.refusals.Refusal.TheVariants.{DeviceFault}
 use Rattle.f11_volume.specs.Sound.{HasSoundVolume}
 use Rattle.f11_volume.specs.Volume.{volume_of}
-use Rattle.f11_writes.specs.NameLaws.{AreSpare}
+use Rattle.f11_writes.specs.NameLaws.{AreUnreferenced}
 use Rattle.f11_image_store.specs.Allocation.{AddsZeroSlots, NamesMore}
-use Rattle.f11_files.specs.Answers.{Writes, Breaks}
+use Rattle.f11_files.specs.Answers.{WritesAtMost, Breaks}
 use Rattle.f11_store.specs.Pieces.{with_more_free, file_numbered, TakesSome, with_slots_named}
 use Rattle.f11_image_store.specs.FileLaws.{room_in}
 use Rattle.f11_files.specs.GrowingIndex.Runs.{AppendingSlots, AppendsSlots, GrewIndex}
@@ -27,7 +27,7 @@ use Rattle.f11_files.specs.Extending.Growing.{SameFree}
 use Rattle.f11_files.specs.GrowingIndex.Slots.{MayBecomeSlots, NamesSlots, NamingSlots, FailsToNameSlots}
 use Rattle.f11_store.specs.IndexPieces.{MayGrowIndex}
 use Rattle.f11_image_store.specs.StoreOf.{store_of}
-use Rattle.f11_files.specs.Structure.{bitmap_in, home_of, store_on, IsFor, StaysFor}
+use Rattle.f11_files.specs.Structure.{bitmap_in, home_of, store_on, IsStructureFor, StaysFor}
 use Rattle.f11_files.specs.Extending.Tail.{HoldsLast, HasNoPlace, MayBeGiven, pointers_more, whose, ownership_of}
 use Rattle.f11_files.specs.Extending.Zeros.{Keeping, Zeroes, FailsToZero}
 use Rattle.f11_files.specs.declared.structure.Structure.{Structure}
@@ -39,8 +39,8 @@ use Rattle.f11_files.proofs.GrowingIndex.Growing.{slots-same, index-behind}
 use Rattle.f11_store.proofs.IndexPieceLemmas.{slots-named}
 use Rattle.f11_files.proofs.Extending.Zeroed.{free-mid, now-for, now-last, now-given}
 
-module _ (s : Structure) (tail : Tail) (lbn count : ℕ) (old : Disk) (for : IsFor s old) (last : HoldsLast s tail old) (index : tail.file.number ≡ 1) (within : lbn + count ≤ (bitmap_in s).size) (some : 0 < count)
-    (few : count ≤ 256) (spare : IsTrue old.honest → AreSpare (volume_of old.image (home_of s)) lbn count) (reserved : count ≤ room s.index)
+module _ (s : Structure) (tail : Tail) (lbn count : ℕ) (old : Disk) (for : IsStructureFor s old) (last : HoldsLast s tail old) (index : tail.file.number ≡ 1) (within : lbn + count ≤ (bitmap_in s).size) (some : 0 < count)
+    (few : count ≤ 256) (unreferenced : IsTrue old.honest → AreUnreferenced (volume_of old.image (home_of s)) lbn count) (reserved : count ≤ room s.index)
     (may : IsTrue old.honest → MayGrowIndex (with_more_free (store_on s old) count) count) where
   abbrev home : HomeFields
   home = home_of s
@@ -67,11 +67,11 @@ module _ (s : Structure) (tail : Tail) (lbn count : ℕ) (old : Disk) (for : IsF
 
   -- the blocks are zeros
   module _ (mid : Disk) (zeroed : Zeroes home lbn count old mid) where
-    zeros-written : Writes P count old mid 0
+    zeros-written : WritesAtMost P count old mid 0
     zeros-written = went-writes (went_weaker (Keeping home old) P zero-moment zeroed.went)
 
     zeros-free : IsTrue old.honest → SameFree home old.image mid.image
-    zeros-free = free-mid s tail lbn count old mid for last within some few spare zeroed
+    zeros-free = free-mid s tail lbn count old mid for last within some few unreferenced zeroed
 
     zeros-table : IsTrue old.honest → table_of mid.image home ≡ table_of old.image home
     zeros-table honest = (zeroed.keeps honest).volume.index_file.table
@@ -94,17 +94,17 @@ module _ (s : Structure) (tail : Tail) (lbn count : ℕ) (old : Disk) (for : IsF
 
     -- it has no place for them, and nothing was done
     module _ (now : Disk) (after : Tail) (full : HasNoPlace tail after lbn count mid now) (u : Structure) (same_is : u ≡ s) where
-      pub then-for : IsFor u now
-      then-for = subst (λ (x : Structure). IsFor x now) (sym same_is) (now-for s tail lbn count old mid for last within some few spare zeroed now after full)
+      pub then-for : IsStructureFor u now
+      then-for = subst (λ (x : Structure). IsStructureFor x now) (sym same_is) (now-for s tail lbn count old mid for last within some few unreferenced zeroed now after full)
 
       pub then-last : HoldsLast u after now
-      then-last = subst (λ (x : Structure). HoldsLast x after now) (sym same_is) (now-last s tail lbn count old mid for last within some few spare zeroed now after full)
+      then-last = subst (λ (x : Structure). HoldsLast x after now) (sym same_is) (now-last s tail lbn count old mid for last within some few unreferenced zeroed now after full)
 
       pub then-index : after.file.number ≡ 1
       then-index = ap (λ (x : Tail). x.file.number) full.tail_is ∙ index
 
       pub then-given : MayBeGiven (home_of u) lbn count now
-      then-given = subst (λ (x : Structure). MayBeGiven (home_of x) lbn count now) (sym same_is) (now-given s tail lbn count old mid for last within some few spare zeroed now after full)
+      then-given = subst (λ (x : Structure). MayBeGiven (home_of x) lbn count now) (sym same_is) (now-given s tail lbn count old mid for last within some few unreferenced zeroed now after full)
 
       pub then-within : lbn + count ≤ (bitmap_in u).size
       then-within = subst (λ (x : Structure). lbn + count ≤ (bitmap_in x).size) (sym same_is) within

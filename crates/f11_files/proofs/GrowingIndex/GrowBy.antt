@@ -18,13 +18,13 @@ use Rattle.f11_store.specs.declared.refusals.Refusal.{Refusal}
 use Rattle.f11_volume.specs.Sound.{HasSoundVolume}
 use Rattle.f11_volume.specs.Volume.{volume_of}
 use Rattle.f11_image_store.specs.Allocation.{GainsSlotsAs}
-use Rattle.f11_files.specs.Answers.{Meanwhile, Writes, Breaks}
+use Rattle.f11_files.specs.Answers.{Meanwhile, WritesAtMost, Breaks}
 use Rattle.f11_files.specs.GrowingIndex.Runs.{AddsSlots, GrewIndex, GrowingIndexBy, GrowsIndexBy, GrowsSome}
 use Rattle.f11_files.specs.Extending.Growing.{IsGrowing}
 use Rattle.f11_store.specs.IndexPieces.{MayGrowIndex}
 use Rattle.f11_store.specs.Pieces.{TakesSome}
 use Rattle.f11_image_store.specs.StoreOf.{store_of}
-use Rattle.f11_files.specs.Structure.{bitmap_in, home_of, store_on, IsFor, StaysFor}
+use Rattle.f11_files.specs.Structure.{bitmap_in, home_of, store_on, IsStructureFor, StaysFor}
 use Rattle.f11_files.specs.Extending.Tail.{HoldsLast, whose, ownership_of}
 use Rattle.f11_files.specs.Extending.Take.{NoneBelow}
 use Rattle.f11_files.specs.declared.structure.Structure.{Structure}
@@ -55,7 +55,7 @@ pub record GrowingOn (s t : Structure) (tail later : Tail) (n from left : ℕ) (
   pub gains : IsTrue old.honest → GainsSlotsAs (ownership_of tail) done (volume_of old.image (home_of s)) (volume_of now.image (home_of s))
   pub grew : GrewIndex (Meanwhile (index_work s n old) (home_of s) old) (home_of s) (store_on s old) done (from / 4096 + 5 * done) old now
 
-module _ (s : Structure) (tail : Tail) (n : ℕ) (old : Disk) (for : IsFor s old) (last : HoldsLast s tail old) (index : tail.file.number ≡ 1) (reserved : n ≤ room s.index)
+module _ (s : Structure) (tail : Tail) (n : ℕ) (old : Disk) (for : IsStructureFor s old) (last : HoldsLast s tail old) (index : tail.file.number ≡ 1) (reserved : n ≤ room s.index)
     (may : IsTrue old.honest → MayGrowIndex (store_on s old) n) where
   abbrev home : HomeFields
   home = home_of s
@@ -147,7 +147,7 @@ module _ (s : Structure) (tail : Tail) (n : ℕ) (old : Disk) (for : IsFor s old
         let sum = so_far.sum in
         omega (arith, headers, room, sum)
 
-    written : Writes P (from / 4096 + 5 * so_far.done + 3 * need (index_file st).room n) old now 0
+    written : WritesAtMost P (from / 4096 + 5 * so_far.done + 3 * need (index_file st).room n) old now 0
     written = record {
       transfers = so_far.grew.transfers;
       went = so_far.grew.went;

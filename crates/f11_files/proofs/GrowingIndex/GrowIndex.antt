@@ -8,7 +8,7 @@ use Rattle.f11_dev.proofs.WentLemmas.{went_looked, went_more, went_weaker}
 use Rattle.f11_home.specs.Home.{HomeFields}
 use Rattle.f11_chain.specs.Calls.{ReadsLast}
 use Rattle.f11_index.specs.IndexFile.{Index, slots}
-use Rattle.f11_index.specs.Kept.{index_kept, LiesWithin}
+use Rattle.f11_index.specs.Kept.{index_kept, IndexLiesWithin}
 use Rattle.f11_index.specs.declared.index_file.IndexFile.{IndexFile}
 use Rattle.f11_chain.specs.declared.blocks.FileEnd.{FileEnd}
 use Rattle.f11_store.specs.Causes.{first_of, growth_causes}
@@ -23,18 +23,18 @@ use Rattle.f11_store.specs.declared.refusals.Refusal.{Refusal}
 use Rattle.f11_store.proofs.LagLaws.{lags_itself}
 use Rattle.f11_volume.specs.Volume.{volume_of}
 use Rattle.f11_image_store.specs.Allocation.{GainsSlots, ownership_in, GainsSlotsAs}
-use Rattle.f11_files.specs.Answers.{Breaks, FailsToWrite, IsRight, Meanwhile, Reads, Writes, is_among}
+use Rattle.f11_files.specs.Answers.{Breaks, FailsToWrite, IsRight, Meanwhile, ReadsAtMost, WritesAtMost, is_among}
 use Rattle.f11_files.specs.Extending.Mark.{Clearing, ClearsMark}
 use Rattle.f11_files.specs.GrowingIndex.Runs.{FailsToGrow, FindsIndexRoom, GrowsIndexBy, GrowsIndexFile, IsSlotsAfter, index_id}
 use Rattle.f11_files.specs.Finding.First.{HoldsFile}
 use Rattle.f11_store.specs.IndexPieces.{MayGrowIndex}
 use Rattle.f11_files.specs.Operations.{grow_causes}
 use Rattle.f11_image_store.specs.StoreOf.{store_of}
-use Rattle.f11_files.specs.Structure.{index_in, home_of, store_on, IsFor, StaysFor}
+use Rattle.f11_files.specs.Structure.{index_in, home_of, store_on, IsStructureFor, StaysFor}
 use Rattle.f11_files.specs.declared.structure.Structure.{Structure}
 use Rattle.f11_files.proofs.GrowingIndex.ZeroSlots.{slots-add}
 use Rattle.f11_files.proofs.AnswerLemmas.{right-fault, reads-within}
-use Rattle.f11_files.proofs.Extending.Cleared.{enough, fewer-needed, grave-right, covered, image-read, honest-read, reads-found, honest-cleared, tail-ownership}
+use Rattle.f11_files.proofs.Extending.Cleared.{enough, fewer-needed, fatal-right, covered, image-read, honest-read, reads-found, honest-cleared, tail-ownership}
 use Rattle.f11_files.proofs.GrowingIndex.IndexFile.{index-is}
 use Rattle.f11_store.proofs.IndexPieceLagLemmas.{cleared-grow-lags}
 use Rattle.f11_store.proofs.IndexPieceLemmas.{cleared-grow, cleared-grows}
@@ -51,9 +51,9 @@ module _ (s : Structure) (index : IndexFile) (kept : index_kept index ≡ index_
   r = record s { index = index }
 
   -- where there is room for more slots, what is kept is the disk's still
-  pub reserved-for : (disk : Disk) → IsFor s disk → IsFor r disk
+  pub reserved-for : (disk : Disk) → IsStructureFor s disk → IsStructureFor r disk
   reserved-for disk for = record {
-    lies = record { index = subst (λ (x : Index). LiesWithin x (length disk.image)) (sym kept) for.lies.index; bitmap = for.lies.bitmap; volume = for.lies.volume };
+    lies = record { index = subst (λ (x : Index). IndexLiesWithin x (length disk.image)) (sym kept) for.lies.index; bitmap = for.lies.bitmap; volume = for.lies.volume };
     sound = for.sound;
     keeps = λ honest. let keeps = for.keeps honest in record { index_is = kept ∙ keeps.index_is; bitmap_is = keeps.bitmap_is; free = keeps.free };
   }
@@ -86,7 +86,7 @@ no-want s n r failed honest right is =
 pub read-cost : (s : Store) (f : File) (n : ℕ) → header_count f + 1 ≤ growth_cost s f n
 read-cost s f n = let many = enough s.index_bitmap_blocks ((n + 101) / 102) in omega (arith, many)
 
-module _ (s : Structure) (n : ℕ) (end : FileEnd) (was last : List ℕ) (old read : Disk) (for : IsFor s old) (finds : FindsIndexRoom s n end was last old read) where
+module _ (s : Structure) (n : ℕ) (end : FileEnd) (was last : List ℕ) (old read : Disk) (for : IsStructureFor s old) (finds : FindsIndexRoom s n end was last old read) where
   abbrev home : HomeFields
   home = home_of s
 
@@ -124,7 +124,7 @@ module _ (s : Structure) (n : ℕ) (end : FileEnd) (was last : List ℕ) (old re
     no-cause : first_of (grow_causes st n) ≡ None
     no-cause = ap (λ (b : Bool). cond b (Some IndexLimit) (first_of (growth_causes st file n))) (le-ltb st.limit (st.slots + n) (finds.within honest)) ∙ no-growth-cause
 
-  reads-there : Reads (header_count file) old read 0
+  reads-there : ReadsAtMost (header_count file) old read 0
   reads-there =
       let reads = reads-found s index_id n end was last old read for finds.room in
       record { reads = reads.reads; looked = reads.looked; few = λ honest. let few = reads.few honest in let same = ap header_count (named honest) in omega (arith, few, same) }
@@ -174,7 +174,7 @@ module _ (s : Structure) (n : ℕ) (end : FileEnd) (was last : List ℕ) (old re
     room-cleared : IsTrue old.honest → (index_file after).room ≡ file.room
     room-cleared honest = ap (λ (x : Store). (index_file x).room) (store-cleared honest) ∙ cleared-room st 1
 
-    writes-cleared : Writes (Meanwhile work home old) (header_count file + 1) old cleared 0
+    writes-cleared : WritesAtMost (Meanwhile work home old) (header_count file + 1) old cleared 0
     writes-cleared = writes-behind reads-there (went_weaker (Clearing s index_id read) (Meanwhile work home old) clear-moment clears.went)
 
     pub may-grow : IsTrue cleared.honest → MayGrowIndex after n
@@ -194,8 +194,8 @@ module _ (s : Structure) (n : ℕ) (end : FileEnd) (was last : List ℕ) (old re
 
     pub fails-growing : (r : Refusal) (new : Disk)
         → Breaks (Meanwhile (grow_work (index_file after).room n) home cleared) (after.bitmap_blocks + 5 * n + 3 * need (index_file after).room n + 3) r cleared new → FailsToGrow false home n r old new
-    fails-growing r new breaks = as-grow (λ is. let no : true ≡ false = sym breaks.grave ∙ ap (ltb 18) is in absurd cc)
-        (breaks-off no-cause breaks.grave (grave-right (grow_causes st n) r old.honest breaks.grave (λ honest. breaks.undamaged (still-honest ∙ honest)))
+    fails-growing r new breaks = as-grow (λ is. let no : true ≡ false = sym breaks.fatal ∙ ap (ltb 18) is in absurd cc)
+        (breaks-off no-cause breaks.fatal (fatal-right (grow_causes st n) r old.honest breaks.fatal (λ honest. breaks.undamaged (still-honest ∙ honest)))
         (record {
           transfers = writes-cleared.transfers + breaks.writes.transfers;
           went = went_more (Meanwhile work home old) writes-cleared.went (went_weaker _ (Meanwhile work home old) grown-moment breaks.writes.went);

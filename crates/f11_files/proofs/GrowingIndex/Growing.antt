@@ -7,7 +7,7 @@ use Rattle.f11_home.specs.Home.{HomeFields}
 use Rattle.f11_store.specs.Changes.{GrowsIndex}
 use Rattle.f11_store.specs.File.{need}
 use Rattle.f11_store.specs.Store.{Store, index_file}
-use Rattle.f11_files.specs.Answers.{Writes}
+use Rattle.f11_files.specs.Answers.{WritesAtMost}
 use Rattle.f11_store.specs.Pieces.{with_more_free}
 use Rattle.f11_files.specs.GrowingIndex.Runs.{GrewIndex}
 use Rattle.f11_files.specs.Extending.Growing.{Growing, IsGrowing}
@@ -20,7 +20,7 @@ slots-same home s t n a b same store image is honest =
     subst (λ (x : Store). IsGrowing home 0 (need (index_file x).room n) (GrowsIndex (with_more_free x n) n) x image) (store honest) (is (same ∙ honest))
 
 -- an index file that grew after more was done
-module _ {P Q : Image → Type 0} {home : HomeFields} {s t : Store} {n m most : ℕ} {a b c : Disk} (weaker : (image : Image) → Q image → P image) (store : IsTrue a.honest → t ≡ s) (one : Writes P m a b 0)
+module _ {P Q : Image → Type 0} {home : HomeFields} {s t : Store} {n m most : ℕ} {a b c : Disk} (weaker : (image : Image) → Q image → P image) (store : IsTrue a.honest → t ≡ s) (one : WritesAtMost P m a b 0)
     (grew : GrewIndex Q home t n most b c) where
   moved : IsTrue a.honest → (e : GrowsIndex s n (store_of c.image home)) × (grew.transfers ≤ most + 3 * e.grows.added)
   moved honest =

@@ -11,7 +11,7 @@ use Rattle.f11_store.specs.declared.files.FileId.{FileId}
 use Rattle.f11_volume.specs.Sound.{HasSoundVolume}
 use Rattle.f11_writes.specs.Kept.{file_in}
 use Rattle.f11_image_store.specs.StoreOf.{as_seen, store_of}
-use Rattle.f11_files.specs.Structure.{home_of, store_on, IsFor}
+use Rattle.f11_files.specs.Structure.{home_of, store_on, IsStructureFor}
 use Rattle.f11_files.specs.declared.structure.Structure.{Structure}
 use Rattle.f11_files.proofs.Finding.Named.{file-stored, named-is}
 use Rattle.f11_image_store.proofs.StoreLemmas.{file-at}
@@ -27,7 +27,7 @@ index-stored image home is =
     ∙ file-at image (table_of image home) 1 (Some (as_seen 1 (file_in home 1 image))) (λ _. refl) (λ none. absurd (none (index-named image home is).0))
 
 -- and by that identification it is found
-pub index-is : (s : Structure) (disk : Disk) → IsFor s disk → IsTrue disk.honest → (f : FileId) → f.number ≡ 1 → f.sequence ≡ 1
+pub index-is : (s : Structure) (disk : Disk) → IsStructureFor s disk → IsTrue disk.honest → (f : FileId) → f.number ≡ 1 → f.sequence ≡ 1
     → (is_missing (store_on s disk) f ≡ false) × (file_named (store_on s disk) f ≡ index_file (store_on s disk))
     × ((store_on s disk).file 1 ≡ Some (index_file (store_on s disk)))
 index-is s disk for honest f number sequence =

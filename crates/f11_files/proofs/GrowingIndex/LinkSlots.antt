@@ -21,24 +21,24 @@ use Rattle.f11_store.specs.declared.files.FileId.{FileId}
 use Rattle.f11_volume.specs.Volume.{Volume}
 use Rattle.f11_writes.specs.Kept.{WritesGrowth}
 use Rattle.f11_writes.proofs.GrowLemmas.{links-keep}
-use Rattle.f11_image_store.specs.Allocation.{AddsZeroSlots, LinksLoose}
+use Rattle.f11_image_store.specs.Allocation.{AddsZeroSlots, LinksFileless}
 use Rattle.f11_image_store.specs.FileLaws.{HasSlotsMore, LinksOnTo}
 use Rattle.f11_files.specs.Extending.Growing.{SameFree}
 use Rattle.f11_files.specs.GrowingIndex.Slots.{MayBecomeSlots, LinkingSlots, LinksSlots, NamesThese, with_slots_linked}
 use Rattle.f11_files.specs.Extending.Link.{MayFollow}
-use Rattle.f11_files.specs.Structure.{index_in, bitmap_in, home_of, IsFor, StaysFor}
+use Rattle.f11_files.specs.Structure.{index_in, bitmap_in, home_of, IsStructureFor, StaysFor}
 use Rattle.f11_files.specs.Extending.Tail.{HoldsLast, HasStore}
 use Rattle.f11_files.specs.Extending.Zeros.{HoldsZeros}
 use Rattle.f11_files.specs.declared.structure.Structure.{Structure}
 use Rattle.f11_files.specs.declared.extend.tail.Tail.{Tail}
-use Rattle.f11_image_store.proofs.AllocationLemmas.{links-loose}
+use Rattle.f11_image_store.proofs.AllocationLemmas.{links-fileless}
 use Rattle.f11_image_store.proofs.FileLemmas.{HasWritten, as-growth, last-linked, m-stays}
 use Rattle.f11_image_store.proofs.GrowthLemmas.{index-linked}
 use Rattle.f11_files.proofs.Extending.LinkTail.{becomes, links}
 use Rattle.f11_files.proofs.GrowingIndex.ZeroSlots.{zero-grown}
 use Rattle.f11_files.proofs.GrowingIndex.SlotGrowth.{in_use-kept, slots-more, slots-zero, grown-image, grown-stays}
 
-module _ (s : Structure) (tail : Tail) (block : List ℕ) (id : FileId) (lbn count : ℕ) (old : Disk) (for : IsFor s old) (last : HoldsLast s tail old) (early : segment_number tail.block < 255)
+module _ (s : Structure) (tail : Tail) (block : List ℕ) (id : FileId) (lbn count : ℕ) (old : Disk) (for : IsStructureFor s old) (last : HoldsLast s tail old) (early : segment_number tail.block < 255)
     (follows : IsTrue old.honest → MayFollow (table_of old.image (home_of s)) tail id) (sets : SetsLink tail.block block id)
     (one : tail.file.number ≡ 1) (named : NamesThese s id lbn count old) (within : lbn + count ≤ (bitmap_in s).size)
     (zeros : IsTrue old.honest → HoldsZeros old.image lbn count) (slots : MayBecomeSlots s count old) where
@@ -131,8 +131,8 @@ module _ (s : Structure) (tail : Tail) (block : List ℕ) (id : FileId) (lbn cou
         bitmap = refl;
         left = left;
         links = λ honest.
-            subst (λ (i : Image). LinksLoose 1 id.number t (table_of i home)) (sym (image honest))
-            (links-loose old.image next home 1 n id.number block (written honest) (links-one honest));
+            subst (λ (i : Image). LinksFileless 1 id.number t (table_of i home)) (sym (image honest))
+            (links-fileless old.image next home 1 n id.number block (written honest) (links-one honest));
         slots = λ honest. subst (λ (i : Image). AddsZeroSlots t (table_of i home)) (sym (image honest)) (zero-slots honest);
         store = λ honest. subst (HasStore home then) (sym (image honest)) (store-slots honest);
         free = λ honest. subst (SameFree home old.image) (sym (image honest)) (ap (λ (v : Volume). v.free) (wrote-slots honest).slot.volume);

@@ -26,7 +26,7 @@ use Rattle.f11_image_store.specs.FileLaws.{HasSlotsMore, NamesMoreOf}
 use Rattle.f11_files.specs.Extending.Growing.{SameFree}
 use Rattle.f11_files.specs.GrowingIndex.Slots.{MayBecomeSlots, NamingSlots, NamesSlots, FailsToNameSlots}
 use Rattle.f11_store.specs.Pieces.{with_slots_named}
-use Rattle.f11_files.specs.Structure.{index_in, bitmap_in, home_of, store_on, IsFor, StaysFor}
+use Rattle.f11_files.specs.Structure.{index_in, bitmap_in, home_of, store_on, IsStructureFor, StaysFor}
 use Rattle.f11_files.specs.Extending.Tail.{HoldsLast, MayBeGiven, HasStore, pointers_more, ownership_of}
 use Rattle.f11_files.specs.declared.structure.Structure.{Structure}
 use Rattle.f11_files.specs.declared.extend.tail.Tail.{Tail}
@@ -38,7 +38,7 @@ use Rattle.f11_files.proofs.Extending.NameRun.{valid-again, segment-more, link-m
 use Rattle.f11_files.proofs.GrowingIndex.ZeroSlots.{zero-grown}
 use Rattle.f11_files.proofs.GrowingIndex.SlotGrowth.{in_use-kept, slots-more, slots-zero, grown-image, grown-for, grown-stays}
 
-module _ (s : Structure) (tail : Tail) (block : List ℕ) (lbn count : ℕ) (old : Disk) (for : IsFor s old) (last : HoldsLast s tail old)
+module _ (s : Structure) (tail : Tail) (block : List ℕ) (lbn count : ℕ) (old : Disk) (for : IsStructureFor s old) (last : HoldsLast s tail old)
     (given : MayBeGiven (home_of s) lbn count old) (appends : AppendsBlocks tail.block block lbn count)
     (one : tail.file.number ≡ 1) (within : lbn + count ≤ (bitmap_in s).size) (slots : MayBecomeSlots s count old) where
   abbrev home : HomeFields
@@ -130,7 +130,7 @@ module _ (s : Structure) (tail : Tail) (block : List ℕ) (lbn count : ℕ) (old
       was-honest : IsTrue new.honest → IsTrue old.honest
       was-honest honest = sym went.honest ∙ honest
 
-      for-new : IsFor e new
+      for-new : IsStructureFor e new
       for-new = grown-for s after n block lbn count old new for within grown wrote-slots place at is
 
       pub names-stays : StaysFor false s e new

@@ -14,12 +14,12 @@ use Rattle.f11_store.specs.Refusal.{refusal_number}
 use Rattle.f11_store.specs.Store.{Store, file_named, index_file}
 use Rattle.f11_store.specs.declared.refusals.Refusal.{Refusal}
 use Rattle.f11_store.specs.declared.refusals.Refusal.TheVariants.{NoSuchFile, IndexLimit, TooManySegments, DeviceFull, NoHeader, Damaged}
-use Rattle.f11_files.specs.Answers.{FailsToRead, Reads, is_among, faults_of}
+use Rattle.f11_files.specs.Answers.{FailsToRead, ReadsAtMost, is_among, faults_of}
 use Rattle.f11_files.specs.GrowingIndex.Runs.{FindsIndexRoom, index_id}
 use Rattle.f11_files.specs.Operations.{extend_causes, grow_causes}
 use Rattle.f11_files.specs.Extending.Room.{FindsRoom}
 use Rattle.f11_image_store.specs.StoreOf.{store_of, slot_limit}
-use Rattle.f11_files.specs.Structure.{index_in, home_of, store_on, IsFor}
+use Rattle.f11_files.specs.Structure.{index_in, home_of, store_on, IsStructureFor}
 use Rattle.f11_files.specs.declared.structure.Structure.{Structure}
 use Rattle.f11_files.proofs.AnswerLemmas.{right-cause, right-damaged, reads-looked, reads-within}
 use Rattle.f11_files.proofs.GrowingIndex.IndexFile.{index-is}
@@ -45,7 +45,7 @@ among-slots s n r other is = go (eqb 6 (refusal_number r)) refl (eqb 14 (refusal
     go false same true b is = refl
     go false same false b is = is
 
-module _ (s : Structure) (n : ℕ) (old : Disk) (for : IsFor s old) where
+module _ (s : Structure) (n : ℕ) (old : Disk) (for : IsStructureFor s old) where
   abbrev st : Store
   st = store_on s old
 
@@ -87,7 +87,7 @@ module _ (s : Structure) (n : ℕ) (old : Disk) (for : IsFor s old) where
     pub finds-slots : (end : FileEnd) (first last : List ℕ) (new : Disk) → FindsRoom s index_id n end first last old new → FindsIndexRoom s n end first last old new
     finds-slots end first last new room = record { within = within; room = room }
 
-    reads-index : (r : Refusal) (new : Disk) → Reads (header_count (file_named st index_id)) old new (faults_of r) → Reads (header_count (index_file st)) old new (faults_of r)
+    reads-index : (r : Refusal) (new : Disk) → ReadsAtMost (header_count (file_named st index_id)) old new (faults_of r) → ReadsAtMost (header_count (index_file st)) old new (faults_of r)
     reads-index r new reads = record {
       reads = reads.reads;
       looked = reads.looked;
@@ -115,5 +115,5 @@ module _ (s : Structure) (n : ℕ) (old : Disk) (for : IsFor s old) where
           right = right-damaged _ _ (λ honest.
               let first = sym (causes-are honest) ∙ fails.right.cause honest (ap (λ (k : ℕ). ltb 1 k && ltb k 19) six) in
               no-such _ _ _ r six first);
-          reads = subst (λ (k : ℕ). Reads (header_count (index_file st)) old new k) (ap (λ (k : ℕ). cond (eqb k 19) 1 0) six) (reads-index r new fails.reads);
+          reads = subst (λ (k : ℕ). ReadsAtMost (header_count (index_file st)) old new k) (ap (λ (k : ℕ). cond (eqb k 19) 1 0) six) (reads-index r new fails.reads);
         }

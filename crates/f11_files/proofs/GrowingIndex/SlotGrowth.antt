@@ -14,8 +14,8 @@ use Rattle.f11_header.specs.Fields.{file_sequence}
 use Rattle.f11_home.specs.Home.{HomeFields}
 use Rattle.f11_index.specs.Calls.{with_blocks_behind}
 use Rattle.f11_index.specs.Growth.{with_header}
-use Rattle.f11_index.specs.IndexFile.{Index, IsIndex, index_of, index_file, slots, most_slots, is_in_use, header_lbn}
-use Rattle.f11_index.specs.Kept.{index_kept, IsFor as IndexIsFor}
+use Rattle.f11_index.specs.IndexFile.{Index, IsIndex, index_of, index_file_blocks, slots, most_slots, is_in_use, header_lbn}
+use Rattle.f11_index.specs.Kept.{index_kept, IsIndexFor as IndexIsFor}
 use Rattle.f11_index.specs.Table.{table_in, table_of, IsHeaderOf}
 use Rattle.f11_index.specs.declared.index_file.IndexFile.{IndexFile}
 use Rattle.f11_index.proofs.BitLemmas.{is_in_use-within}
@@ -32,7 +32,7 @@ use Rattle.f11_writes.specs.Kept.{WritesGrowth}
 use Rattle.f11_writes.proofs.SlotLemmas.{header-placed-at}
 use Rattle.f11_image_store.specs.FileLaws.{HasSlotsMore}
 use Rattle.f11_image_store.specs.StoreOf.{store_of}
-use Rattle.f11_files.specs.Structure.{index_in, bitmap_in, home_of, IsFor, StaysFor}
+use Rattle.f11_files.specs.Structure.{index_in, bitmap_in, home_of, IsStructureFor, StaysFor}
 use Rattle.f11_files.specs.Extending.Zeros.{HoldsZeros}
 use Rattle.f11_files.specs.declared.structure.Structure.{Structure}
 use Rattle.f11_files.proofs.Changing.Alter.{free-slot}
@@ -59,7 +59,7 @@ module _ (image : Image) (home : HomeFields) (n : ℕ) (block : List ℕ) (lbn c
   next = with_header image home n block
 
   abbrev all : List ℕ
-  all = index_file image home
+  all = index_file_blocks image home
 
   abbrev more : List ℕ
   more = range_with_len lbn count
@@ -100,9 +100,9 @@ module _ (image : Image) (home : HomeFields) (n : ℕ) (block : List ℕ) (lbn c
       let slot = in_use-within image home n (live_of-header of).in_use in
       let placed = header-placed-at image home n is.framed.indexed.file slot.0 slot.1 in
       let there : length all + i - length all ≡ i = omega arith in
-      let front : slice_get (index_file next home) placed.place ≡ Some (header_lbn was n) =
+      let front : slice_get (index_file_blocks next home) placed.place ≡ Some (header_lbn was n) =
       ap (λ (xs : List ℕ). slice_get xs placed.place) wrote.index_file.file ∙ slice_get-append_front all more placed.place (header_lbn was n) placed.at in
-      let behind : slice_get (index_file next home) (length all + i) ≡ Some (header_lbn was n) =
+      let behind : slice_get (index_file_blocks next home) (length all + i) ≡ Some (header_lbn was n) =
       ap (λ (xs : List ℕ). slice_get xs (length all + i)) wrote.index_file.file ∙ slice_get-append_back all more (length all + i) (length all) refl (omega arith)
       ∙ ap (slice_get more) there ∙ range-slice_get lbn count i below ∙ ap Some same in
       let one = index-apart next home wrote.slot.sound placed.place (length all + i) (header_lbn was n) front behind in
@@ -128,7 +128,7 @@ module _ (image : Image) (home : HomeFields) (n : ℕ) (block : List ℕ) (lbn c
   }
 
 -- what is kept has grown with the image's index file
-module _ (s : Structure) (after : IndexFile) (n : ℕ) (block : List ℕ) (lbn count : ℕ) (old new : Disk) (for : IsFor s old) (within : lbn + count ≤ (bitmap_in s).size)
+module _ (s : Structure) (after : IndexFile) (n : ℕ) (block : List ℕ) (lbn count : ℕ) (old new : Disk) (for : IsStructureFor s old) (within : lbn + count ≤ (bitmap_in s).size)
     (grown : index_kept after ≡ with_blocks_behind (index_in s) lbn count)
     (wrote : IsTrue old.honest → WritesGrowth n block lbn count (home_of s) old.image (with_header old.image (home_of s) n block))
     (place : ℕ) (at : place ≡ header_lbn (index_in s) n) (is : new ≡ with_transfer true (with_block_at place block old)) where
@@ -159,7 +159,7 @@ module _ (s : Structure) (after : IndexFile) (n : ℕ) (block : List ℕ) (lbn c
   pub grown-image : IsTrue old.honest → new.image ≡ with_header old.image home n block
   grown-image honest = ap (λ (d : Disk). d.image) new-is ∙ ap (λ (x : Index). set old.image (header_lbn x n) block) (for.keeps honest).index_is
 
-  pub grown-for : IsFor t new
+  pub grown-for : IsStructureFor t new
   grown-for = record {
     lies = record {
       index = index-for.within;

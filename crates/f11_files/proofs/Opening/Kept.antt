@@ -9,7 +9,7 @@ use Rattle.f11_home.proofs.HomeLemmas.{home-unique}
 use Rattle.f11_volume.specs.Sound.{HasSoundVolume}
 use Rattle.f11_volume.specs.Verdict.{IsAccepted}
 use Rattle.f11_volume.proofs.AcceptedLemmas.{accepted-sound, accepted-volume}
-use Rattle.f11_files.specs.Structure.{home_of, Lies, Keeps, HasNoOtherHome, IsFor, StaysFor}
+use Rattle.f11_files.specs.Structure.{home_of, Lies, IsStructureOf, HasNoOtherHome, IsStructureFor, StaysFor}
 use Rattle.f11_files.specs.declared.structure.Structure.{Structure}
 
 -- an accepted image has a sound volume, with the only home block that it has
@@ -27,7 +27,7 @@ opened-home image home sound other is = home-unique image other home is sound.fr
 
 -- so what is kept is for the disk
 pub kept-for : (s : Structure) (disk : Disk) → IsImage disk.image → Lies s (length disk.image) → (IsTrue disk.honest → IsAccepted disk.image) → (IsTrue disk.honest → HasNoOtherHome disk.image (home_of s))
-    → (IsTrue disk.honest → Keeps s disk.image) → IsFor s disk
+    → (IsTrue disk.honest → IsStructureOf s disk.image) → IsStructureFor s disk
 kept-for s disk image_is lies accepted home keeps = record {
   lies = lies;
   sound = λ honest. accepted-opened disk.image (home_of s) image_is (accepted honest) (home honest);
@@ -35,11 +35,11 @@ kept-for s disk image_is lies accepted home keeps = record {
 }
 
 -- a disk that was only read has what it had
-pub looked-for : (s : Structure) (old new : Disk) (most faults : ℕ) → IsFor s old → Looked old new most faults → IsFor s new
+pub looked-for : (s : Structure) (old new : Disk) (most faults : ℕ) → IsStructureFor s old → Looked old new most faults → IsStructureFor s new
 looked-for s old new most faults for looked = record {
   lies = subst (λ (i : Image). Lies s (length i)) (sym looked.image) for.lies;
   sound = λ honest. subst (λ (i : Image). HasSoundVolume i (home_of s)) (sym looked.image) (for.sound (sym looked.honest ∙ honest));
-  keeps = λ honest. subst (Keeps s) (sym looked.image) (for.keeps (sym looked.honest ∙ honest));
+  keeps = λ honest. subst (IsStructureOf s) (sym looked.image) (for.keeps (sym looked.honest ∙ honest));
 }
 
 -- what a call that was answered leaves, whatever the answer
@@ -52,9 +52,9 @@ pub record IsOpened (s : Structure) (failed : Bool) (disk : Disk) : Type 0 where
   pub lies : failed ≡ false → Lies s (length disk.image)
   pub accepted : IsTrue disk.honest → IsAccepted disk.image
   pub home : IsTrue disk.honest → HasNoOtherHome disk.image (home_of s)
-  pub keeps : IsTrue disk.honest → failed ≡ false → Keeps s disk.image
+  pub keeps : IsTrue disk.honest → failed ≡ false → IsStructureOf s disk.image
 
-pub for-opened : (s : Structure) (failed : Bool) (disk : Disk) → IsImage disk.image → IsFor s disk → IsOpened s failed disk
+pub for-opened : (s : Structure) (failed : Bool) (disk : Disk) → IsImage disk.image → IsStructureFor s disk → IsOpened s failed disk
 for-opened s failed disk image_is for = record {
   lies = λ _. for.lies;
   accepted = λ honest. opened-accepted disk.image (home_of s) image_is (for.sound honest);

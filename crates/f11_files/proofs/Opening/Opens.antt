@@ -10,7 +10,7 @@ use Rattle.f11_dev.proofs.LookedLemmas.{looked_more, looked_within}
 use Rattle.f11_home.specs.Home.{HomeFields, candidates, FindsHome, FindsNoHome}
 use Rattle.f11_home.proofs.HomeLemmas.{home-some, home-unique}
 use Rattle.f11_index.specs.IndexFile.{Index, index_of}
-use Rattle.f11_index.specs.Kept.{LiesWithin}
+use Rattle.f11_index.specs.Kept.{IndexLiesWithin}
 use Rattle.f11_volume.specs.Faults.{IsFrameFault}
 use Rattle.f11_vfy.specs.Frames.Frame.{AreOf, ReadsFrame, FindsFrameFault, FailsToReadFrame, LacksFrameMemory, frame_reads}
 use Rattle.f11_vfy.specs.declared.fault.ReadFault.{ReadFault}
@@ -95,7 +95,7 @@ module _ (old : Disk) (image_is : IsImage old.image) (accepted : IsTrue old.hone
       opens s new home_is index_is loads = record {
         is_for = record {
           lies = record {
-            index = subst (λ (x : Index). LiesWithin x (length new.image)) (sym index_is) (subst (λ (n : ℕ). LiesWithin index n) size reads.lie.index_lies);
+            index = subst (λ (x : Index). IndexLiesWithin x (length new.image)) (sym index_is) (subst (λ (n : ℕ). IndexLiesWithin index n) size reads.lie.index_lies);
             bitmap = loads.is_for.within;
             volume = let on = reads.lie.on_device in let at = ap (λ (b : Bitmap). b.size) loads.bitmap_is in omega (arith, on, at, size);
           };

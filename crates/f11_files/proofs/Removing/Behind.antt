@@ -110,23 +110,23 @@ module _ (t u : Table) (f n : ℕ) (others : KeepsOtherSlots n t u) (chained : I
 
   -- the next of a header that is of no file, or of the one that was written
   unlinked-next : (p : ℕ) → IsHeaderOf t f p → segment_number (t.header n) ≤ segment_number (t.header p) → (p ≢ n → ¬ IsInFile u p) → (m : ℕ) → IsNext t p m → IsUnlinked u m
-  unlinked-next p of early loose m goes a in_file links =
+  unlinked-next p of early fileless m goes a in_file links =
       let from : a ≢ n = λ is. ends m (subst (λ (k : ℕ). IsNext u k m) is links) in
       let here : a ≡ p = chained.one a p m (was a from in_file) (record { file = f; of = of }) (next-was t u n others a m from (behind m p goes early) links) goes in
-      loose (λ is. from (here ∙ is)) (subst (IsInFile u) here in_file)
+      fileless (λ is. from (here ∙ is)) (subst (IsInFile u) here in_file)
 
   hangs-on : (most p : ℕ) → IsHeaderOf t f p → most ≡ 255 - segment_number (t.header p) → segment_number (t.header n) ≤ segment_number (t.header p) → (p ≢ n → ¬ IsInFile u p)
       → HangsBehind u (t.header p) (headers_from most t (link_number t p))
-  hangs-on zero p of fuel early loose = elim (whole.links p of) [
+  hangs-on zero p of fuel early fileless = elim (whole.links p of) [
     | inl none ↦ subst (HangsBehind u (t.header p)) (sym (ap (headers_from zero t) none ∙ headers_from-none zero t)) none
     | inr goes ↦ let byte = bytes (link_number t p) in absurd (omega (arith, fuel, byte, goes.segment))
   ]
-  hangs-on (suc most) p of fuel early loose = elim (whole.links p of) [
+  hangs-on (suc most) p of fuel early fileless = elim (whole.links p of) [
     | inl none ↦ subst (HangsBehind u (t.header p)) (sym (ap (headers_from (suc most) t) none ∙ headers_from-none (suc most) t)) none
     | inr goes ↦
         let m : ℕ = link_number t p in
         let same : u.header m ≡ t.header m = others.header m (behind m p goes early) goes.to.in_use in
-        let unlinked : IsUnlinked u m = unlinked-next p of early loose m goes in
+        let unlinked : IsUnlinked u m = unlinked-next p of early fileless m goes in
         let later : 0 < segment_number (u.header m) = let here = ap segment_number same in omega (arith, here, goes.segment) in
         let rest = hangs-on most m (next of goes) (omega (arith, fuel, goes.segment)) (omega (arith, goes.segment, early)) (λ _. unlinked-none u m unlinked later) in
         subst (HangsBehind u (t.header p)) (sym (headers_from-some most t m (live-some goes.to))) (

@@ -44,16 +44,16 @@ use Rattle.f11_writes.proofs.HeaderLemmas.{file-rewrite-keeps}
 use Rattle.f11_writes.proofs.NameLemmas.{own-names, fewer-names, lost-unnamed}
 use Rattle.f11_writes.proofs.OtherSlotLemmas.{turned, in-file-was, nowhere}
 use Rattle.f11_image_store.specs.Allocation.{FreesBlocks, IsEnd, LosesBlocks, LosesHeaders}
-use Rattle.f11_files.specs.Answers.{Writes, Meanwhile}
+use Rattle.f11_files.specs.Answers.{WritesAtMost, Meanwhile}
 use Rattle.f11_files.specs.Removing.Truncate.{FindsLastKept, CutsOff, Cuts, FailsToCut, cut_work}
-use Rattle.f11_files.specs.Removing.Drops.{BreaksOff, AreAllSpare, GivesBlocks, DropsBehind, HangsBehind, headers_behind, tail_cost, without_headers, KeepsBlocksBut}
+use Rattle.f11_files.specs.Removing.Drops.{BreaksOff, AreAllUnreferenced, GivesBlocks, DropsBehind, HangsBehind, headers_behind, tail_cost, without_headers, KeepsBlocksBut}
 use Rattle.f11_image_store.specs.Freeing.{FreesMore, Freeing}
 use Rattle.f11_store.specs.Pieces.{with_more_free}
 use Rattle.f11_image_store.specs.FileLaws.{SaysAlike, MayStand, EndsThere, with_first_headers, pointers_before, pointers_in, room_in}
 use Rattle.f11_files.specs.Extending.Growing.{SameFree}
 use Rattle.f11_files.specs.Operations.{length_causes}
 use Rattle.f11_image_store.specs.StoreOf.{store_of}
-use Rattle.f11_files.specs.Structure.{index_in, home_of, store_on, Lies, Keeps, IsFor}
+use Rattle.f11_files.specs.Structure.{index_in, home_of, store_on, Lies, IsStructureOf, IsStructureFor}
 use Rattle.f11_files.specs.declared.structure.Structure.{Structure}
 use Rattle.f11_files.proofs.Changing.Alter.{keeps-header}
 use Rattle.f11_image_store.proofs.FileLemmas.{as-header, file-ends, of-now}
@@ -100,7 +100,7 @@ frees-cut s t k to headers pointers room frees = frees_lags (one_part k (file_ch
     like true other (Some f) = record { sequence = refl; owner = refl; protection = refl; characteristics = refl; ident = refl; attr = refl; blocks = refl }
     like false other file = alike other
 
-module _ (s : Structure) (f : FileId) (to n keep lbn : ℕ) (block cut : List ℕ) (old read : Disk) (for : IsFor s old) (own : 4 ≤ f.number)
+module _ (s : Structure) (f : FileId) (to n keep lbn : ℕ) (block cut : List ℕ) (old read : Disk) (for : IsStructureFor s old) (own : 4 ≤ f.number)
     (finds : FindsLastKept (home_of s) (index_in s) f to n keep block old read) (cuts : CutsOff keep block cut) (at : lbn ≡ header_lbn (index_in s) n) (old_image : IsImage old.image) where
   abbrev pub h : HomeFields
   h = home_of s
@@ -191,10 +191,10 @@ module _ (s : Structure) (f : FileId) (to n keep lbn : ℕ) (block cut : List �
     pub store-written : store_of written h ≡ base
     store-written = file-stored old.image written h n cut one good.sequence f.number change own of (of-now old.image written h f.number n cut (as-header n cut h old.image written one) stands) file-now
 
-    -- the blocks that it names no more are spare
-    pub spare-written : AreAllSpare (volume_of written h) (drop keep (blocks_named block))
+    -- the blocks that it names no more are unreferenced
+    pub unreferenced-written : AreAllUnreferenced (volume_of written h) (drop keep (blocks_named block))
     unfolding volume_of
-    spare-written =
+    unreferenced-written =
         let v : Volume = volume_of old.image h in
         let xs : List ℕ = blocks_named block in
         let names = subst (λ (b : List ℕ). MayName v n (blocks_named b)) (sym header-is) (own-names v n sound.sound live) in
@@ -271,7 +271,7 @@ module _ (s : Structure) (f : FileId) (to n keep lbn : ℕ) (block cut : List �
   pub fails-written : (new : Disk) → (new ≡ with_transfer false read) ⊎ (new ≡ with_transfer false (with_block_at lbn cut read)) → FailsToCut false h f to DeviceFault old new
   fails-written new is =
       let breaks : BreaksOff h base (segment_number block + 2) DeviceFault old new = record {
-        grave = refl;
+        fatal = refl;
         undamaged = λ _ same. let no : 19 ≡ 20 = ap refusal_number same in omega (arith, no);
         writes = record {
           transfers = segment_number block + 1 + 1;
@@ -288,22 +288,22 @@ module _ (s : Structure) (f : FileId) (to n keep lbn : ℕ) (block cut : List �
     pub honest-now : now.honest ≡ old.honest
     honest-now = ap (λ (d : Disk). d.honest) wrote ∙ finds.looked.honest
 
-    pub first-writes : Writes (Freeing h base old) (segment_number block + 2) old now 0
+    pub first-writes : WritesAtMost (Freeing h base old) (segment_number block + 2) old now 0
     first-writes = record {
       transfers = segment_number block + 1 + 1;
       went = went_more (Freeing h base old) (went_looked (Freeing h base old) finds.looked) (went_write (Freeing h base old) read now lbn cut wrote written-moment);
       few = λ _. omega arith;
     }
 
-    pub written-for : IsFor s now
+    pub written-for : IsStructureFor s now
     written-for = record {
       lies = subst (Lies s) (sym first-writes.went.size) for.lies;
       sound = λ honest. subst (λ (i : Image). HasSoundVolume i h) (sym image-now) (one (sym honest-now ∙ honest)).slot.sound;
-      keeps = λ honest. subst (Keeps s) (sym image-now) (keeps-header s n cut old.image written (one (sym honest-now ∙ honest)) (for.keeps (sym honest-now ∙ honest)));
+      keeps = λ honest. subst (IsStructureOf s) (sym image-now) (keeps-header s n cut old.image written (one (sym honest-now ∙ honest)) (for.keeps (sym honest-now ∙ honest)));
     }
 
-    pub spare-now : IsTrue now.honest → AreAllSpare (volume_of now.image h) (drop keep (blocks_named block))
-    spare-now honest = subst (λ (i : Image). AreAllSpare (volume_of i h) (drop keep (blocks_named block))) (sym image-now) (spare-written (sym honest-now ∙ honest))
+    pub unreferenced-now : IsTrue now.honest → AreAllUnreferenced (volume_of now.image h) (drop keep (blocks_named block))
+    unreferenced-now honest = subst (λ (i : Image). AreAllUnreferenced (volume_of i h) (drop keep (blocks_named block))) (sym image-now) (unreferenced-written (sym honest-now ∙ honest))
 
     store-now : IsTrue old.honest → store_of now.image h ≡ base
     store-now honest = ap (λ (i : Image). store_of i h) image-now ∙ store-written honest
@@ -339,7 +339,7 @@ module _ (s : Structure) (f : FileId) (to n keep lbn : ℕ) (block cut : List �
       frees-given : IsTrue old.honest → FreesMore base (store_of given.image h)
       frees-given honest = subst (FreesMore base) (sym (store-given honest)) (frees-blocks base lost)
 
-      more-writes : Writes (Freeing h base old) (segment_number block + 2 + 4 * pointers_in block) old given 0
+      more-writes : WritesAtMost (Freeing h base old) (segment_number block + 2 + 4 * pointers_in block) old given 0
       more-writes = writes-then (freeing-more h base (store_of now.image h) old now honest-now frees-now) first-writes gives.writes
 
       hangs-given : IsTrue old.honest → HangsBehind w block hs

@@ -28,14 +28,14 @@ use Rattle.f11_volume.specs.Sound.{HasSoundVolume}
 use Rattle.f11_volume.specs.Volume.{Volume, volume_of}
 use Rattle.f11_writes.specs.OtherSlots.{KeepsOtherSlots}
 use Rattle.f11_image_store.specs.Allocation.{FreesBlocks, Kills, LosesHeaders}
-use Rattle.f11_files.specs.Answers.{Writes, refusal_for}
+use Rattle.f11_files.specs.Answers.{WritesAtMost, refusal_for}
 use Rattle.f11_files.specs.Removing.Drops.{BreaksOff, MayDrop, DropsHeader, DropsBehind, HangsBehind, headers_behind, without_header, without_headers, drop_cost, tail_cost}
 use Rattle.f11_image_store.specs.Freeing.{FreesMore, Freeing}
 use Rattle.f11_store.specs.Pieces.{with_more_free}
 use Rattle.f11_image_store.specs.FileLaws.{pointers_in}
 use Rattle.f11_image_store.specs.SlotLaws.{with_use, KeepsOtherBlocks}
 use Rattle.f11_image_store.specs.StoreOf.{store_of}
-use Rattle.f11_files.specs.Structure.{index_in, home_of, store_on, IsFor, StaysFor}
+use Rattle.f11_files.specs.Structure.{index_in, home_of, store_on, IsStructureFor, StaysFor}
 use Rattle.f11_files.specs.declared.structure.Structure.{Structure}
 use Rattle.f11_image_store.proofs.FreeingLemmas.{frees-slot, frees-none, frees-then, frees-blocks, freeing-more}
 use Rattle.f11_files.proofs.Removing.Drop.{drop-store}
@@ -51,11 +51,11 @@ use Rattle.f11_files.proofs.Removing.Behind.{behind-none, behind-some, hangs-are
 
 -- So far headers behind `from` went, up to the one in the block. The others hang behind that, and with them gone the store is that of the end.
 pub record Dropping (s c : Structure) (from block : List ℕ) (old now : Disk) : Type 0 where
-  pub is_for : IsFor c now
+  pub is_for : IsStructureFor c now
   pub home : home_of c ≡ home_of s
   pub holds : IsTrue (holds_header block)
   pub spent : ℕ
-  pub writes : Writes (Freeing (home_of s) (store_on s old) old) spent old now 0
+  pub writes : WritesAtMost (Freeing (home_of s) (store_on s old) old) spent old now 0
   pub few :
       IsTrue old.honest →
       spent + tail_cost (table_of now.image (home_of s)) (headers_behind (table_of now.image (home_of s)) block)
@@ -78,7 +78,7 @@ pub record Dropping (s c : Structure) (from block : List ℕ) (old now : Disk) :
       ≡ without_headers (store_on s old) (table_of old.image (home_of s)) (headers_behind (table_of old.image (home_of s)) from)
   pub hangs : IsTrue old.honest → HangsBehind (table_of now.image (home_of s)) block (headers_behind (table_of now.image (home_of s)) block)
 
-pub dropping-none : (s : Structure) (from : List ℕ) (old : Disk) → IsFor s old → IsTrue (holds_header from)
+pub dropping-none : (s : Structure) (from : List ℕ) (old : Disk) → IsStructureFor s old → IsTrue (holds_header from)
     → (IsTrue old.honest → HangsBehind (table_of old.image (home_of s)) from (headers_behind (table_of old.image (home_of s)) from)) → Dropping s s from from old old
 dropping-none s from old for holds hangs = record {
   is_for = for;
@@ -115,7 +115,7 @@ module _ (s c : Structure) (from block : List ℕ) (old now : Disk) (d : Droppin
   sound-now honest = subst (HasSoundVolume now.image) d.home (d.is_for.sound (now-honest honest))
 
   -- what only reads costs no more than one header
-  more-reads : (reads faults : ℕ) (new : Disk) → reads ≤ 1 → (IsTrue old.honest → (link_of block).number ≢ 0) → Looked now new reads faults → Writes (Freeing h (store_on s old) old) most old new faults
+  more-reads : (reads faults : ℕ) (new : Disk) → reads ≤ 1 → (IsTrue old.honest → (link_of block).number ≢ 0) → Looked now new reads faults → WritesAtMost (Freeing h (store_on s old) old) most old new faults
   more-reads reads faults new few some looked =
       writes-within (λ honest. go (headers_behind u block) (d.few honest) (d.hangs honest) honest)
       (writes-then (λ image is. is) d.writes (record { transfers = 1; went = went_within _ (went_looked (Freeing h (store_on s old) old) looked) few; few = λ _. omega arith }))
@@ -159,7 +159,7 @@ module _ (s c : Structure) (from block : List ℕ) (old now : Disk) (d : Droppin
       → (fault ≡ chain.DeviceFault → FailsToReadNext block now new) → BreaksOff h (store_on s old) most (refusal_for fault) old new
   no-next chain.EndOfFile new never damaged failed = absurd (never refl)
   no-next chain.Damaged new never damaged failed = record {
-    grave = refl;
+    fatal = refl;
     undamaged = λ honest _. go (headers_behind u block) (d.hangs honest) honest;
     writes = more-reads _ 0 new (omega arith) (λ _. (damaged refl).some_link) (damaged refl).looked;
   }
@@ -169,7 +169,7 @@ module _ (s c : Structure) (from block : List ℕ) (old now : Disk) (d : Droppin
       go (n ∷ ns) hangs honest =
           (damaged refl).wrong (now-honest honest) n (subst (λ (t : Table). IsNextOf t block n) (sym (same-table (now-honest honest))) hangs.0)
   no-next chain.DeviceFault new never damaged failed = record {
-    grave = refl;
+    fatal = refl;
     undamaged = λ _ is. let no : 19 ≡ 20 = ap refusal_number is in omega (arith, no);
     writes = more-reads _ 1 new (omega arith) (λ _. (failed refl).some_link) (failed refl).looked;
   }
@@ -179,7 +179,7 @@ module _ (s c : Structure) (from block : List ℕ) (old now : Disk) (d : Droppin
     abbrev rest : List ℕ
     rest = headers_behind u following
 
-    pub read-for : IsFor c read
+    pub read-for : IsStructureFor c read
     read-for = looked-for c now read 1 0 d.is_for reads.looked
 
     read-home : (P : Image → HomeFields → Type 0) → P now.image h → P read.image (home_of c)
@@ -227,7 +227,7 @@ module _ (s c : Structure) (from block : List ℕ) (old now : Disk) (d : Droppin
     read-frees honest =
         read-home (λ i k. FreesMore (store_on s old) (with_file (store_of i k) n None)) (subst (FreesMore (store_on s old)) (sym (no-file honest)) (d.frees honest))
 
-    so-far : Writes (Freeing h (store_on s old) old) (d.spent + 1) old read 0
+    so-far : WritesAtMost (Freeing h (store_on s old) old) (d.spent + 1) old read 0
     so-far = writes-then (λ image is. is) d.writes (record { transfers = 1; went = went_looked (Freeing h (store_on s old) old) reads.looked; few = λ _. omega arith })
 
     pub next-breaks : (r : Refusal) (new : Disk) → BreaksOff (home_of c) (with_file (store_on c read) n None) (drop_cost following) r read new → BreaksOff h (store_on s old) most r old new
@@ -352,7 +352,7 @@ module _ (s c : Structure) (from block : List ℕ) (old now : Disk) (d : Droppin
         spent = d.spent + (3 + 4 * pointers_in following);
         writes = writes-within (λ _. omega arith) (
             writes-then (freeing-more h (store_on s old) (with_file (store_of read.image h) n None) old read (reads.looked.honest ∙ d.writes.went.honest) (λ honest. subst (λ (k : HomeFields). FreesMore (store_on s old) (with_file (store_of read.image k) n None)) d.home (read-frees honest)))
-            so-far (subst (λ (k : HomeFields). Writes (Freeing k (with_file (store_of read.image k) n None) read) (drop_cost following) read new 0) d.home drops.writes)
+            so-far (subst (λ (k : HomeFields). WritesAtMost (Freeing k (with_file (store_of read.image k) n None) read) (drop_cost following) read new 0) d.home drops.writes)
             );
         few = cost-now;
         listed = listed-now;

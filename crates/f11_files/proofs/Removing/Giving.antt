@@ -17,14 +17,14 @@ use Rattle.f11_store.specs.declared.refusals.Refusal.{Refusal}
 use Rattle.f11_volume.specs.Sound.{HasSoundVolume}
 use Rattle.f11_volume.specs.Space.{storage_bitmap}
 use Rattle.f11_volume.specs.Volume.{Volume, volume_of}
-use Rattle.f11_writes.specs.NameLaws.{AreSpare}
+use Rattle.f11_writes.specs.NameLaws.{AreUnreferenced}
 use Rattle.f11_image_store.specs.Allocation.{FreesBlocks}
-use Rattle.f11_files.specs.Answers.{Writes}
-use Rattle.f11_files.specs.Removing.Drops.{BreaksOff, GivesRun, GivesBlocks, AreAllSpare}
+use Rattle.f11_files.specs.Answers.{WritesAtMost}
+use Rattle.f11_files.specs.Removing.Drops.{BreaksOff, GivesRun, GivesBlocks, AreAllUnreferenced}
 use Rattle.f11_image_store.specs.Freeing.{FreesMore, Freeing}
 use Rattle.f11_store.specs.Pieces.{with_more_free}
 use Rattle.f11_image_store.specs.StoreOf.{store_of}
-use Rattle.f11_files.specs.Structure.{home_of, store_on, IsFor, StaysFor}
+use Rattle.f11_files.specs.Structure.{home_of, store_on, IsStructureFor, StaysFor}
 use Rattle.f11_files.specs.declared.structure.Structure.{Structure}
 use Rattle.f11_files.proofs.Removing.Freeing.{writes-then, writes-within, writes-none, breaks-then, breaks-within, stays-for, run-keeps, run-store}
 use Rattle.f11_image_store.proofs.FreeingLemmas.{frees-none, frees-then, frees-blocks, freeing-more}
@@ -54,58 +54,58 @@ module _ (lbn count : ℕ) (rest : List ℕ) where
       let place : count + i - count ≡ i = omega arith in
       slice_get-append_back (range_with_len lbn count) rest (count + i) count (sym (length-range_with_len lbn count)) (omega arith) ∙ ap (slice_get rest) place ∙ at
 
-  -- the first of them are spare
-  pub front-spare : (v : Volume) → AreAllSpare v all → 0 < count → AreSpare v lbn count
-  front-spare v spare some = record {
-    inside = let last = spare.inside _ (lbn + count - 1) (front-at (lbn + count - 1) (omega (arith, some)) (omega (arith, some))) in omega (arith, last, some);
-    used = λ k low high. spare.used _ k (front-at k low high);
-    unnamed = λ k low high. spare.unnamed _ k (front-at k low high);
+  -- the first of them are unreferenced
+  pub front-unreferenced : (v : Volume) → AreAllUnreferenced v all → 0 < count → AreUnreferenced v lbn count
+  front-unreferenced v unreferenced some = record {
+    inside = let last = unreferenced.inside _ (lbn + count - 1) (front-at (lbn + count - 1) (omega (arith, some)) (omega (arith, some))) in omega (arith, last, some);
+    used = λ k low high. unreferenced.used _ k (front-at k low high);
+    unnamed = λ k low high. unreferenced.unnamed _ k (front-at k low high);
   }
 
   -- none of the others is one of them
-  outside : (v : Volume) → AreAllSpare v all → (i k : ℕ) → slice_get rest i ≡ Some k → (k < lbn) ⊎ (lbn + count ≤ k)
-  outside v spare i k at = elim (cases_lt k lbn) [
+  outside : (v : Volume) → AreAllUnreferenced v all → (i k : ℕ) → slice_get rest i ≡ Some k → (k < lbn) ⊎ (lbn + count ≤ k)
+  outside v unreferenced i k at = elim (cases_lt k lbn) [
     | inl below ↦ inl below
     | inr above ↦ elim (cases_lt k (lbn + count)) [
-      | inl inside ↦ let same = spare.apart _ _ k (front-at k above inside) (back-at i k at) in absurd (omega (arith, same, above, inside))
+      | inl inside ↦ let same = unreferenced.apart _ _ k (front-at k above inside) (back-at i k at) in absurd (omega (arith, same, above, inside))
       | inr past ↦ inr past
     ]
   ]
 
-  -- once those are marked free the others are spare still
-  pub rest-spare : (old new : Image) (home : HomeFields) → HasSoundVolume old home → AreAllSpare (volume_of old home) all → 0 < count → Marks true (storage_bitmap old home) lbn count old new
-      → AreAllSpare (volume_of new home) rest
+  -- once those are marked free the others are unreferenced still
+  pub rest-unreferenced : (old new : Image) (home : HomeFields) → HasSoundVolume old home → AreAllUnreferenced (volume_of old home) all → 0 < count → Marks true (storage_bitmap old home) lbn count old new
+      → AreAllUnreferenced (volume_of new home) rest
   unfolding volume_of
-  rest-spare old new home sound spare some marks =
-      let kept = run-keeps old new home lbn count sound (front-spare (volume_of old home) spare some) marks in
-      subst (λ (v : Volume). AreAllSpare v rest) (sym kept.volume) (record {
-        inside = λ i k at. spare.inside _ k (back-at i k at);
-        used = λ i k at. elim (outside (volume_of old home) spare i k at) [
-          | inl below ↦ marks.before k below ∙ spare.used _ k (back-at i k at)
-          | inr past ↦ marks.after k past ∙ spare.used _ k (back-at i k at)
+  rest-unreferenced old new home sound unreferenced some marks =
+      let kept = run-keeps old new home lbn count sound (front-unreferenced (volume_of old home) unreferenced some) marks in
+      subst (λ (v : Volume). AreAllUnreferenced v rest) (sym kept.volume) (record {
+        inside = λ i k at. unreferenced.inside _ k (back-at i k at);
+        used = λ i k at. elim (outside (volume_of old home) unreferenced i k at) [
+          | inl below ↦ marks.before k below ∙ unreferenced.used _ k (back-at i k at)
+          | inr past ↦ marks.after k past ∙ unreferenced.used _ k (back-at i k at)
         ];
-        unnamed = λ i k at. spare.unnamed _ k (back-at i k at);
-        apart = λ i j k one other. let same = spare.apart _ _ k (back-at i k one) (back-at j k other) in omega (arith, same);
+        unnamed = λ i k at. unreferenced.unnamed _ k (back-at i k at);
+        apart = λ i j k one other. let same = unreferenced.apart _ _ k (back-at i k one) (back-at j k other) in omega (arith, same);
       })
 
--- A run of blocks more is free, and these are spare.
+-- A run of blocks more is free, and these are unreferenced.
 record Gave (home : HomeFields) (lbn count : ℕ) (rest : List ℕ) (old new : Image) : Type 0 where
   table : table_of new home ≡ table_of old home
   store : store_of new home ≡ with_more_free (store_of old home) count
   frees : FreesBlocks (range_with_len lbn count) (volume_of old home) (volume_of new home)
-  spare : AreAllSpare (volume_of new home) rest
+  unreferenced : AreAllUnreferenced (volume_of new home) rest
 
-gave : (home : HomeFields) (lbn count : ℕ) (rest : List ℕ) (old new : Disk) → HasSoundVolume old.image home → AreAllSpare (volume_of old.image home) (range_with_len lbn count ++ rest)
+gave : (home : HomeFields) (lbn count : ℕ) (rest : List ℕ) (old new : Disk) → HasSoundVolume old.image home → AreAllUnreferenced (volume_of old.image home) (range_with_len lbn count ++ rest)
     → (0 < count) ⊎ (count ≤ 0) → IsTrue old.honest → GivesRun home lbn count old new → Gave home lbn count rest old.image new.image
-gave home lbn count rest old new sound spare (inl some) honest gives =
-    let one = front-spare lbn count rest (volume_of old.image home) spare some in
+gave home lbn count rest old new sound unreferenced (inl some) honest gives =
+    let one = front-unreferenced lbn count rest (volume_of old.image home) unreferenced some in
     record {
       table = (run-keeps old.image new.image home lbn count sound one (gives.marks honest)).index_file.table;
       store = run-store old.image new.image home lbn count sound one (gives.marks honest);
       frees = frees-run old.image new.image home lbn count (run-keeps old.image new.image home lbn count sound one (gives.marks honest)) (gives.marks honest);
-      spare = rest-spare lbn count rest old.image new.image home sound spare some (gives.marks honest);
+      unreferenced = rest-unreferenced lbn count rest old.image new.image home sound unreferenced some (gives.marks honest);
     }
-gave home lbn count rest old new sound spare (inr none) honest gives =
+gave home lbn count rest old new sound unreferenced (inr none) honest gives =
     let zero_is : count ≡ 0 = omega (arith, none) in
     let here : List ℕ = range_with_len lbn count ++ rest in
     let same : here ≡ rest = ap (λ (n : ℕ). range_with_len lbn n ++ rest) zero_is in
@@ -116,22 +116,22 @@ gave home lbn count rest old new sound spare (inr none) honest gives =
       frees =
           let v : Volume = volume_of old.image home in
           subst (λ (n : ℕ). FreesBlocks (range_with_len lbn n) v v) (sym zero_is) (frees-nothing v);
-      spare = subst (AreAllSpare (volume_of old.image home)) same spare;
+      unreferenced = subst (AreAllUnreferenced (volume_of old.image home)) same unreferenced;
     })
 
 -- Of all these blocks the rest is still to be marked free; so many pointers are done.
 pub record Giving (s t : Structure) (all rest : List ℕ) (pointers : ℕ) (old now : Disk) : Type 0 where
-  pub is_for : IsFor t now
+  pub is_for : IsStructureFor t now
   pub home : home_of t ≡ home_of s
-  pub writes : Writes (Freeing (home_of s) (store_on s old) old) (4 * pointers) old now 0
+  pub writes : WritesAtMost (Freeing (home_of s) (store_on s old) old) (4 * pointers) old now 0
   pub table : IsTrue old.honest → table_of now.image (home_of s) ≡ table_of old.image (home_of s)
   pub free : IsTrue old.honest → with_more_free (store_of now.image (home_of s)) (length rest) ≡ with_more_free (store_on s old) (length all)
   pub frees : IsTrue old.honest → FreesMore (store_on s old) (store_of now.image (home_of s))
   pub bits : IsTrue old.honest → FreeAlike all rest (volume_of old.image (home_of s)) (volume_of now.image (home_of s))
-  pub spare : IsTrue old.honest → AreAllSpare (volume_of now.image (home_of s)) rest
+  pub unreferenced : IsTrue old.honest → AreAllUnreferenced (volume_of now.image (home_of s)) rest
 
-pub giving-none : (s : Structure) (lbns : List ℕ) (old : Disk) → IsFor s old → (IsTrue old.honest → AreAllSpare (volume_of old.image (home_of s)) lbns) → Giving s s lbns lbns 0 old old
-giving-none s lbns old for spare = record {
+pub giving-none : (s : Structure) (lbns : List ℕ) (old : Disk) → IsStructureFor s old → (IsTrue old.honest → AreAllUnreferenced (volume_of old.image (home_of s)) lbns) → Giving s s lbns lbns 0 old old
+giving-none s lbns old for unreferenced = record {
   is_for = for;
   home = refl;
   writes = writes-none _ 0 old;
@@ -139,7 +139,7 @@ giving-none s lbns old for spare = record {
   free = λ _. refl;
   frees = λ _. frees-none (store_on s old);
   bits = λ _. alike-same lbns (volume_of old.image (home_of s));
-  spare = spare;
+  unreferenced = unreferenced;
 }
 
 -- the pointer's blocks first
@@ -160,10 +160,10 @@ more-twice s m n = let sum : s.free + m + n ≡ s.free + (m + n) = omega arith i
 
 module _ (s t : Structure) (all : List ℕ) (lbn count : ℕ) (rest : List ℕ) (pointers : ℕ) (old now : Disk) (giving : Giving s t all (range_with_len lbn count ++ rest) pointers old now) where
   -- in the words of what is kept now
-  pub next-spare : IsTrue now.honest → 0 < count → AreSpare (volume_of now.image (home_of t)) lbn count
-  next-spare honest some =
-      subst (λ (h : HomeFields). AreSpare (volume_of now.image h) lbn count) (sym giving.home)
-      (front-spare lbn count rest (volume_of now.image (home_of s)) (giving.spare (sym giving.writes.went.honest ∙ honest)) some)
+  pub next-unreferenced : IsTrue now.honest → 0 < count → AreUnreferenced (volume_of now.image (home_of t)) lbn count
+  next-unreferenced honest some =
+      subst (λ (h : HomeFields). AreUnreferenced (volume_of now.image h) lbn count) (sym giving.home)
+      (front-unreferenced lbn count rest (volume_of now.image (home_of s)) (giving.unreferenced (sym giving.writes.went.honest ∙ honest)) some)
 
   module _ (u : Structure) (new : Disk) where
     pub giving-next : GivesRun (home_of t) lbn count now new → StaysFor false t u new → Giving s u all rest (pointers + 1) old new
@@ -185,7 +185,7 @@ module _ (s t : Structure) (all : List ℕ) (lbn count : ℕ) (rest : List ℕ) 
               let is : Volume = volume_of new.image (home_of s) in
               alike-then all (range_with_len lbn count ++ rest) rest (volume_of old.image (home_of s)) was is (giving.bits honest)
               (first-freed (range_with_len lbn count) rest was is (done honest).frees);
-          spare = λ honest. (done honest).spare;
+          unreferenced = λ honest. (done honest).unreferenced;
         }
       where
         counted : length (range_with_len lbn count ++ rest) ≡ count + length rest
@@ -194,7 +194,7 @@ module _ (s t : Structure) (all : List ℕ) (lbn count : ℕ) (rest : List ℕ) 
         done : IsTrue old.honest → Gave (home_of s) lbn count rest now.image new.image
         done honest =
             let now_honest : IsTrue now.honest = giving.writes.went.honest ∙ honest in
-            gave (home_of s) lbn count rest now new (subst (HasSoundVolume now.image) giving.home (giving.is_for.sound now_honest)) (giving.spare honest) (cases_lt 0 count) now_honest
+            gave (home_of s) lbn count rest now new (subst (HasSoundVolume now.image) giving.home (giving.is_for.sound now_honest)) (giving.unreferenced honest) (cases_lt 0 count) now_honest
             (subst (λ (h : HomeFields). GivesRun h lbn count now new) giving.home given)
 
 -- it was broken off

@@ -34,7 +34,7 @@ use Rattle.f11_writes.specs.Kept.{file_in}
 use Rattle.f11_writes.specs.OtherSlots.{KeepsOtherSlots}
 use Rattle.f11_writes.proofs.OtherSlotLemmas.{turned, header-was}
 use Rattle.f11_image_store.specs.Allocation.{FreesBlocks, Kills, LosesHeaders}
-use Rattle.f11_files.specs.Answers.{IsRight, Writes, FailsToWrite, Meanwhile, is_grave, is_cause}
+use Rattle.f11_files.specs.Answers.{IsRight, WritesAtMost, FailsToWrite, Meanwhile, is_fatal, is_cause}
 use Rattle.f11_files.specs.Removing.Delete.{Deletes, FailsToDelete}
 use Rattle.f11_files.specs.Removing.Drops.{BreaksOff, DropsHeader, DropsBehind, HangsBehind, KeepsBlocksBut, headers_behind, drop_cost, tail_cost, without_header, without_headers}
 use Rattle.f11_image_store.specs.Freeing.{FreesMore, Freeing}
@@ -44,7 +44,7 @@ use Rattle.f11_files.specs.Finding.First.{FindsFile, HoldsFile}
 use Rattle.f11_files.specs.Operations.{file_causes}
 use Rattle.f11_image_store.specs.SlotLaws.{with_use, KeepsOtherBlocks}
 use Rattle.f11_image_store.specs.StoreOf.{store_of}
-use Rattle.f11_files.specs.Structure.{index_in, home_of, store_on, IsFor}
+use Rattle.f11_files.specs.Structure.{index_in, home_of, store_on, IsStructureFor}
 use Rattle.f11_files.specs.declared.structure.Structure.{Structure}
 use Rattle.f11_files.proofs.WriteLemmas.{breaks-off}
 use Rattle.f11_image_store.proofs.FreeingLemmas.{frees-slot, frees-none, frees-then, frees-blocks, freeing-more}
@@ -76,24 +76,24 @@ gone-moment home k old image is honest = let there = is honest in record { sound
 -- what was broken off was refused, whatever the causes
 pub breaks-right : {home : HomeFields} {s : Store} {most : ℕ} {r : Refusal} {old new : Disk} (causes : List Cause) → BreaksOff home s most r old new → IsRight false old.honest causes r
 breaks-right causes breaks = record {
-  volume = λ is. let no : true ≡ false = sym breaks.grave ∙ ap is_grave is in cc;
-  among = λ is. absurd (grave-cause _ breaks.grave is);
-  cause = λ _ is. absurd (grave-cause _ breaks.grave is);
+  volume = λ is. let no : true ≡ false = sym breaks.fatal ∙ ap is_fatal is in cc;
+  among = λ is. absurd (fatal-cause _ breaks.fatal is);
+  cause = λ _ is. absurd (fatal-cause _ breaks.fatal is);
   undamaged = breaks.undamaged;
 }
   where
-    grave-cause : (r : Refusal) → is_grave r ≡ true → is_cause r ≡ true → ⊥
-    grave-cause r grave is = grind (arith, nat_tests)
+    fatal-cause : (r : Refusal) → is_fatal r ≡ true → is_cause r ≡ true → ⊥
+    fatal-cause r fatal is = grind (arith, nat_tests)
 
 pub breaks-fails : {home : HomeFields} {s : Store} {most : ℕ} {r : Refusal} {old new : Disk} (causes : List Cause) (work : Work) → (IsTrue old.honest → first_of causes ≡ None)
     → ((image : Image) → Freeing home s old image → Meanwhile work home old image)
     → BreaksOff home s most r old new → FailsToWrite false causes most work home r old new
 breaks-fails {home = home} {s = s} {old = old} causes work none moments breaks =
-    breaks-off none breaks.grave (breaks-right causes breaks)
+    breaks-off none breaks.fatal (breaks-right causes breaks)
     (record { transfers = breaks.writes.transfers; went = went_weaker (Freeing home s old) (Meanwhile work home old) moments breaks.writes.went; few = breaks.writes.few })
 
 -- a file's first header in hand, on an honest disk
-module _ (s : Structure) (f : FileId) (block : List ℕ) (disk : Disk) (for : IsFor s disk) (holds : HoldsFile (index_in s) f block disk) (honest : IsTrue disk.honest) where
+module _ (s : Structure) (f : FileId) (block : List ℕ) (disk : Disk) (for : IsStructureFor s disk) (holds : HoldsFile (index_in s) f block disk) (honest : IsTrue disk.honest) where
   abbrev t : Table
   t = table_of disk.image (home_of s)
 
@@ -134,7 +134,7 @@ module _ (s : Structure) (f : FileId) (block : List ℕ) (disk : Disk) (for : Is
       ∙ ap (λ (bs : List (List ℕ)). length bs) (file-blocks-are disk.image t f.number (whole s f block disk for holds honest)) ∙ length-map (file_blocks t f.number) _
 
 -- the file goes, its first header first
-module _ (s : Structure) (f : FileId) (block : List ℕ) (old read : Disk) (for : IsFor s old) (late : 6 ≤ f.number) (finds : FindsFile (index_in s) f block old read) (old_image : IsImage old.image) where
+module _ (s : Structure) (f : FileId) (block : List ℕ) (old read : Disk) (for : IsStructureFor s old) (late : 6 ≤ f.number) (finds : FindsFile (index_in s) f block old read) (old_image : IsImage old.image) where
   abbrev h : HomeFields
   h = home_of s
 
@@ -147,7 +147,7 @@ module _ (s : Structure) (f : FileId) (block : List ℕ) (old read : Disk) (for 
   abbrev was : Table
   was = table_of old.image h
 
-  read-writes : Writes (Freeing h (with_file (store_on s old) n None) old) 1 old read 0
+  read-writes : WritesAtMost (Freeing h (with_file (store_on s old) n None) old) 1 old read 0
   read-writes = record { transfers = 1; went = went_looked _ finds.looked; few = λ _. omega arith }
 
   cost-was : IsTrue old.honest → 5 * (1 + length (headers_behind was (was.header n))) + 4 * (pointers_in block + sum_by (pointer_count was) (headers_behind was (was.header n))) ≤ most
@@ -303,10 +303,10 @@ module _ (s : Structure) (f : FileId) (block : List ℕ) (old read : Disk) (for 
         ap (λ (ns : List ℕ). is_in ns m) (headers-are s f block old for finds.holds honest)
         ∙ in-behind (n ∷ []) (hs honest) m (ap (λ (ns : List ℕ). is_in ns m) (sym (behind-is honest)) ∙ here)
 
-    first-writes : Writes (Freeing h (with_file (store_on s old) n None) old) (1 + drop_cost block) old now 0
+    first-writes : WritesAtMost (Freeing h (with_file (store_on s old) n None) old) (1 + drop_cost block) old now 0
     first-writes =
-        let here : Writes (Freeing h (with_file (store_on s old) n None) read) (drop_cost block) read now 0 =
-        subst (λ (i : Image). Writes (Freeing h (with_file (store_of i h) n None) read) (drop_cost block) read now 0) finds.looked.image drops.writes in
+        let here : WritesAtMost (Freeing h (with_file (store_on s old) n None) read) (drop_cost block) read now 0 =
+        subst (λ (i : Image). WritesAtMost (Freeing h (with_file (store_of i h) n None) read) (drop_cost block) read now 0) finds.looked.image drops.writes in
         writes-then (freeing-more h (with_file (store_on s old) n None) (with_file (store_on s old) n None) old read finds.looked.honest (λ _. frees-none (with_file (store_on s old) n None))) read-writes here
 
     pub gone-behind : (r : Refusal) (new : Disk) → BreaksOff (home_of c) (store_on c now) (tail_cost (table_of now.image (home_of c)) (headers_behind (table_of now.image (home_of c)) block)) r now new

@@ -25,7 +25,7 @@ use Rattle.f11_store.specs.declared.refusals.Refusal.TheVariants.{EndOfFile}
 use Rattle.f11_writes.specs.Kept.{file_in}
 use Rattle.f11_files.specs.Removing.Truncate.{CutsOff, FindsLastKept}
 use Rattle.f11_files.specs.Finding.First.{FindsFile}
-use Rattle.f11_files.specs.Structure.{index_in, home_of, IsFor}
+use Rattle.f11_files.specs.Structure.{index_in, home_of, IsStructureFor}
 use Rattle.f11_files.specs.declared.structure.Structure.{Structure}
 use Rattle.f11_image_store.proofs.FieldLemmas.{held-from}
 use Rattle.f11_files.proofs.Finding.First.{table-of}
@@ -63,6 +63,7 @@ cuts-off keep old mid new none zero_is held cuts sets =
         protection_is = ap (λ (h : HeaderFields). h.protection) fields;
         characteristics_are = ap (λ (h : HeaderFields). h.characteristics) fields;
         ident_is = ap (λ (h : HeaderFields). h.ident) fields;
+        ident_room_is = sets.header.ident ∙ cuts.header.ident;
         attributes_are = ap (λ (h : HeaderFields). h.attributes) fields;
       };
       no_link = sets.link.link_is ∙ ap (λ (l : FileId). record l { volume = 0 }) zero_is;
@@ -73,7 +74,7 @@ cuts-off keep old mid new none zero_is held cuts sets =
           omega (arith, same, few);
     }
 
-module _ (s : Structure) (f : FileId) (block : List ℕ) (old now : Disk) (for : IsFor s old) (own : 4 ≤ f.number) (finds : FindsFile (index_in s) f block old now) where
+module _ (s : Structure) (f : FileId) (block : List ℕ) (old now : Disk) (for : IsStructureFor s old) (own : 4 ≤ f.number) (finds : FindsFile (index_in s) f block old now) where
   abbrev t : Table
   t = table_of old.image (home_of s)
 

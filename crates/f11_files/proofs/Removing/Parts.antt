@@ -13,21 +13,21 @@ use Rattle.f11_files.specs.Removing.Truncate.{FindsLastKept, CutsOff}
 use Rattle.f11_files.specs.Removing.Drops.{GivesBlocks, headers_behind}
 use Rattle.f11_image_store.specs.FileLaws.{pointers_in}
 use Rattle.f11_files.specs.Finding.First.{FindsFile}
-use Rattle.f11_files.specs.Structure.{index_in, home_of, IsFor, StandsAlike, WritesParts}
+use Rattle.f11_files.specs.Structure.{index_in, home_of, IsStructureFor, StandsAlike, WritesParts}
 use Rattle.f11_files.specs.declared.structure.Structure.{Structure}
 use Rattle.f11_files.proofs.Removing.Cut.{behind-listed, honest-now, listed}
 use Rattle.f11_files.proofs.Removing.Gone.{first-listed}
 use Rattle.f11_files.proofs.Confining.Parts.{header-failed, header-wrote, of-none, of-only, parts-behind, parts-then, stands-same, to-parts}
 
 -- its first header was read, and then written
-pub first-parts : (s : Structure) (f : FileId) (block : List ℕ) (old read : Disk) {now : Disk} → IsFor s old → FindsFile (index_in s) f block old read → IsTrue old.honest → WritesParts s (only_header f.number) read now
+pub first-parts : (s : Structure) (f : FileId) (block : List ℕ) (old read : Disk) {now : Disk} → IsStructureFor s old → FindsFile (index_in s) f block old read → IsTrue old.honest → WritesParts s (only_header f.number) read now
     → WritesParts s (is_in (headers_of (table_of old.image (home_of s)) f.number)) old now
 first-parts s f block old read for found honest one =
     let all = is_in (headers_of (table_of old.image (home_of s)) f.number) in
     parts-behind s all found.looked (to-parts s all (only_header f.number) [] (of-only all f.number (first-listed s f block old for found.holds honest)) one)
 
 -- the last header that stays was found
-module _ (s : Structure) (f : FileId) (to n keep lbn : ℕ) (block cut : List ℕ) (old read : Disk) (for : IsFor s old) (own : 4 ≤ f.number)
+module _ (s : Structure) (f : FileId) (to n keep lbn : ℕ) (block cut : List ℕ) (old read : Disk) (for : IsStructureFor s old) (own : 4 ≤ f.number)
     (finds : FindsLastKept (home_of s) (index_in s) f to n keep block old read) (cuts : CutsOff keep block cut) (at : lbn ≡ header_lbn (index_in s) n) (old_image : IsImage old.image) (honest : IsTrue old.honest) where
   abbrev all : ℕ → Bool
   all = is_in (headers_of (table_of old.image (home_of s)) f.number)

@@ -16,7 +16,8 @@ use Rattle.f11_image_store.specs.StoreOf.{store_of}
 abbrev pub Alters : (File → File) → HomeFields → FileId → Disk → Disk → Type 0
 Alters change home f old new =
     let s = store_of old.image home in
-    Does (file_causes s f) (one_part f.number (file_changes f.number change)) 2 (λ t. t ≡ with_change s f.number change) KeepsBlocks home old new
+    Does (file_causes s f) (one_part f.number (file_changes f.number change)) 2
+    (λ t. t ≡ with_change s f.number change) KeepsBlocks home old new
 
 -- It was not.
 abbrev pub FailsToAlter : Bool → (File → File) → HomeFields → FileId → Refusal → Disk → Disk → Type 0

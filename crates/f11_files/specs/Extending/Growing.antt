@@ -1,5 +1,5 @@
--- What stands while a file grows, run by run: blocks are marked used, made zeros, and named by the file's last header, or by a new one to which
--- that links then (profile).
+-- What stands while a file grows, run by run: blocks are marked used, made zeros, and named by the file's last header, or by a
+-- new one to which that links then (profile).
 use Rattle.std.specs.Prelude.{◌≡◌, ◌⊎◌, ℕ, ◌+◌, ◌*◌, ◌≤◌, IsTrue}
 use Rattle.f11_dev.specs.Disk.{Disk}
 use Rattle.f11_dev.specs.Image.{Image}

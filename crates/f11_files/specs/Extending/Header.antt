@@ -5,7 +5,7 @@ use Rattle.std.specs.List.{range_with_len}
 use Rattle.f11_chain.specs.Calls.{HoldsHeader}
 use Rattle.f11_dev.specs.Disk.{Disk}
 use Rattle.f11_dev.specs.Image.{Image}
-use Rattle.f11_header.specs.Fields.{file_sequence, owner, protection, characteristics, attributes}
+use Rattle.f11_header.specs.Fields.{file_sequence, owner, protection, characteristics, attributes, ident_room}
 use Rattle.f11_header.specs.Header.{IsHeader}
 use Rattle.f11_index.specs.Calls.{SetsBit}
 use Rattle.f11_map.specs.HeaderBlock.{segment_number, link_of, blocks_named}
@@ -14,8 +14,8 @@ use Rattle.f11_index.specs.Table.{table_of}
 use Rattle.f11_store.specs.Changes.{with_slots}
 use Rattle.f11_store.specs.Store.{least_free}
 use Rattle.f11_store.specs.declared.files.FileId.{FileId}
-use Rattle.f11_image_store.specs.Allocation.{AddsLoose, AddsZeroSlots, NamesMore}
-use Rattle.f11_files.specs.Answers.{Writes}
+use Rattle.f11_image_store.specs.Allocation.{AddsFileless, AddsZeroSlots, NamesMore}
+use Rattle.f11_files.specs.Answers.{WritesAtMost}
 use Rattle.f11_image_store.specs.Confines.{new_header}
 use Rattle.f11_store.specs.Pieces.{with_more_free}
 use Rattle.f11_image_store.specs.FileLaws.{pointers_in, room_in}
@@ -28,8 +28,8 @@ use Rattle.f11_files.specs.Extending.Zeros.{HoldsZeros}
 use Rattle.f11_files.specs.declared.structure.Structure.{Structure}
 use Rattle.f11_files.specs.declared.extend.tail.Tail.{Tail}
 
--- A block is a valid header for the run, in a file behind its last one: it has the owner and the protection of the file, no characteristics,
--- attributes of zeros, one pointer in 102 places, and no link.
+-- A block is a valid header for the run, in a file behind its last one: it has the owner and the protection of the file, no
+-- characteristics, attributes and an ident area of zeros, one pointer in 102 places, and no link.
 pub record IsExtension (tail : Tail) (id : FileId) (lbn count : ℕ) (block : List ℕ) : Type 0 where
   pub valid : IsHeader block id.number
   pub sequence : file_sequence block ≡ id.sequence
@@ -37,6 +37,7 @@ pub record IsExtension (tail : Tail) (id : FileId) (lbn count : ℕ) (block : Li
   pub protection_is : protection block ≡ tail.protection
   pub no_characteristics : characteristics block ≡ 0
   pub no_attributes : attributes block ≡ replicate 32 0
+  pub no_ident : ident_room block ≡ replicate 46 0
   pub segment : segment_number block ≡ segment_number tail.block + 1
   pub no_link : (link_of block).number ≡ 0
   pub names : blocks_named block ≡ range_with_len lbn count
@@ -60,11 +61,12 @@ pub record EntersHeader (s after : Structure) (tail : Tail) (lbn count : ℕ) (i
   pub left : room after.index ≡ room s.index
   pub free : IsTrue old.honest → SameFree (home_of s) old.image new.image
   pub adds :
-      IsTrue old.honest → AddsLoose tail.file.number id.number (ownership_of tail) (table_of old.image (home_of s)) (table_of new.image (home_of s))
+      IsTrue old.honest → AddsFileless tail.file.number id.number (ownership_of tail) (table_of old.image (home_of s))
+      (table_of new.image (home_of s))
   pub slots : IsTrue old.honest → AddsZeroSlots (table_of old.image (home_of s)) (table_of new.image (home_of s))
   pub slot : IsTrue old.honest → id.number ≡ least_free (store_on s old)
   pub store : IsTrue old.honest → store_of new.image (home_of s) ≡ with_slots (store_on s old) (id.number ∷ [])
-  pub writes : Writes (Taking (home_of s) 0 1 (store_on s old) old) 3 old new 0
+  pub writes : WritesAtMost (Taking (home_of s) 0 1 (store_on s old) old) 3 old new 0
 
 -- what stands while a file is given so many blocks that were marked used before
 abbrev pub AppendingRun : Structure → Tail → ℕ → Disk → Image → Type 0
@@ -78,5 +80,6 @@ pub record AppendsRun (s after : Structure) (tail later : Tail) (lbn count most 
   pub free : IsTrue old.honest → SameFree (home_of s) old.image new.image
   pub names :
       IsTrue old.honest →
-      NamesMore tail.file.number (ownership_of tail) (range_with_len lbn count) (table_of old.image (home_of s)) (table_of new.image (home_of s))
+      NamesMore tail.file.number (ownership_of tail) (range_with_len lbn count) (table_of old.image (home_of s))
+      (table_of new.image (home_of s))
   pub grew : Grew (AppendingRun s tail count old) (home_of s) (with_more_free (store_on s old) count) tail.file.number count most old new

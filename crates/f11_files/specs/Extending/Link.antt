@@ -9,10 +9,10 @@ use Rattle.f11_index.specs.Headers.{IsInFile, IsLastOf}
 use Rattle.f11_index.specs.Table.{Table, table_of, IsLive, IsNext}
 use Rattle.f11_store.specs.Changes.{with_change}
 use Rattle.f11_store.specs.declared.files.FileId.{FileId}
-use Rattle.f11_image_store.specs.Allocation.{LinksLoose}
+use Rattle.f11_image_store.specs.Allocation.{LinksFileless}
 use Rattle.f11_image_store.specs.FileLaws.{with_header_more}
 use Rattle.f11_files.specs.Extending.Growing.{SameFree}
-use Rattle.f11_files.specs.Structure.{home_of, store_on, IsFor}
+use Rattle.f11_files.specs.Structure.{home_of, store_on, IsStructureFor}
 use Rattle.f11_files.specs.Extending.Tail.{HasStore}
 use Rattle.f11_files.specs.declared.structure.Structure.{Structure}
 use Rattle.f11_files.specs.declared.extend.tail.Tail.{Tail}
@@ -34,10 +34,11 @@ Linking s tail id old image =
 
 -- The link was written: the header is the file's last one then, and as it was.
 pub record LinksTail (s : Structure) (tail : Tail) (id : FileId) (old new : Disk) : Type 0 where
-  pub is_for : IsFor s new
+  pub is_for : IsStructureFor s new
   pub is_last : IsTrue old.honest → IsLastOf (table_of new.image (home_of s)) tail.file.number id.number
-  pub header_stays : IsTrue old.honest → (table_of new.image (home_of s)).header id.number ≡ (table_of old.image (home_of s)).header id.number
-  pub links : IsTrue old.honest → LinksLoose tail.file.number id.number (table_of old.image (home_of s)) (table_of new.image (home_of s))
+  pub header_stays : IsTrue old.honest →
+      (table_of new.image (home_of s)).header id.number ≡ (table_of old.image (home_of s)).header id.number
+  pub links : IsTrue old.honest → LinksFileless tail.file.number id.number (table_of old.image (home_of s)) (table_of new.image (home_of s))
   pub store : Linking s tail id old new.image
   pub free : IsTrue old.honest → SameFree (home_of s) old.image new.image
   pub went : Went (Linking s tail id old) old new 1 0

@@ -13,7 +13,7 @@ use Rattle.f11_writes.specs.OtherSlots.{KeepsOtherSlots}
 use Rattle.f11_volume.specs.Volume.{volume_of}
 use Rattle.f11_image_store.specs.Allocation.{AddsZeroSlots, GainsBlocks}
 use Rattle.f11_files.specs.Finding.First.{HoldsFile}
-use Rattle.f11_files.specs.Structure.{index_in, home_of, store_on, IsFor}
+use Rattle.f11_files.specs.Structure.{index_in, home_of, store_on, IsStructureFor}
 use Rattle.f11_files.specs.Extending.Tail.{HasStore}
 use Rattle.f11_files.specs.declared.structure.Structure.{Structure}
 
@@ -26,8 +26,9 @@ pub record ClearsMark (s : Structure) (f : FileId) (was block : List ℕ) (old n
   pub holds : HoldsFile (index_in s) f block new
   pub link : link_of block ≡ link_of was
   pub slots : IsTrue old.honest → KeepsOtherSlots f.number (table_of old.image (home_of s)) (table_of new.image (home_of s))
-  pub last : IsTrue old.honest → (n : ℕ) → IsLastOf (table_of old.image (home_of s)) f.number n → IsLastOf (table_of new.image (home_of s)) f.number n
-  pub is_for : IsFor s new
+  pub last : IsTrue old.honest → (n : ℕ) → IsLastOf (table_of old.image (home_of s)) f.number n →
+      IsLastOf (table_of new.image (home_of s)) f.number n
+  pub is_for : IsStructureFor s new
   pub gains : IsTrue old.honest → GainsBlocks f.number 0 (volume_of old.image (home_of s)) (volume_of new.image (home_of s))
   pub zeros : IsTrue old.honest → AddsZeroSlots (table_of old.image (home_of s)) (table_of new.image (home_of s))
   pub store : Clearing s f old new.image

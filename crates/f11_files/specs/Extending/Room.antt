@@ -17,7 +17,8 @@ use Rattle.f11_files.specs.declared.structure.Structure.{Structure}
 -- are free
 abbrev pub room_causes : ℕ → ℕ → ℕ → ℕ → ℕ → List Cause
 room_causes headers room free free_headers n =
-    (TooManySegments ⇐ nat_lt 256 (headers + need room n)) ∷ (DeviceFull ⇐ nat_lt free n) ∷ (NoHeader ⇐ nat_lt free_headers (need room n)) ∷ []
+    (TooManySegments ⇐ nat_lt 256 (headers + need room n)) ∷ (DeviceFull ⇐ nat_lt free n) ∷
+    (NoHeader ⇐ nat_lt free_headers (need room n)) ∷ []
 
 -- There is room for n blocks more of a file, which has 256 headers at most then. Its first header is in hand, and its last.
 pub record FindsRoom (s : Structure) (f : FileId) (n : ℕ) (end : FileEnd) (first last : List ℕ) (old new : Disk) : Type 0 where

@@ -45,7 +45,8 @@ pub record AddsRun (s after : Structure) (tail later : Tail) (from most end coun
   pub within : end ≤ (bitmap_in s).size
   pub none_below : IsTrue old.honest → NoneBelow new.image (bitmap_in s) end
   pub gains :
-      IsTrue old.honest → GainsBlocksAs tail.file.number (ownership_of tail) count (volume_of old.image (home_of s)) (volume_of new.image (home_of s))
+      IsTrue old.honest → GainsBlocksAs tail.file.number (ownership_of tail) count (volume_of old.image (home_of s))
+      (volume_of new.image (home_of s))
   pub grew :
       Grew (GrowingBy (home_of s) (store_on s old) tail.file.number most old) (home_of s) (store_on s old) tail.file.number count
       (end / 4096 - from / 4096 + 5 * count) old new
@@ -59,8 +60,8 @@ pub record ExtendsBy (s : Structure) (k : ℕ) (ownership : Uic × ℕ) (n : ℕ
   pub gains : IsTrue old.honest → GainsBlocksAs k ownership n (volume_of old.image (home_of s)) (volume_of new.image (home_of s))
   pub grew : Grew (ExtendingBy s k n old) (home_of s) (store_on s old) k n ((bitmap_in s).size / 4096 + 5 * n) old new
 
--- A file was extended by n blocks of zeros, the lowest free ones: one transfer less than the cost, which counts a look at its right. A header that
--- was added says the owner and the protection of the file's first one.
+-- A file was extended by n blocks of zeros, the lowest free ones: one transfer less than the cost, which counts a look at its
+-- right. A header that was added says the owner and the protection of the file's first one.
 abbrev pub ExtendsFile : HomeFields → FileId → ℕ → Disk → Disk → Type 0
 ExtendsFile home f n old new =
     let s = store_of old.image home in
@@ -75,4 +76,5 @@ IsLengthAfter home f n old blocks = IsTrue old.honest → blocks ≡ length_of (
 abbrev pub FailsToExtend : Bool → HomeFields → FileId → ℕ → Refusal → Disk → Disk → Type 0
 FailsToExtend failed home f n refusal old new =
     let s = store_of old.image home in
-    FailsToWrite failed (extend_causes s f n) (growth_cost s (file_named s f) n - 1) (extend_work f.number (file_named s f).room n) home refusal old new
+    FailsToWrite failed (extend_causes s f n) (growth_cost s (file_named s f) n - 1)
+    (extend_work f.number (file_named s f).room n) home refusal old new

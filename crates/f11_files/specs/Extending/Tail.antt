@@ -17,14 +17,14 @@ use Rattle.f11_store.specs.declared.callers.Uic.{Uic}
 use Rattle.f11_store.specs.declared.files.FileId.{FileId}
 use Rattle.f11_volume.specs.Sound.{HasSoundVolume}
 use Rattle.f11_volume.specs.Volume.{volume_of}
-use Rattle.f11_writes.specs.NameLaws.{AreSpare}
+use Rattle.f11_writes.specs.NameLaws.{AreUnreferenced}
 use Rattle.f11_image_store.specs.Allocation.{NamesMore}
 use Rattle.f11_image_store.specs.FileLaws.{HasPointersMore, room_in}
 use Rattle.f11_store.specs.Pieces.{with_zeros_more}
 use Rattle.f11_files.specs.Extending.Growing.{SameFree}
 use Rattle.f11_image_store.specs.StoreOf.{store_of}
 use Rattle.f11_image_store.specs.Confines.{only_header, new_header, either}
-use Rattle.f11_files.specs.Structure.{index_in, home_of, store_on, ConfinesTo, IsFor, StandsWithin}
+use Rattle.f11_files.specs.Structure.{index_in, home_of, store_on, ConfinesTo, IsStructureFor, StandsWithin}
 use Rattle.f11_files.specs.Extending.Zeros.{HoldsZeros}
 use Rattle.f11_files.specs.declared.structure.Structure.{Structure}
 use Rattle.f11_files.specs.declared.extend.tail.Tail.{Tail}
@@ -60,7 +60,7 @@ pub record MayBeGiven (home : HomeFields) (lbn count : ℕ) (disk : Disk) : Type
   pub some : 0 < count
   pub short : count ≤ 256
   pub low : lbn < 2 ^ 24
-  pub spare : IsTrue disk.honest → AreSpare (volume_of disk.image home) lbn count
+  pub unreferenced : IsTrue disk.honest → AreUnreferenced (volume_of disk.image home) lbn count
   pub zeros : IsTrue disk.honest → HoldsZeros disk.image lbn count
 
 -- An image's volume is sound, and its store is this one.
@@ -75,7 +75,8 @@ pointers_more block lbn count = if joins_last (runs_of (map_area block)) lbn cou
 -- where the disk is honest, in an image that stands meanwhile the header names the blocks
 abbrev pub Naming : Structure → Tail → ℕ → ℕ → Disk → Image → Type 0
 Naming s tail lbn count old image =
-    IsTrue old.honest → HasStore (home_of s) (with_zeros_more tail.file.number (pointers_more tail.block lbn count) count (store_on s old)) image
+    IsTrue old.honest → HasStore (home_of s)
+    (with_zeros_more tail.file.number (pointers_more tail.block lbn count) count (store_on s old)) image
 
 -- The header names these blocks too, and was written.
 pub record NamesRun (s : Structure) (tail after : Tail) (lbn count : ℕ) (old new : Disk) : Type 0 where
@@ -84,10 +85,11 @@ pub record NamesRun (s : Structure) (tail after : Tail) (lbn count : ℕ) (old n
   pub pointers : HasPointersMore (pointers_more tail.block lbn count) tail.block after.block
   pub fits : pointers_more tail.block lbn count ≤ room_in tail.block
   pub holds : HoldsLast s after new
-  pub is_for : IsFor s new
+  pub is_for : IsStructureFor s new
   pub names :
       IsTrue old.honest →
-      NamesMore tail.file.number (ownership_of tail) (range_with_len lbn count) (table_of old.image (home_of s)) (table_of new.image (home_of s))
+      NamesMore tail.file.number (ownership_of tail) (range_with_len lbn count) (table_of old.image (home_of s))
+      (table_of new.image (home_of s))
   pub store : Naming s tail lbn count old new.image
   pub free : IsTrue old.honest → SameFree (home_of s) old.image new.image
   pub went : Went (Naming s tail lbn count old) old new 1 0

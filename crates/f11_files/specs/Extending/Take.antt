@@ -1,5 +1,5 @@
--- A run of free blocks is marked used, for a file that is to have it (Files-11 On-Disk Structure Level 1, "Storage Bitmap File"; profile: the
--- lowest first, 256 at most).
+-- A run of free blocks is marked used, for a file that is to have it (Files-11 On-Disk Structure Level 1, "Storage Bitmap File";
+-- profile: the lowest first, 256 at most).
 use Rattle.std.specs.Prelude.{◌≡◌, ℕ, ◌+◌, ◌-◌, ◌<◌, false, IsTrue, ◌++◌}
 use Rattle.std.specs.List.{range_with_len}
 use Rattle.f11_bits.specs.Bitmap.{Bitmap, is_free}
@@ -11,9 +11,9 @@ use Rattle.f11_index.specs.Kept.{room}
 use Rattle.f11_store.specs.Store.{Store}
 use Rattle.f11_volume.specs.Volume.{volume_of}
 use Rattle.f11_writes.specs.Kept.{KeepsButFree}
-use Rattle.f11_writes.specs.NameLaws.{AreSpare}
+use Rattle.f11_writes.specs.NameLaws.{AreUnreferenced}
 use Rattle.f11_image_store.specs.Allocation.{free_list}
-use Rattle.f11_files.specs.Answers.{Writes}
+use Rattle.f11_files.specs.Answers.{WritesAtMost}
 use Rattle.f11_files.specs.Extending.Growing.{Taking}
 use Rattle.f11_image_store.specs.StoreOf.{store_of}
 use Rattle.f11_files.specs.Structure.{index_in, bitmap_in, home_of, store_on}
@@ -34,10 +34,11 @@ pub record TakesRun (s after : Structure) (from most lbn count : ℕ) (old new :
   pub left : room after.index ≡ room s.index
   pub within : IsRunWithin (bitmap_in s).size from most lbn count
   pub keeps : IsTrue old.honest → KeepsButFree (home_of s) old.image new.image
-  pub spare : IsTrue old.honest → AreSpare (volume_of new.image (home_of s)) lbn count
+  pub unreferenced : IsTrue old.honest → AreUnreferenced (volume_of new.image (home_of s)) lbn count
   pub none_below : IsTrue old.honest → NoneBelow new.image (bitmap_in s) (lbn + count)
-  pub lowest : IsTrue old.honest → free_list (volume_of old.image (home_of s)) ≡ range_with_len lbn count ++ free_list (volume_of new.image (home_of s))
+  pub lowest : IsTrue old.honest →
+      free_list (volume_of old.image (home_of s)) ≡ range_with_len lbn count ++ free_list (volume_of new.image (home_of s))
   pub store : IsTrue old.honest → store_of new.image (home_of s) ≡ with_fewer_free (store_on s old) count
   pub writes :
-      Writes (Taking (home_of s) most 0 (store_on s old) old)
+      WritesAtMost (Taking (home_of s) most 0 (store_on s old) old)
       (blocks_to (bitmap_in s) from (lbn + count) + blocks_touched lbn count) old new 0

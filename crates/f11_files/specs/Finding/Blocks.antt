@@ -14,7 +14,7 @@ use Rattle.f11_store.specs.declared.files.FileId.{FileId}
 use Rattle.f11_store.specs.declared.refusals.Refusal.{Refusal}
 use Rattle.f11_writes.specs.Kept.{file_in}
 use Rattle.f11_image_store.specs.Allocation.{KeepsBlocks}
-use Rattle.f11_files.specs.Answers.{Reads, Does, FailsToWrite}
+use Rattle.f11_files.specs.Answers.{ReadsAtMost, Does, FailsToWrite}
 use Rattle.f11_files.specs.Operations.{length_causes}
 use Rattle.f11_image_store.specs.StoreOf.{store_of}
 
@@ -25,13 +25,13 @@ pub record FindsBlock (home : HomeFields) (f : FileId) (vbn lbn : ℕ) (old new 
   pub file : IsTrue old.honest → IsFile (table_of old.image home) f.number
   pub block_is : IsTrue old.honest → block_by_vbn (table_of old.image home) f.number vbn ≡ Some lbn
   pub within : lbn < length old.image
-  pub reads : Reads (header_count (file_named (store_of old.image home) f)) old new 0
+  pub reads : ReadsAtMost (header_count (file_named (store_of old.image home) f)) old new 0
 
 -- It was read: the block is the file's.
 pub record ReadsBlock (home : HomeFields) (f : FileId) (vbn : ℕ) (block : List ℕ) (old new : Disk) : Type 0 where
   pub no_cause : IsTrue old.honest → first_of (length_causes (store_of old.image home) f vbn) ≡ None
   pub block_is : IsTrue old.honest → slice_get (file_named (store_of old.image home) f).blocks (vbn - 1) ≡ Some block
-  pub reads : Reads (header_count (file_named (store_of old.image home) f) + 1) old new 0
+  pub reads : ReadsAtMost (header_count (file_named (store_of old.image home) f) + 1) old new 0
 
 -- the work of writing a block
 abbrev pub block_work : FileId → ℕ → List ℕ → Work
@@ -41,7 +41,8 @@ block_work f vbn block = one_part f.number (file_changes f.number (with_block vb
 abbrev pub StoresBlock : HomeFields → FileId → ℕ → List ℕ → Disk → Disk → Type 0
 StoresBlock home f vbn block old new =
     let s = store_of old.image home in
-    Does (length_causes s f vbn) (block_work f vbn block) (header_count (file_named s f) + 1) (λ t. t ≡ with_change s f.number (with_block vbn block)) KeepsBlocks home old new
+    Does (length_causes s f vbn) (block_work f vbn block) (header_count (file_named s f) + 1)
+    (λ t. t ≡ with_change s f.number (with_block vbn block)) KeepsBlocks home old new
 
 -- It was not.
 abbrev pub FailsToStore : Bool → HomeFields → FileId → ℕ → List ℕ → Refusal → Disk → Disk → Type 0

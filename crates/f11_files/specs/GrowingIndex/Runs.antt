@@ -20,7 +20,7 @@ use Rattle.f11_store.specs.declared.refusals.Refusal.{Refusal}
 use Rattle.f11_store.specs.declared.refusals.Refusal.TheVariants.{NoMemory}
 use Rattle.f11_volume.specs.Volume.{volume_of}
 use Rattle.f11_image_store.specs.Allocation.{AddsZeroSlots, GainsSlots, GainsSlotsAs, NamesMore}
-use Rattle.f11_files.specs.Answers.{is_grave, faults_of, Does, IsRight, Meanwhile, Reads, Writes}
+use Rattle.f11_files.specs.Answers.{is_fatal, faults_of, Does, IsRight, Meanwhile, ReadsAtMost, WritesAtMost}
 use Rattle.f11_store.specs.Pieces.{with_more_free}
 use Rattle.f11_files.specs.Extending.Growing.{Growing, SameFree}
 use Rattle.f11_files.specs.Operations.{grow_causes}
@@ -50,7 +50,8 @@ GrowingIndexBy home s n old = Growing home n (need (index_file s).room n) (Grows
 -- and where the blocks were marked used before: of the store with them free
 abbrev pub AppendingSlots : Structure → ℕ → Disk → Image → Type 0
 AppendingSlots s count old =
-    Growing (home_of s) 0 (need (index_file (store_on s old)).room count) (GrowsIndex (with_more_free (store_on s old) count) count) (store_on s old) old
+    Growing (home_of s) 0 (need (index_file (store_on s old)).room count) (GrowsIndex (with_more_free (store_on s old) count) count)
+    (store_on s old) old
 
 -- The index file has them, from `lbn` on: its last header is in hand.
 pub record AppendsSlots (s after : Structure) (tail later : Tail) (lbn count most : ℕ) (old new : Disk) : Type 0 where
@@ -60,7 +61,8 @@ pub record AppendsSlots (s after : Structure) (tail later : Tail) (lbn count mos
   pub left : room s.index ≤ room after.index + count
   pub free : IsTrue old.honest → SameFree (home_of s) old.image new.image
   pub names :
-      IsTrue old.honest → NamesMore 1 (ownership_of tail) (range_with_len lbn count) (table_of old.image (home_of s)) (table_of new.image (home_of s))
+      IsTrue old.honest → NamesMore 1 (ownership_of tail) (range_with_len lbn count) (table_of old.image (home_of s))
+      (table_of new.image (home_of s))
   pub slots : IsTrue old.honest → AddsZeroSlots (table_of old.image (home_of s)) (table_of new.image (home_of s))
   pub grew : GrewIndex (AppendingSlots s count old) (home_of s) (with_more_free (store_on s old) count) count most old new
 
@@ -98,8 +100,8 @@ pub record FindsIndexRoom (s : Structure) (n : ℕ) (end : FileEnd) (first last 
   pub within : IsTrue old.honest → (store_on s old).slots + n ≤ (store_on s old).limit
   pub room : FindsRoom s index_id n end first last old new
 
--- The index file has n slots more, none of which was given a sequence number: they are the lowest free blocks, and hold zeros. A header that was
--- added says the owner and the protection of the file's first one.
+-- The index file has n slots more, none of which was given a sequence number: they are the lowest free blocks, and hold zeros. A
+-- header that was added says the owner and the protection of the file's first one.
 abbrev pub GrowsIndexFile : HomeFields → ℕ → Disk → Disk → Type 0
 GrowsIndexFile home n old new =
     let s = store_of old.image home in
@@ -110,13 +112,15 @@ GrowsIndexFile home n old new =
 abbrev pub IsSlotsAfter : HomeFields → ℕ → Disk → ℕ → Type 0
 IsSlotsAfter home n old slots = IsTrue old.honest → slots ≡ (store_of old.image home).slots + n
 
--- It has not, or not all of them. Where the answer is that memory was wanting, there was no cause. Unless the refusal fails the volume no block
--- was written.
+-- It has not, or not all of them. Where the answer is that memory was wanting, there was no cause. Unless the refusal fails the
+-- volume no block was written.
 pub record FailsToGrow (failed : Bool) (home : HomeFields) (n : ℕ) (refusal : Refusal) (old new : Disk) : Type 0 where
   pub right : refusal ≢ NoMemory → IsRight failed old.honest (grow_causes (store_of old.image home) n) refusal
   pub wanting : refusal ≡ NoMemory → (failed ≡ false) × (IsTrue old.honest → first_of (grow_causes (store_of old.image home) n) ≡ None)
   pub writes :
-      Writes
-      (Meanwhile (work_if (first_of (grow_causes (store_of old.image home) n)) (grow_work (index_file (store_of old.image home)).room n)) home old)
+      WritesAtMost
+      (Meanwhile (work_if (first_of (grow_causes (store_of old.image home) n))
+      (grow_work (index_file (store_of old.image home)).room n)) home old)
       (growth_cost (store_of old.image home) (index_file (store_of old.image home)) n) old new (faults_of refusal)
-  pub unchanged : is_grave refusal ≡ false → Reads (growth_cost (store_of old.image home) (index_file (store_of old.image home)) n) old new 0
+  pub unchanged : is_fatal refusal ≡ false →
+      ReadsAtMost (growth_cost (store_of old.image home) (index_file (store_of old.image home)) n) old new 0

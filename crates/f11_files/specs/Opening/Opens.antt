@@ -5,7 +5,7 @@ use Rattle.f11_dev.specs.Looked.{Looked}
 use Rattle.f11_vfy.specs.Frames.Frame.{frame_reads}
 use Rattle.f11_vfy.specs.declared.fault.ReadFault.{ReadFault}
 use Rattle.f11_vfy.specs.declared.fault.ReadFault.TheVariants as read
-use Rattle.f11_files.specs.Structure.{IsFor}
+use Rattle.f11_files.specs.Structure.{IsStructureFor}
 use Rattle.f11_files.specs.declared.open.StructureFault.{StructureFault}
 use Rattle.f11_files.specs.declared.open.StructureFault.TheVariants.{DeviceFault, Damaged, NoMemory}
 use Rattle.f11_files.specs.declared.structure.Structure.{Structure}
@@ -20,7 +20,7 @@ opening_reads disk = length disk.image / 256 + 1 + frame_reads disk + 126
 
 -- What is kept of a volume was read.
 pub record OpensStructure (s : Structure) (old new : Disk) : Type 0 where
-  pub is_for : IsFor s new
+  pub is_for : IsStructureFor s new
   pub looked : Looked old new (opening_reads old) 0
 
 -- what a fault of reading is here

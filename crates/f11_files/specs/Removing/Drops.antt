@@ -19,7 +19,7 @@ use Rattle.f11_volume.specs.Space.{storage_bitmap}
 use Rattle.f11_volume.specs.Volume.{Volume, volume_of, IsNamed}
 use Rattle.f11_writes.specs.OtherSlots.{KeepsOtherSlots}
 use Rattle.f11_image_store.specs.Allocation.{FreesBlocks, LosesHeaders}
-use Rattle.f11_files.specs.Answers.{Writes, Breaks}
+use Rattle.f11_files.specs.Answers.{WritesAtMost, Breaks}
 use Rattle.f11_image_store.specs.FileLaws.{pointers_in}
 use Rattle.f11_files.specs.Extending.Growing.{SameFree}
 use Rattle.f11_image_store.specs.SlotLaws.{with_use, KeepsOtherBlocks}
@@ -35,10 +35,10 @@ BreaksOff home s most refusal old new = Breaks (Freeing home s old) most refusal
 pub record GivesRun (home : HomeFields) (lbn count : ℕ) (old new : Disk) : Type 0 where
   pub marks : IsTrue old.honest → Marks true (storage_bitmap old.image home) lbn count old.image new.image
   pub none : count ≡ 0 → new ≡ old
-  pub writes : Writes (Freeing home (store_of old.image home) old) 4 old new 0
+  pub writes : WritesAtMost (Freeing home (store_of old.image home) old) 4 old new 0
 
--- These blocks are spare: in the volume, used, named by no header, and none of them stands twice here.
-pub record AreAllSpare (v : Volume) (lbns : List ℕ) : Type 0 where
+-- These blocks are unreferenced: in the volume, used, named by no header, and none of them stands twice here.
+pub record AreAllUnreferenced (v : Volume) (lbns : List ℕ) : Type 0 where
   pub inside : (i lbn : ℕ) → slice_get lbns i ≡ Some lbn → lbn < v.size
   pub used : (i lbn : ℕ) → slice_get lbns i ≡ Some lbn → v.free lbn ≡ false
   pub unnamed : (i lbn : ℕ) → slice_get lbns i ≡ Some lbn → ¬ IsNamed v.table lbn
@@ -49,24 +49,24 @@ pub record GivesBlocks (home : HomeFields) (lbns : List ℕ) (pointers : ℕ) (o
   pub table : IsTrue old.honest → table_of new.image home ≡ table_of old.image home
   pub store : IsTrue old.honest → store_of new.image home ≡ with_more_free (store_of old.image home) (length lbns)
   pub frees : IsTrue old.honest → FreesBlocks lbns (volume_of old.image home) (volume_of new.image home)
-  pub writes : Writes (Freeing home (store_of old.image home) old) (4 * pointers) old new 0
+  pub writes : WritesAtMost (Freeing home (store_of old.image home) old) (4 * pointers) old new 0
 
 -- Header n may go: it is none of the volume's own, and no header of a file links to it.
 pub record MayDrop (t : Table) (n : ℕ) : Type 0 where
   pub late : 5 ≤ n
   pub unlinked : (m : ℕ) → IsInFile t m → ¬ IsNext t m n
 
--- Header n was killed, which is this block, and its slot left use. All other slots stay, and the blocks that it named are spare.
-pub record Buries (home : HomeFields) (n : ℕ) (block : List ℕ) (old new : Disk) : Type 0 where
+-- Header n was killed, which is this block, and its slot left use. All other slots stay, and the blocks that it named are unreferenced.
+pub record FreesSlot (home : HomeFields) (n : ℕ) (block : List ℕ) (old new : Disk) : Type 0 where
   pub others : IsTrue old.honest → KeepsOtherSlots n (table_of old.image home) (table_of new.image home)
   pub unused : IsTrue old.honest → (table_of new.image home).in_use n ≡ false
   pub dead : IsTrue old.honest → (table_of new.image home).header n ≡ dead_header block
   pub blocks : IsTrue old.honest → KeepsOtherBlocks n (table_of old.image home) (table_of new.image home)
   pub size : IsTrue old.honest → (volume_of new.image home).size ≡ (volume_of old.image home).size
   pub free : IsTrue old.honest → SameFree home old.image new.image
-  pub spare : IsTrue old.honest → AreAllSpare (volume_of new.image home) (blocks_named block)
+  pub unreferenced : IsTrue old.honest → AreAllUnreferenced (volume_of new.image home) (blocks_named block)
   pub store : IsTrue old.honest → store_of new.image home ≡ with_use (with_file (store_of old.image home) n None) n false
-  pub writes : Writes (Freeing home (with_file (store_of old.image home) n None) old) 2 old new 0
+  pub writes : WritesAtMost (Freeing home (with_file (store_of old.image home) n None) old) 2 old new 0
 
 -- a store without header n, which named so many blocks: they are free, its slot isn't in use, and where it was a file's first, that is gone
 abbrev pub without_header : Store → ℕ → ℕ → Store
@@ -84,7 +84,7 @@ pub record DropsHeader (home : HomeFields) (n : ℕ) (block : List ℕ) (old new
   pub blocks : IsTrue old.honest → KeepsOtherBlocks n (table_of old.image home) (table_of new.image home)
   pub frees : IsTrue old.honest → FreesBlocks (blocks_named block) (volume_of old.image home) (volume_of new.image home)
   pub store : IsTrue old.honest → store_of new.image home ≡ without_header (store_of old.image home) n (length (blocks_named block))
-  pub writes : Writes (Freeing home (with_file (store_of old.image home) n None) old) (drop_cost block) old new 0
+  pub writes : WritesAtMost (Freeing home (with_file (store_of old.image home) n None) old) (drop_cost block) old new 0
 
 -- the headers behind one in hand, along the links
 abbrev pub headers_behind : Table → List ℕ → List ℕ
@@ -112,10 +112,13 @@ pub record KeepsBlocksBut (headers : List ℕ) (old new : Table) : Type 0 where
 pub record DropsBehind (home : HomeFields) (block : List ℕ) (old new : Disk) : Type 0 where
   pub store :
       IsTrue old.honest →
-      store_of new.image home ≡ without_headers (store_of old.image home) (table_of old.image home) (headers_behind (table_of old.image home) block)
-  pub loses : IsTrue old.honest → LosesHeaders (headers_behind (table_of old.image home) block) (volume_of old.image home) (volume_of new.image home)
+      store_of new.image home ≡ without_headers (store_of old.image home) (table_of old.image home)
+      (headers_behind (table_of old.image home) block)
+  pub loses : IsTrue old.honest →
+      LosesHeaders (headers_behind (table_of old.image home) block) (volume_of old.image home) (volume_of new.image home)
   pub blocks :
       IsTrue old.honest →
       KeepsBlocksBut (headers_behind (table_of old.image home) block) (table_of old.image home) (table_of new.image home)
   pub writes :
-      Writes (Freeing home (store_of old.image home) old) (tail_cost (table_of old.image home) (headers_behind (table_of old.image home) block)) old new 0
+      WritesAtMost (Freeing home (store_of old.image home) old)
+      (tail_cost (table_of old.image home) (headers_behind (table_of old.image home) block)) old new 0

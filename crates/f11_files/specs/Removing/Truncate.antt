@@ -57,7 +57,8 @@ cut_work f to = one_part f.number (file_changes f.number (with_first_blocks to))
 abbrev pub Cuts : HomeFields → FileId → ℕ → Disk → Disk → Type 0
 Cuts home f to old new =
     let s = store_of old.image home in
-    Does (length_causes s f to) (cut_work f to) (cut_cost (file_named s f) - 1) (Truncates s f.number to) (LosesBlocks f.number to) home old new
+    Does (length_causes s f to) (cut_work f to) (cut_cost (file_named s f) - 1) (Truncates s f.number to)
+    (LosesBlocks f.number to) home old new
 
 -- It was not, or not all of it.
 abbrev pub FailsToCut : Bool → HomeFields → FileId → ℕ → Refusal → Disk → Disk → Type 0

@@ -1,15 +1,15 @@
 //! What a file's first header says of it.
 ghost use Rattle.std.specs.Prelude.{◌≡◌, ◌≤◌, false, IfOk, IfErr, OnOk};
-ghost use Rattle.f11_files.specs.Answers.{FailsToRead, is_grave, is_refused, WritesFirstOf};
+ghost use Rattle.f11_files.specs.Answers.{FailsToRead, is_fatal, is_refused, WritesFirstOf};
 ghost use Rattle.f11_files.specs.Calls.{ReadsAttr};
 ghost use Rattle.f11_image_store.specs.Confines.{only_header};
 ghost use Rattle.f11_files.specs.Changing.Fields.{Alters, FailsToAlter};
 ghost use Rattle.f11_files.specs.Finding.First.{IsFirstOf};
 ghost use Rattle.f11_files.specs.Operations.{attr_in, file_causes};
-ghost use Rattle.f11_files.specs.Structure.{home_of, store_on, IsFor, StaysFor, WritesParts};
+ghost use Rattle.f11_files.specs.Structure.{home_of, store_on, IsStructureFor, StaysFor, WritesParts};
 ghost use Rattle.f11_store.specs.Changes.{with_replacement, with_delete_mark};
 
-use crate::answer::is_grave;
+use crate::answer::is_fatal;
 use crate::change::fields::{replace, set_mark};
 use crate::files::Files;
 use crate::structure::Structure;
@@ -42,7 +42,7 @@ impl Structure {
     ///
     /// Those of [`Structure::read_first`].
     pub(crate) fn read_attr<D: Device>(&self, device: &mut D, f: FileId) -> Result<Attr, Refusal>
-        requires is_for { IsFor self.now (D.disk device.old) }
+        requires is_for { IsStructureFor self.now (D.disk device.old) }
         ensures read { IfOk result (λ attr. ReadsAttr (home_of self.now) f attr
             (D.disk device.old) (D.disk device.new)) }
         ensures refused { IfErr result (λ refusal. FailsToRead false
@@ -65,13 +65,13 @@ impl Structure {
         f: FileId,
         change: &Change,
     ) -> Result<(), Refusal>
-        requires is_for { IsFor self.now (D.disk device.old) }
+        requires is_for { IsStructureFor self.now (D.disk device.old) }
         requires own { 4 ≤ f.number }
         ensures altered { OnOk result (Alters (with_replacement change.now) (home_of self.now) f
             (D.disk device.old) (D.disk device.new)) }
         ensures refused { IfErr result (λ refusal. FailsToAlter false (with_replacement change.now)
             (home_of self.now) f refusal (D.disk device.old) (D.disk device.new)) }
-        ensures stays { StaysFor (is_refused is_grave result) self.now self.now
+        ensures stays { StaysFor (is_refused is_fatal result) self.now self.now
             (D.disk device.new) }
         ensures confined { WritesParts self.now (only_header f.number) (D.disk device.old)
             (D.disk device.new) }
@@ -91,13 +91,13 @@ impl Structure {
     ///
     /// Those of [`Structure::read_first`].
     pub(crate) fn mark<D: Device>(&self, device: &mut D, f: FileId) -> Result<(), Refusal>
-        requires is_for { IsFor self.now (D.disk device.old) }
+        requires is_for { IsStructureFor self.now (D.disk device.old) }
         requires own { 4 ≤ f.number }
         ensures altered { OnOk result (Alters with_delete_mark (home_of self.now) f
             (D.disk device.old) (D.disk device.new)) }
         ensures refused { IfErr result (λ refusal. FailsToAlter false with_delete_mark
             (home_of self.now) f refusal (D.disk device.old) (D.disk device.new)) }
-        ensures stays { StaysFor (is_refused is_grave result) self.now self.now
+        ensures stays { StaysFor (is_refused is_fatal result) self.now self.now
             (D.disk device.new) }
         ensures confined { WritesParts self.now (only_header f.number) (D.disk device.old)
             (D.disk device.new) }
@@ -113,7 +113,7 @@ impl Structure {
 }
 
 impl<D: Device> Files<D> {
-    ghost use Rattle.f11_files.specs.Open.{counts_in, disk_in, has_failed, home_in, store_in, Answers, IsIdFrom};
+    ghost use Rattle.f11_files.specs.Open.{counts_in, disk_in, has_failed, home_in, store_in, AnswersCall, IsIdFrom};
 
     /// What a file's header says of it, of one that is marked for delete too, and of the volume's own files. One transfer at most.
     ///
@@ -123,7 +123,7 @@ impl<D: Device> Files<D> {
     /// `DeviceFault` where the transfer failed, `Damaged` where the header is neither valid nor dead.
     pub fn read_attr(&mut self, f: FileId) -> Result<Attr, Refusal>
         requires id { IsIdFrom 1 f }
-        ensures answers { Answers result self.old self.new }
+        ensures answers { AnswersCall result self.old self.new }
         ensures told { counts_in self.new ≡ counts_in self.old }
         ensures read { IfOk result (λ attr.
             ReadsAttr (home_in self.old) f attr (disk_in self.old) (disk_in self.new)) }
@@ -134,7 +134,7 @@ impl<D: Device> Files<D> {
             return Err(Refusal::VolumeFailed);
         }
         let answer = self.structure.read_attr(&mut self.device, f);
-        self.failed = is_grave(&answer);
+        self.failed = is_fatal(&answer);
         answer
     }
 
@@ -146,7 +146,7 @@ impl<D: Device> Files<D> {
     /// Those of [`Files::read_attr`].
     pub fn write_attr(&mut self, f: FileId, change: &Change) -> Result<(), Refusal>
         requires id { IsIdFrom 4 f }
-        ensures answers { Answers result self.old self.new }
+        ensures answers { AnswersCall result self.old self.new }
         ensures altered { OnOk result (Alters (with_replacement change.now) (home_in self.old) f
             (disk_in self.old) (disk_in self.new)) }
         ensures refused { IfErr result (λ refusal. FailsToAlter (has_failed self.old)
@@ -158,7 +158,7 @@ impl<D: Device> Files<D> {
             return Err(Refusal::VolumeFailed);
         }
         let answer = self.structure.write_attr(&mut self.device, f, change);
-        self.failed = is_grave(&answer);
+        self.failed = is_fatal(&answer);
         answer
     }
 
@@ -170,7 +170,7 @@ impl<D: Device> Files<D> {
     /// Those of [`Files::read_attr`].
     pub fn mark(&mut self, f: FileId) -> Result<(), Refusal>
         requires id { IsIdFrom 6 f }
-        ensures answers { Answers result self.old self.new }
+        ensures answers { AnswersCall result self.old self.new }
         ensures altered { OnOk result (Alters with_delete_mark (home_in self.old) f
             (disk_in self.old) (disk_in self.new)) }
         ensures refused { IfErr result (λ refusal. FailsToAlter (has_failed self.old)
@@ -181,7 +181,7 @@ impl<D: Device> Files<D> {
             return Err(Refusal::VolumeFailed);
         }
         let answer = self.structure.mark(&mut self.device, f);
-        self.failed = is_grave(&answer);
+        self.failed = is_fatal(&answer);
         answer
     }
 }

@@ -1,12 +1,12 @@
 //! A new last header of a file.
 ghost use Rattle.std.specs.Prelude.{◌≡◌, ◌<◌, ◌≤◌, ◌^◌, IfErr, IfOk, IsTrue, OnOk, []};
-ghost use Rattle.f11_files.specs.Answers.{is_grave, is_refused, Breaks};
+ghost use Rattle.f11_files.specs.Answers.{is_fatal, is_refused, Breaks};
 ghost use Rattle.f11_image_store.specs.Confines.{new_header};
 ghost use Rattle.f11_store.specs.Pieces.{with_more_free, MayExtend};
 ghost use Rattle.f11_files.specs.Extending.Header.{AppendingRun, AppendsRun, EntersHeader, IsExtension, TakesSlot};
 ghost use Rattle.f11_image_store.specs.FileLaws.{room_in};
 ghost use Rattle.f11_files.specs.Extending.Growing.{Taking};
-ghost use Rattle.f11_files.specs.Structure.{home_of, index_in, store_on, IsFor, StaysFor, WritesParts};
+ghost use Rattle.f11_files.specs.Structure.{home_of, index_in, store_on, IsStructureFor, StaysFor, WritesParts};
 ghost use Rattle.f11_files.specs.Extending.Tail.{GrowsWithin, HoldsLast, MayBeGiven, WritesGrowth};
 ghost use Rattle.f11_header.specs.Header.{holds_header};
 ghost use Rattle.f11_map.specs.HeaderBlock.{segment_number};
@@ -56,7 +56,7 @@ impl Structure {
         count: u32,
         block: &mut Block,
     ) -> Result<FileId, Refusal>
-        requires is_for { IsFor self.old (D.disk device.old) }
+        requires is_for { IsStructureFor self.old (D.disk device.old) }
         requires last { HoldsLast self.old tail.now (D.disk device.old) }
         requires early { segment_number tail.now.block < 255 }
         requires given { MayBeGiven (home_of self.old) lbn count (D.disk device.old) }
@@ -68,7 +68,7 @@ impl Structure {
             (Taking (home_of self.old) 0 1 (store_on self.old (D.disk device.old))
             (D.disk device.old))
             3 refusal (D.disk device.old) (D.disk device.new)) }
-        ensures stays { StaysFor (is_refused is_grave result) self.old self.new
+        ensures stays { StaysFor (is_refused is_fatal result) self.old self.new
             (D.disk device.new) }
         ensures confined { WritesParts self.old (new_header (index_in self.old)) (D.disk device.old)
             (D.disk device.new) }
@@ -112,7 +112,7 @@ impl Structure {
         lbn: u32,
         count: u32,
     ) -> Result<(), Refusal>
-        requires is_for { IsFor self.old (D.disk device.old) }
+        requires is_for { IsStructureFor self.old (D.disk device.old) }
         requires last { HoldsLast self.old tail.old (D.disk device.old) }
         requires own { 4 ≤ tail.old.file.number }
         requires given { MayBeGiven (home_of self.old) lbn count (D.disk device.old) }
@@ -124,7 +124,7 @@ impl Structure {
         ensures refused { IfErr result (λ refusal. Breaks
             (AppendingRun self.old tail.old count (D.disk device.old)) 4 refusal
             (D.disk device.old) (D.disk device.new)) }
-        ensures stays { StaysFor (is_refused is_grave result) self.old self.new
+        ensures stays { StaysFor (is_refused is_fatal result) self.old self.new
             (D.disk device.new) }
         ensures confined { WritesGrowth self.old tail.old [] (D.disk device.old)
             (D.disk device.new) }

@@ -3,7 +3,7 @@ ghost use Rattle.std.specs.Prelude.{◌≡◌, ◌≤◌, ◌<◌, IsTrue, OnOk,
 ghost use Rattle.f11_dev.specs.Went.{Went};
 ghost use Rattle.f11_files.specs.Extending.Link.{MayFollow, Linking, LinksTail};
 ghost use Rattle.f11_image_store.specs.Confines.{only_header};
-ghost use Rattle.f11_files.specs.Structure.{home_of, IsFor, WritesParts};
+ghost use Rattle.f11_files.specs.Structure.{home_of, IsStructureFor, WritesParts};
 ghost use Rattle.f11_files.specs.Extending.Tail.{HoldsLast, whose};
 ghost use Rattle.f11_map.specs.HeaderBlock.{segment_number};
 ghost use Rattle.f11_index.specs.Table.{table_of};
@@ -26,7 +26,7 @@ impl Structure {
         tail: &mut Tail,
         id: FileId,
     ) -> Result<(), DeviceFault>
-        requires is_for { IsFor self.now (D.disk device.old) }
+        requires is_for { IsStructureFor self.now (D.disk device.old) }
         requires last { HoldsLast self.now tail.old (D.disk device.old) }
         requires own { 4 ≤ tail.old.file.number }
         requires early { segment_number tail.old.block < 255 }

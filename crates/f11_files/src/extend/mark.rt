@@ -4,7 +4,7 @@ ghost use Rattle.f11_dev.specs.Went.{Went};
 ghost use Rattle.f11_files.specs.Extending.Mark.{Clearing, ClearsMark};
 ghost use Rattle.f11_image_store.specs.Confines.{only_header};
 ghost use Rattle.f11_files.specs.Finding.First.{HoldsFile};
-ghost use Rattle.f11_files.specs.Structure.{index_in, IsFor, WritesParts};
+ghost use Rattle.f11_files.specs.Structure.{index_in, IsStructureFor, WritesParts};
 
 use crate::change::fields::clear_contiguous;
 use crate::structure::Structure;
@@ -24,7 +24,7 @@ impl Structure {
         f: FileId,
         first: &mut Block,
     ) -> Result<(), DeviceFault>
-        requires is_for { IsFor self.now (D.disk device.old) }
+        requires is_for { IsStructureFor self.now (D.disk device.old) }
         requires own { (f.number ≡ 1) ⊎ (4 ≤ f.number) }
         requires holds { HoldsFile (index_in self.now) f first.old (D.disk device.old) }
         ensures clears { OnOk result

@@ -1,7 +1,7 @@
 //! Blocks that a file's last header is to name.
 ghost use Rattle.std.specs.Prelude.{◌≡◌, ◌≤◌, false, IsTrue, IfOk, OnErr};
 ghost use Rattle.f11_image_store.specs.Confines.{only_header};
-ghost use Rattle.f11_files.specs.Structure.{home_of, IsFor, WritesParts};
+ghost use Rattle.f11_files.specs.Structure.{home_of, IsStructureFor, WritesParts};
 ghost use Rattle.f11_files.specs.Extending.Tail.{HoldsLast, MayBeGiven, NamesRun, FailsToName, HasNoPlace};
 
 use crate::extend::tail::Tail;
@@ -23,7 +23,7 @@ impl Structure {
         lbn: u32,
         count: u32,
     ) -> Result<bool, DeviceFault>
-        requires is_for { IsFor self.now (D.disk device.old) }
+        requires is_for { IsStructureFor self.now (D.disk device.old) }
         requires last { HoldsLast self.now tail.old (D.disk device.old) }
         requires own { 4 ≤ tail.old.file.number }
         requires given { MayBeGiven (home_of self.now) lbn count (D.disk device.old) }

@@ -4,9 +4,9 @@ ghost use Rattle.f11_files.specs.Answers.{FailsToRead};
 ghost use Rattle.f11_image_store.specs.FileLaws.{room_in};
 ghost use Rattle.f11_files.specs.Operations.{extend_causes};
 ghost use Rattle.f11_files.specs.Extending.Room.{room_causes, FindsRoom};
-ghost use Rattle.f11_files.specs.Structure.{index_in, store_on, IsFor};
+ghost use Rattle.f11_files.specs.Structure.{index_in, store_on, IsStructureFor};
 ghost use Rattle.f11_header.specs.Header.{holds_header};
-ghost use Rattle.f11_index.specs.IndexFile.{free_slots};
+ghost use Rattle.f11_index.specs.IndexFile.{free_slots_in};
 ghost use Rattle.f11_store.specs.Causes.{first_of};
 ghost use Rattle.f11_store.specs.Cost.{header_count};
 ghost use Rattle.f11_store.specs.File.{need};
@@ -84,7 +84,7 @@ impl Structure {
         first: &mut Block,
         last: &mut Block,
     ) -> Result<FileEnd, Refusal>
-        requires is_for { IsFor self.now (D.disk device.old) }
+        requires is_for { IsStructureFor self.now (D.disk device.old) }
         ensures room { IfOk result (λ end. FindsRoom self.now f n end first.new last.new
             (D.disk device.old) (D.disk device.new)) }
         ensures refused { IfErr result (λ refusal. FailsToRead false
@@ -106,7 +106,7 @@ impl Structure {
 
     /// As many headers as are free, where `more` are needed: where none is, they aren't counted.
     fn headers_for(&self, more: u32) -> u32
-        ensures { nat_lt result more ≡ nat_lt (length (free_slots (index_in self.now))) more }
+        ensures { nat_lt result more ≡ nat_lt (length (free_slots_in (index_in self.now))) more }
     {
         if more == 0 {
             0

@@ -3,13 +3,13 @@ ghost use Rattle.std.specs.Prelude.{◌≡◌, ◌+◌, ◌-◌, ◌*◌, ◌/�
 ghost use Rattle.f11_bits.specs.Transfers.{blocks_from};
 ghost use Rattle.std.specs.List.{range_with_len};
 ghost use Rattle.f11_image_store.specs.Allocation.{free_list};
-ghost use Rattle.f11_files.specs.Answers.{is_grave, is_light, is_refused, Breaks, WritesMoreOf};
+ghost use Rattle.f11_files.specs.Answers.{is_fatal, is_clean, is_refused, Breaks, WritesMoreOf};
 ghost use Rattle.f11_image_store.specs.Confines.{either, new_header};
 ghost use Rattle.f11_store.specs.Pieces.{with_more_free, file_numbered, MayExtend};
 ghost use Rattle.f11_files.specs.Extending.Runs.{AddsRun, ExtendingBy, ExtendsBy, ExtendsFile, FailsToExtend, IsLengthAfter, IsTailOf};
 ghost use Rattle.f11_files.specs.Extending.Header.{AppendingRun, AppendsRun};
 ghost use Rattle.f11_files.specs.Extending.Growing.{GrowingBy};
-ghost use Rattle.f11_files.specs.Structure.{counts_of, bitmap_in, home_of, store_on, index_in, IsFor, StaysFor, ConfinesTo};
+ghost use Rattle.f11_files.specs.Structure.{counts_of, bitmap_in, home_of, store_on, index_in, IsStructureFor, StaysFor, ConfinesTo};
 ghost use Rattle.f11_files.specs.Extending.Tail.{GrowsWithin, HoldsLast, WritesGrowth, ownership_of};
 ghost use Rattle.f11_files.specs.Extending.Take.{NoneBelow};
 ghost use Rattle.f11_header.specs.Header.{holds_header};
@@ -18,9 +18,9 @@ ghost use Rattle.f11_index.specs.Table.{table_of};
 ghost use Rattle.f11_store.specs.Changes.{is_in};
 ghost use Rattle.f11_store.specs.File.{need};
 ghost use Rattle.f11_volume.specs.Volume.{volume_of};
-ghost use Rattle.f11_writes.specs.NameLaws.{AreSpare};
+ghost use Rattle.f11_writes.specs.NameLaws.{AreUnreferenced};
 
-use crate::answer::is_grave;
+use crate::answer::is_fatal;
 use crate::extend::tail::Tail;
 use crate::files::Files;
 use crate::structure::Structure;
@@ -60,13 +60,13 @@ impl Structure {
         lbn: u32,
         count: u32,
     ) -> Result<(), Refusal>
-        requires is_for { IsFor self.old (D.disk device.old) }
+        requires is_for { IsStructureFor self.old (D.disk device.old) }
         requires last { HoldsLast self.old tail.old (D.disk device.old) }
         requires own { 4 ≤ tail.old.file.number }
         requires within { lbn + count ≤ (bitmap_in self.old).size }
         requires few { (0 < count) × (count ≤ 256) }
-        requires spare { IsTrue (D.disk device.old).honest
-            → AreSpare (volume_of (D.disk device.old).image (home_of self.old)) lbn count }
+        requires unreferenced { IsTrue (D.disk device.old).honest
+            → AreUnreferenced (volume_of (D.disk device.old).image (home_of self.old)) lbn count }
         requires may { let free = with_more_free (store_on self.old (D.disk device.old)) count in
             IsTrue (D.disk device.old).honest → MayExtend free tail.old.file.number count }
         ensures appended { OnOk result (AppendsRun self.old self.new tail.old tail.new lbn count
@@ -74,7 +74,7 @@ impl Structure {
         ensures refused { IfErr result (λ refusal. Breaks
             (AppendingRun self.old tail.old count (D.disk device.old)) (count + 4) refusal
             (D.disk device.old) (D.disk device.new)) }
-        ensures stays { StaysFor (is_refused is_grave result) self.old self.new
+        ensures stays { StaysFor (is_refused is_fatal result) self.old self.new
             (D.disk device.new) }
         ensures confined { WritesGrowth self.old tail.old (range_with_len lbn count)
             (D.disk device.old) (D.disk device.new) }
@@ -107,7 +107,7 @@ impl Structure {
         from: u32,
         most: u32,
     ) -> Result<(u32, u32), Refusal>
-        requires is_for { IsFor self.old (D.disk device.old) }
+        requires is_for { IsStructureFor self.old (D.disk device.old) }
         requires last { HoldsLast self.old tail.old (D.disk device.old) }
         requires own { 4 ≤ tail.old.file.number }
         requires some { 0 < most }
@@ -122,7 +122,7 @@ impl Structure {
             (GrowingBy (home_of self.old) s tail.old.file.number most (D.disk device.old))
             (blocks_from (bitmap_in self.old) from + 5 * most + 3) refusal
             (D.disk device.old) (D.disk device.new)) }
-        ensures stays { StaysFor (is_refused is_grave result) self.old self.new
+        ensures stays { StaysFor (is_refused is_fatal result) self.old self.new
             (D.disk device.new) }
         ensures confined { IsTrue (D.disk device.old).honest → WritesGrowth self.old tail.old
             (free_list (volume_of (D.disk device.old).image (home_of self.old)))
@@ -145,7 +145,7 @@ impl Structure {
         tail: &mut Tail,
         n: u32,
     ) -> Result<(), Refusal>
-        requires is_for { IsFor self.old (D.disk device.old) }
+        requires is_for { IsStructureFor self.old (D.disk device.old) }
         requires last { HoldsLast self.old tail.old (D.disk device.old) }
         requires own { 4 ≤ tail.old.file.number }
         requires may { IsTrue (D.disk device.old).honest
@@ -159,7 +159,7 @@ impl Structure {
             (ExtendingBy self.old k n (D.disk device.old))
             (s.bitmap_blocks + 5 * n + 3 * need (file_numbered s k).room n + 3) refusal
             (D.disk device.old) (D.disk device.new)) }
-        ensures stays { StaysFor (is_refused is_grave result) self.old self.new
+        ensures stays { StaysFor (is_refused is_fatal result) self.old self.new
             (D.disk device.new) }
         ensures confined { IsTrue (D.disk device.old).honest → WritesGrowth self.old tail.old
             (free_list (volume_of (D.disk device.old).image (home_of self.old)))
@@ -186,16 +186,16 @@ impl Structure {
         f: FileId,
         n: u32,
     ) -> Result<u32, Refusal>
-        requires is_for { IsFor self.old (D.disk device.old) }
+        requires is_for { IsStructureFor self.old (D.disk device.old) }
         requires own { 4 ≤ f.number }
         ensures extended { IfOk result (λ blocks. IsLengthAfter (home_of self.old) f n
             (D.disk device.old) blocks
             × ExtendsFile (home_of self.old) f n (D.disk device.old) (D.disk device.new)) }
         ensures refused { IfErr result (λ refusal. FailsToExtend false (home_of self.old) f n
             refusal (D.disk device.old) (D.disk device.new)) }
-        ensures stays { StaysFor (is_refused is_grave result) self.old self.new
+        ensures stays { StaysFor (is_refused is_fatal result) self.old self.new
             (D.disk device.new) }
-        ensures counts { is_refused is_light result ≡ true → counts_of self.new ≡ counts_of
+        ensures counts { is_refused is_clean result ≡ true → counts_of self.new ≡ counts_of
             self.old }
         ensures confined { let t = table_of (D.disk device.old).image (home_of self.old) in
             IsTrue (D.disk device.old).honest → ConfinesTo self.old
@@ -217,7 +217,7 @@ impl Structure {
 }
 
 impl<D: Device> Files<D> {
-    ghost use Rattle.f11_files.specs.Open.{disk_in, has_failed, home_in, Answers, IsIdFrom};
+    ghost use Rattle.f11_files.specs.Open.{disk_in, has_failed, home_in, AnswersCall, IsIdFrom};
 
     /// Extends a file by `n` blocks of zeros, and answers how many it has then. First the contiguous mark is cleared where it is set. Then the
     /// lowest free blocks are taken, a run of 256 at most after another: each is marked used, made zeros, and named by the file's last
@@ -233,7 +233,7 @@ impl<D: Device> Files<D> {
     pub fn extend(&mut self, f: FileId, n: u32) -> Result<u32, Refusal>
         requires id { IsIdFrom 4 f }
         requires some { 0 < n }
-        ensures answers { Answers result self.old self.new }
+        ensures answers { AnswersCall result self.old self.new }
         ensures extended { IfOk result (λ blocks. IsLengthAfter (home_in self.old) f n
             (disk_in self.old) blocks
             × ExtendsFile (home_in self.old) f n (disk_in self.old) (disk_in self.new)) }
@@ -246,7 +246,7 @@ impl<D: Device> Files<D> {
             return Err(Refusal::VolumeFailed);
         }
         let answer = self.structure.extend(&mut self.device, f, n);
-        self.failed = is_grave(&answer);
+        self.failed = is_fatal(&answer);
         answer
     }
 }

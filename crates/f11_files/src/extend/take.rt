@@ -1,10 +1,10 @@
 //! Blocks that are marked used.
 ghost use Rattle.std.specs.Prelude.{◌≡◌, ◌+◌, ◌<◌, ◌≤◌, IfErr, IfOk, IsTrue};
 ghost use Rattle.f11_bits.specs.Transfers.{blocks_from};
-ghost use Rattle.f11_files.specs.Answers.{is_grave, is_refused, Breaks};
+ghost use Rattle.f11_files.specs.Answers.{is_fatal, is_refused, Breaks};
 ghost use Rattle.f11_image_store.specs.Confines.{no_header};
 ghost use Rattle.f11_files.specs.Extending.Growing.{Taking};
-ghost use Rattle.f11_files.specs.Structure.{bitmap_in, home_of, store_on, IsFor, StaysFor, StandsAlike, WritesParts};
+ghost use Rattle.f11_files.specs.Structure.{bitmap_in, home_of, store_on, IsStructureFor, StaysFor, StandsAlike, WritesParts};
 ghost use Rattle.f11_files.specs.Extending.Take.{NoneBelow, TakesRun};
 
 use crate::structure::Structure;
@@ -25,7 +25,7 @@ impl Structure {
         from: u32,
         most: u32,
     ) -> Result<(u32, u32), Refusal>
-        requires is_for { IsFor self.old (D.disk device.old) }
+        requires is_for { IsStructureFor self.old (D.disk device.old) }
         requires some { 0 < most }
         requires free { IsTrue (D.disk device.old).honest
             → most ≤ (store_on self.old (D.disk device.old)).free }
@@ -38,7 +38,7 @@ impl Structure {
             (D.disk device.old))
             (blocks_from (bitmap_in self.old) from + 2) refusal (D.disk device.old)
             (D.disk device.new)) }
-        ensures stays { StaysFor (is_refused is_grave result) self.old self.new
+        ensures stays { StaysFor (is_refused is_fatal result) self.old self.new
             (D.disk device.new) }
         ensures confined { WritesParts self.old no_header (D.disk device.old) (D.disk device.new) }
         ensures places { StandsAlike self.old self.new }

@@ -2,10 +2,10 @@
 ghost use Rattle.std.specs.Prelude.{◌≤◌, ◌+◌, length, IsTrue, OnOk, OnErr};
 ghost use Rattle.std.specs.List.{range_with_len};
 ghost use Rattle.f11_image_store.specs.Confines.{no_header};
-ghost use Rattle.f11_files.specs.Structure.{home_of, IsFor, ConfinesTo};
+ghost use Rattle.f11_files.specs.Structure.{home_of, IsStructureFor, ConfinesTo};
 ghost use Rattle.f11_files.specs.Extending.Zeros.{Zeroes, FailsToZero};
 ghost use Rattle.f11_volume.specs.Volume.{volume_of};
-ghost use Rattle.f11_writes.specs.NameLaws.{AreSpare};
+ghost use Rattle.f11_writes.specs.NameLaws.{AreUnreferenced};
 
 use crate::structure::Structure;
 use f11_bytes::zeros;
@@ -23,10 +23,10 @@ impl Structure {
         lbn: u32,
         count: u32,
     ) -> Result<(), DeviceFault>
-        requires is_for { IsFor self.now (D.disk device.old) }
+        requires is_for { IsStructureFor self.now (D.disk device.old) }
         requires within { lbn + count ≤ length (D.disk device.old).image }
-        requires spare { IsTrue (D.disk device.old).honest
-            → AreSpare (volume_of (D.disk device.old).image (home_of self.now)) lbn count }
+        requires unreferenced { IsTrue (D.disk device.old).honest
+            → AreUnreferenced (volume_of (D.disk device.old).image (home_of self.now)) lbn count }
         ensures zeroes { OnOk result
             (Zeroes (home_of self.now) lbn count (D.disk device.old) (D.disk device.new)) }
         ensures failed { OnErr result

@@ -1,16 +1,16 @@
 //! The blocks of a file.
 ghost use Rattle.std.specs.Prelude.{◌≡◌, ◌+◌, ◌<◌, ◌≤◌, false, IfErr, OnOk, OnErr, IsTrue};
-ghost use Rattle.f11_files.specs.Answers.{FailsToRead, is_grave, is_refused, WritesBlocksOf};
+ghost use Rattle.f11_files.specs.Answers.{FailsToRead, is_fatal, is_refused, WritesBlocksOf};
 ghost use Rattle.f11_files.specs.Finding.Blocks.{ReadsBlock, StoresBlock, FailsToStore};
 ghost use Rattle.f11_image_store.specs.Confines.{no_header};
 ghost use Rattle.f11_files.specs.Operations.{length_causes};
-ghost use Rattle.f11_files.specs.Structure.{home_of, store_on, IsFor, StaysFor, ConfinesTo};
+ghost use Rattle.f11_files.specs.Structure.{home_of, store_on, IsStructureFor, StaysFor, ConfinesTo};
 ghost use Rattle.f11_chain.specs.FileHeaders.{file_blocks};
 ghost use Rattle.f11_index.specs.Table.{table_of};
 ghost use Rattle.f11_store.specs.Cost.{header_count};
 ghost use Rattle.f11_store.specs.Store.{file_named};
 
-use crate::answer::is_grave;
+use crate::answer::is_fatal;
 use crate::files::Files;
 use crate::structure::Structure;
 use f11_bytes::Block;
@@ -30,7 +30,7 @@ impl Structure {
         vbn: u32,
         block: &mut Block,
     ) -> Result<(), Refusal>
-        requires is_for { IsFor self.now (D.disk device.old) }
+        requires is_for { IsStructureFor self.now (D.disk device.old) }
         requires own { 4 ≤ f.number }
         requires some { 0 < vbn }
         ensures read { OnOk result (ReadsBlock (home_of self.now) f vbn block.new
@@ -39,7 +39,7 @@ impl Structure {
             (length_causes (store_on self.now (D.disk device.old)) f vbn)
             (header_count (file_named (store_on self.now (D.disk device.old)) f) + 1) refusal
             (D.disk device.old) (D.disk device.new)) }
-        ensures kept { is_refused is_grave result ≡ false → OnErr result (block.new ≡ block.old) }
+        ensures kept { is_refused is_fatal result ≡ false → OnErr result (block.new ≡ block.old) }
     {
         let lbn = self.locate(device, f, vbn)?;
         match device.read(lbn, block) {
@@ -60,14 +60,14 @@ impl Structure {
         vbn: u32,
         block: &Block,
     ) -> Result<(), Refusal>
-        requires is_for { IsFor self.now (D.disk device.old) }
+        requires is_for { IsStructureFor self.now (D.disk device.old) }
         requires own { 4 ≤ f.number }
         requires some { 0 < vbn }
         ensures stored { OnOk result (StoresBlock (home_of self.now) f vbn block.now
             (D.disk device.old) (D.disk device.new)) }
         ensures refused { IfErr result (λ refusal. FailsToStore false (home_of self.now) f vbn
             block.now refusal (D.disk device.old) (D.disk device.new)) }
-        ensures stays { StaysFor (is_refused is_grave result) self.now self.now
+        ensures stays { StaysFor (is_refused is_fatal result) self.now self.now
             (D.disk device.new) }
         ensures confined { IsTrue (D.disk device.old).honest → ConfinesTo self.now no_header
             (file_blocks (table_of (D.disk device.old).image (home_of self.now)) f.number)
@@ -82,7 +82,7 @@ impl Structure {
 }
 
 impl<D: Device> Files<D> {
-    ghost use Rattle.f11_files.specs.Open.{counts_in, disk_in, has_failed, home_in, store_in, Answers, IsIdFrom};
+    ghost use Rattle.f11_files.specs.Open.{counts_in, disk_in, has_failed, home_in, store_in, AnswersCall, IsIdFrom};
 
     /// Reads block `vbn` of a file, from 1, into the block that is lent, which stays as it is where the call is refused for another cause
     /// than `DeviceFault` and `Damaged`. It reads the file's headers up to the one that names the block, each once, and the block.
@@ -95,7 +95,7 @@ impl<D: Device> Files<D> {
     pub fn read_block(&mut self, f: FileId, vbn: u32, block: &mut Block) -> Result<(), Refusal>
         requires id { IsIdFrom 4 f }
         requires some { 0 < vbn }
-        ensures answers { Answers result self.old self.new }
+        ensures answers { AnswersCall result self.old self.new }
         ensures told { counts_in self.new ≡ counts_in self.old }
         ensures read { OnOk result (ReadsBlock (home_in self.old) f vbn block.new
             (disk_in self.old) (disk_in self.new)) }
@@ -103,13 +103,13 @@ impl<D: Device> Files<D> {
             (length_causes (store_in self.old) f vbn)
             (header_count (file_named (store_in self.old) f) + 1) refusal
             (disk_in self.old) (disk_in self.new)) }
-        ensures kept { is_refused is_grave result ≡ false → OnErr result (block.new ≡ block.old) }
+        ensures kept { is_refused is_fatal result ≡ false → OnErr result (block.new ≡ block.old) }
     {
         if self.failed {
             return Err(Refusal::VolumeFailed);
         }
         let answer = self.structure.read_block(&mut self.device, f, vbn, block);
-        self.failed = is_grave(&answer);
+        self.failed = is_fatal(&answer);
         answer
     }
 
@@ -122,7 +122,7 @@ impl<D: Device> Files<D> {
     pub fn write_block(&mut self, f: FileId, vbn: u32, block: &Block) -> Result<(), Refusal>
         requires id { IsIdFrom 4 f }
         requires some { 0 < vbn }
-        ensures answers { Answers result self.old self.new }
+        ensures answers { AnswersCall result self.old self.new }
         ensures stored { OnOk result (StoresBlock (home_in self.old) f vbn block.now
             (disk_in self.old) (disk_in self.new)) }
         ensures refused { IfErr result (λ refusal. FailsToStore (has_failed self.old)
@@ -133,7 +133,7 @@ impl<D: Device> Files<D> {
             return Err(Refusal::VolumeFailed);
         }
         let answer = self.structure.write_block(&mut self.device, f, vbn, block);
-        self.failed = is_grave(&answer);
+        self.failed = is_fatal(&answer);
         answer
     }
 }

@@ -3,7 +3,7 @@ ghost use Rattle.std.specs.Prelude.{false, OnOk, IfErr};
 ghost use Rattle.f11_files.specs.Answers.{FailsToRead};
 ghost use Rattle.f11_files.specs.Finding.First.{FindsFile, IsFirstOf, IsOther};
 ghost use Rattle.f11_files.specs.Operations.{file_causes};
-ghost use Rattle.f11_files.specs.Structure.{index_in, store_on, IsFor};
+ghost use Rattle.f11_files.specs.Structure.{index_in, store_on, IsStructureFor};
 
 use crate::structure::Structure;
 use f11_bytes::Block;
@@ -46,7 +46,7 @@ impl Structure {
         f: FileId,
         block: &mut Block,
     ) -> Result<(), Refusal>
-        requires is_for { IsFor self.now (D.disk device.old) }
+        requires is_for { IsStructureFor self.now (D.disk device.old) }
         ensures found { OnOk result
             (FindsFile (index_in self.now) f block.new (D.disk device.old) (D.disk device.new)) }
         ensures refused { IfErr result (λ refusal. FailsToRead false

@@ -3,11 +3,11 @@ ghost use Rattle.std.specs.Prelude.{◌≡◌, ◌≤◌, false, IfErr, IfOk};
 ghost use Rattle.f11_files.specs.Answers.{FailsToRead};
 ghost use Rattle.f11_files.specs.Finding.Length.{CountsBlocks};
 ghost use Rattle.f11_files.specs.Operations.{file_causes};
-ghost use Rattle.f11_files.specs.Structure.{home_of, store_on, IsFor};
+ghost use Rattle.f11_files.specs.Structure.{home_of, store_on, IsStructureFor};
 ghost use Rattle.f11_store.specs.Cost.{header_count};
 ghost use Rattle.f11_store.specs.Store.{file_named};
 
-use crate::answer::{is_grave, refusal_for};
+use crate::answer::{is_fatal, refusal_for};
 use crate::files::Files;
 use crate::structure::Structure;
 use f11_bytes::BLOCK_SIZE;
@@ -23,7 +23,7 @@ impl Structure {
     /// `NoSuchFile` where no file has this identification, `DeviceFault` where a transfer failed, `Damaged` where a header or a link
     /// isn't as it should be.
     pub(crate) fn length<D: Device>(&self, device: &mut D, f: FileId) -> Result<u32, Refusal>
-        requires is_for { IsFor self.now (D.disk device.old) }
+        requires is_for { IsStructureFor self.now (D.disk device.old) }
         requires own { 4 ≤ f.number }
         ensures counts { IfOk result (λ blocks. CountsBlocks (home_of self.now) f blocks
             (D.disk device.old) (D.disk device.new)) }
@@ -42,7 +42,7 @@ impl Structure {
 }
 
 impl<D: Device> Files<D> {
-    ghost use Rattle.f11_files.specs.Open.{counts_in, disk_in, has_failed, home_in, store_in, Answers, IsIdFrom};
+    ghost use Rattle.f11_files.specs.Open.{counts_in, disk_in, has_failed, home_in, store_in, AnswersCall, IsIdFrom};
 
     /// How many blocks a file has. It reads each of the file's headers once.
     ///
@@ -52,7 +52,7 @@ impl<D: Device> Files<D> {
     /// `DeviceFault` where a transfer failed, `Damaged` where a header or a link isn't as it should be.
     pub fn length(&mut self, f: FileId) -> Result<u32, Refusal>
         requires id { IsIdFrom 4 f }
-        ensures answers { Answers result self.old self.new }
+        ensures answers { AnswersCall result self.old self.new }
         ensures told { counts_in self.new ≡ counts_in self.old }
         ensures counts { IfOk result (λ blocks. CountsBlocks (home_in self.old) f blocks
             (disk_in self.old) (disk_in self.new)) }
@@ -65,7 +65,7 @@ impl<D: Device> Files<D> {
             return Err(Refusal::VolumeFailed);
         }
         let answer = self.structure.length(&mut self.device, f);
-        self.failed = is_grave(&answer);
+        self.failed = is_fatal(&answer);
         answer
     }
 }

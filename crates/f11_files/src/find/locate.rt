@@ -3,7 +3,7 @@ ghost use Rattle.std.specs.Prelude.{◌<◌, ◌≤◌, false, IfOk, IfErr};
 ghost use Rattle.f11_files.specs.Answers.{FailsToRead};
 ghost use Rattle.f11_files.specs.Finding.Blocks.{FindsBlock};
 ghost use Rattle.f11_files.specs.Operations.{length_causes};
-ghost use Rattle.f11_files.specs.Structure.{home_of, store_on, IsFor};
+ghost use Rattle.f11_files.specs.Structure.{home_of, store_on, IsStructureFor};
 ghost use Rattle.f11_store.specs.Cost.{header_count};
 ghost use Rattle.f11_store.specs.Store.{file_named};
 
@@ -28,7 +28,7 @@ impl Structure {
         f: FileId,
         vbn: u32,
     ) -> Result<u32, Refusal>
-        requires is_for { IsFor self.now (D.disk device.old) }
+        requires is_for { IsStructureFor self.now (D.disk device.old) }
         requires own { 4 ≤ f.number }
         requires some { 0 < vbn }
         ensures found { IfOk result (λ lbn. FindsBlock (home_of self.now) f vbn lbn

@@ -2,19 +2,19 @@
 ghost use Rattle.std.specs.Prelude.{◌≡◌, ◌≤◌, ◌<◌, false, IfErr, IfOk, true, IsTrue};
 ghost use Rattle.f11_volume.specs.Volume.{volume_of};
 ghost use Rattle.f11_image_store.specs.Allocation.{free_list};
-ghost use Rattle.f11_files.specs.Answers.{is_grave, is_light, is_refused, FailsToRead, WritesMoreOf};
+ghost use Rattle.f11_files.specs.Answers.{is_fatal, is_clean, is_refused, FailsToRead, WritesMoreOf};
 ghost use Rattle.f11_image_store.specs.Confines.{either, new_header};
 ghost use Rattle.f11_files.specs.GrowingIndex.Runs.{index_id, FailsToGrow, FindsIndexRoom, GrowsIndexFile, IsSlotsAfter};
 ghost use Rattle.f11_files.specs.Operations.{grow_causes};
 ghost use Rattle.f11_image_store.specs.StoreOf.{slot_limit};
-ghost use Rattle.f11_files.specs.Structure.{counts_of, home_of, store_on, index_in, IsFor, StaysFor, ConfinesTo};
+ghost use Rattle.f11_files.specs.Structure.{counts_of, home_of, store_on, index_in, IsStructureFor, StaysFor, ConfinesTo};
 ghost use Rattle.f11_index.specs.Headers.{headers_of};
 ghost use Rattle.f11_index.specs.Table.{table_of};
 ghost use Rattle.f11_store.specs.Changes.{is_in};
 ghost use Rattle.f11_store.specs.Cost.{header_count};
 ghost use Rattle.f11_store.specs.Store.{index_file};
 
-use crate::answer::{is_grave, is_no_file};
+use crate::answer::{is_fatal, is_no_file};
 use crate::extend::runs::tail_of;
 use crate::files::Files;
 use crate::structure::Structure;
@@ -62,7 +62,7 @@ impl Structure {
         first: &mut Block,
         last: &mut Block,
     ) -> Result<FileEnd, Refusal>
-        requires is_for { IsFor self.now (D.disk device.old) }
+        requires is_for { IsStructureFor self.now (D.disk device.old) }
         requires some { 0 < n }
         ensures room { IfOk result (λ end. FindsIndexRoom self.now n end first.new last.new
             (D.disk device.old) (D.disk device.new)) }
@@ -92,16 +92,16 @@ impl Structure {
     ///
     /// Those of [`Structure::find_index_room`], `NoMemory`, and those of [`Structure::grow_by`].
     pub(crate) fn grow_index<D: Device>(&mut self, device: &mut D, n: u32) -> Result<u32, Refusal>
-        requires is_for { IsFor self.old (D.disk device.old) }
+        requires is_for { IsStructureFor self.old (D.disk device.old) }
         requires some { 0 < n }
         ensures grown { IfOk result (λ slots. IsSlotsAfter (home_of self.old) n (D.disk device.old)
             slots
             × GrowsIndexFile (home_of self.old) n (D.disk device.old) (D.disk device.new)) }
         ensures refused { IfErr result (λ refusal. FailsToGrow false (home_of self.old) n refusal
             (D.disk device.old) (D.disk device.new)) }
-        ensures stays { StaysFor (is_refused is_grave result) self.old self.new
+        ensures stays { StaysFor (is_refused is_fatal result) self.old self.new
             (D.disk device.new) }
-        ensures counts { is_refused is_light result ≡ true → counts_of self.new ≡ counts_of
+        ensures counts { is_refused is_clean result ≡ true → counts_of self.new ≡ counts_of
             self.old }
         ensures confined { let t = table_of (D.disk device.old).image (home_of self.old) in
             IsTrue (D.disk device.old).honest → ConfinesTo self.old
@@ -127,7 +127,7 @@ impl Structure {
 }
 
 impl<D: Device> Files<D> {
-    ghost use Rattle.f11_files.specs.Open.{disk_in, has_failed, home_in, Answers};
+    ghost use Rattle.f11_files.specs.Open.{disk_in, has_failed, home_in, AnswersCall};
 
     /// Gives the index file `n` slots more, and answers how many there are then. First all memory is taken, and the contiguous mark cleared
     /// where it is set. Then the index file grows as [`Files::extend`] says of a file; its new blocks are zeros, so none of the slots was
@@ -142,7 +142,7 @@ impl<D: Device> Files<D> {
     /// free though one should be: on no honest device.
     pub fn grow_index(&mut self, n: u32) -> Result<u32, Refusal>
         requires some { 0 < n }
-        ensures answers { Answers result self.old self.new }
+        ensures answers { AnswersCall result self.old self.new }
         ensures grown { IfOk result (λ slots. IsSlotsAfter (home_in self.old) n (disk_in self.old)
             slots
             × GrowsIndexFile (home_in self.old) n (disk_in self.old) (disk_in self.new)) }
@@ -154,7 +154,7 @@ impl<D: Device> Files<D> {
             return Err(Refusal::VolumeFailed);
         }
         let answer = self.structure.grow_index(&mut self.device, n);
-        self.failed = is_grave(&answer);
+        self.failed = is_fatal(&answer);
         answer
     }
 }

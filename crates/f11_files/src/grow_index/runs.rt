@@ -3,19 +3,19 @@ ghost use Rattle.std.specs.Prelude.{◌≡◌, ◌+◌, ◌-◌, ◌*◌, ◌/�
 ghost use Rattle.f11_bits.specs.Transfers.{blocks_from};
 ghost use Rattle.std.specs.List.{range_with_len};
 ghost use Rattle.f11_image_store.specs.Allocation.{free_list};
-ghost use Rattle.f11_files.specs.Answers.{is_grave, is_refused, Breaks};
+ghost use Rattle.f11_files.specs.Answers.{is_fatal, is_refused, Breaks};
 ghost use Rattle.f11_store.specs.Pieces.{with_more_free};
 ghost use Rattle.f11_image_store.specs.FileLaws.{room_in};
 ghost use Rattle.f11_files.specs.GrowingIndex.Runs.{AddsSlots, AppendingSlots, AppendsSlots, GrowingIndex, GrowingIndexBy, GrowsIndexBy};
 ghost use Rattle.f11_store.specs.IndexPieces.{MayGrowIndex};
-ghost use Rattle.f11_files.specs.Structure.{bitmap_in, home_of, store_on, IsFor, StaysFor};
+ghost use Rattle.f11_files.specs.Structure.{bitmap_in, home_of, store_on, IsStructureFor, StaysFor};
 ghost use Rattle.f11_files.specs.Extending.Tail.{GrowsWithin, HoldsLast, MayBeGiven, WritesGrowth, ownership_of};
 ghost use Rattle.f11_files.specs.Extending.Take.{NoneBelow};
 ghost use Rattle.f11_index.specs.Kept.{room};
 ghost use Rattle.f11_store.specs.File.{need};
 ghost use Rattle.f11_store.specs.Store.{index_file};
 ghost use Rattle.f11_volume.specs.Volume.{volume_of};
-ghost use Rattle.f11_writes.specs.NameLaws.{AreSpare};
+ghost use Rattle.f11_writes.specs.NameLaws.{AreUnreferenced};
 
 use crate::extend::header::LAST_SEGMENT;
 use crate::extend::tail::Tail;
@@ -39,7 +39,7 @@ impl Structure {
         lbn: u32,
         count: u32,
     ) -> Result<(), Refusal>
-        requires is_for { IsFor self.old (D.disk device.old) }
+        requires is_for { IsStructureFor self.old (D.disk device.old) }
         requires last { HoldsLast self.old tail.old (D.disk device.old) }
         requires index { tail.old.file.number ≡ 1 }
         requires given { MayBeGiven (home_of self.old) lbn count (D.disk device.old) }
@@ -53,7 +53,7 @@ impl Structure {
         ensures refused { IfErr result (λ refusal. Breaks
             (AppendingSlots self.old count (D.disk device.old)) 4 refusal
             (D.disk device.old) (D.disk device.new)) }
-        ensures stays { StaysFor (is_refused is_grave result) self.old self.new
+        ensures stays { StaysFor (is_refused is_fatal result) self.old self.new
             (D.disk device.new) }
         ensures confined { WritesGrowth self.old tail.old (range_with_len lbn count)
             (D.disk device.old) (D.disk device.new) }
@@ -87,13 +87,13 @@ impl Structure {
         lbn: u32,
         count: u32,
     ) -> Result<(), Refusal>
-        requires is_for { IsFor self.old (D.disk device.old) }
+        requires is_for { IsStructureFor self.old (D.disk device.old) }
         requires last { HoldsLast self.old tail.old (D.disk device.old) }
         requires index { tail.old.file.number ≡ 1 }
         requires within { lbn + count ≤ (bitmap_in self.old).size }
         requires few { (0 < count) × (count ≤ 256) }
-        requires spare { IsTrue (D.disk device.old).honest
-            → AreSpare (volume_of (D.disk device.old).image (home_of self.old)) lbn count }
+        requires unreferenced { IsTrue (D.disk device.old).honest
+            → AreUnreferenced (volume_of (D.disk device.old).image (home_of self.old)) lbn count }
         requires reserved { count ≤ room self.old.index }
         requires may { let free = with_more_free (store_on self.old (D.disk device.old)) count in
             IsTrue (D.disk device.old).honest → MayGrowIndex free count }
@@ -102,7 +102,7 @@ impl Structure {
         ensures refused { IfErr result (λ refusal. Breaks
             (AppendingSlots self.old count (D.disk device.old)) (count + 4) refusal
             (D.disk device.old) (D.disk device.new)) }
-        ensures stays { StaysFor (is_refused is_grave result) self.old self.new
+        ensures stays { StaysFor (is_refused is_fatal result) self.old self.new
             (D.disk device.new) }
         ensures confined { WritesGrowth self.old tail.old (range_with_len lbn count)
             (D.disk device.old) (D.disk device.new) }
@@ -136,7 +136,7 @@ impl Structure {
         from: u32,
         most: u32,
     ) -> Result<(u32, u32), Refusal>
-        requires is_for { IsFor self.old (D.disk device.old) }
+        requires is_for { IsStructureFor self.old (D.disk device.old) }
         requires last { HoldsLast self.old tail.old (D.disk device.old) }
         requires index { tail.old.file.number ≡ 1 }
         requires some { 0 < most }
@@ -152,7 +152,7 @@ impl Structure {
             (GrowingIndexBy (home_of self.old) s most (D.disk device.old))
             (blocks_from (bitmap_in self.old) from + 5 * most + 3) refusal
             (D.disk device.old) (D.disk device.new)) }
-        ensures stays { StaysFor (is_refused is_grave result) self.old self.new
+        ensures stays { StaysFor (is_refused is_fatal result) self.old self.new
             (D.disk device.new) }
         ensures confined { IsTrue (D.disk device.old).honest → WritesGrowth self.old tail.old
             (free_list (volume_of (D.disk device.old).image (home_of self.old)))
@@ -178,7 +178,7 @@ impl Structure {
         tail: &mut Tail,
         n: u32,
     ) -> Result<(), Refusal>
-        requires is_for { IsFor self.old (D.disk device.old) }
+        requires is_for { IsStructureFor self.old (D.disk device.old) }
         requires last { HoldsLast self.old tail.old (D.disk device.old) }
         requires index { tail.old.file.number ≡ 1 }
         requires reserved { n ≤ room self.old.index }
@@ -191,7 +191,7 @@ impl Structure {
             (GrowingIndex self.old n (D.disk device.old))
             (s.bitmap_blocks + 5 * n + 3 * need (index_file s).room n + 3) refusal
             (D.disk device.old) (D.disk device.new)) }
-        ensures stays { StaysFor (is_refused is_grave result) self.old self.new
+        ensures stays { StaysFor (is_refused is_fatal result) self.old self.new
             (D.disk device.new) }
         ensures confined { IsTrue (D.disk device.old).honest → WritesGrowth self.old tail.old
             (free_list (volume_of (D.disk device.old).image (home_of self.old)))

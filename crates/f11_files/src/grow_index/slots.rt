@@ -4,7 +4,7 @@ ghost use Rattle.f11_dev.specs.Went.{Went};
 ghost use Rattle.f11_image_store.specs.Confines.{only_header};
 ghost use Rattle.f11_files.specs.GrowingIndex.Slots.{FailsToNameSlots, HasSlotsBehind, LinkingSlots, LinksSlots, MayBecomeSlots, NamesSlots, NamesThese};
 ghost use Rattle.f11_files.specs.Extending.Link.{MayFollow};
-ghost use Rattle.f11_files.specs.Structure.{bitmap_in, home_of, IsFor, StaysFor, WritesParts};
+ghost use Rattle.f11_files.specs.Structure.{bitmap_in, home_of, IsStructureFor, StaysFor, WritesParts};
 ghost use Rattle.f11_files.specs.Extending.Tail.{HoldsLast, MayBeGiven, HasNoPlace, whose};
 ghost use Rattle.f11_files.specs.Extending.Zeros.{HoldsZeros};
 ghost use Rattle.f11_map.specs.HeaderBlock.{segment_number};
@@ -30,7 +30,7 @@ impl Structure {
         lbn: u32,
         count: u32,
     ) -> Result<bool, DeviceFault>
-        requires is_for { IsFor self.old (D.disk device.old) }
+        requires is_for { IsStructureFor self.old (D.disk device.old) }
         requires last { HoldsLast self.old tail.old (D.disk device.old) }
         requires index { tail.old.file.number ≡ 1 }
         requires given { MayBeGiven (home_of self.old) lbn count (D.disk device.old) }
@@ -75,7 +75,7 @@ impl Structure {
         lbn: u32,
         count: u32,
     ) -> Result<(), DeviceFault>
-        requires is_for { IsFor self.old (D.disk device.old) }
+        requires is_for { IsStructureFor self.old (D.disk device.old) }
         requires last { HoldsLast self.old tail.old (D.disk device.old) }
         requires index { tail.old.file.number ≡ 1 }
         requires early { segment_number tail.old.block < 255 }

@@ -1,13 +1,13 @@
 //! A file that is deleted.
 ghost use Rattle.std.specs.Prelude.{◌≡◌, ◌≤◌, false, IfErr, IsTrue, OnOk, true};
-ghost use Rattle.f11_files.specs.Answers.{is_grave, is_light, is_refused, WritesHeadersOf};
+ghost use Rattle.f11_files.specs.Answers.{is_fatal, is_clean, is_refused, WritesHeadersOf};
 ghost use Rattle.f11_files.specs.Removing.Delete.{Deletes, FailsToDelete};
-ghost use Rattle.f11_files.specs.Structure.{counts_of, home_of, IsFor, StaysFor, WritesParts};
+ghost use Rattle.f11_files.specs.Structure.{counts_of, home_of, IsStructureFor, StaysFor, WritesParts};
 ghost use Rattle.f11_index.specs.Headers.{headers_of};
 ghost use Rattle.f11_index.specs.Table.{table_of};
 ghost use Rattle.f11_store.specs.Changes.{is_in};
 
-use crate::answer::is_grave;
+use crate::answer::is_fatal;
 use crate::files::Files;
 use crate::structure::Structure;
 use f11_bytes::BLOCK_SIZE;
@@ -21,15 +21,15 @@ impl Structure {
     ///
     /// Those of [`Structure::read_first`], and those of [`Structure::drop_behind`].
     pub(crate) fn delete<D: Device>(&mut self, device: &mut D, f: FileId) -> Result<(), Refusal>
-        requires is_for { IsFor self.old (D.disk device.old) }
+        requires is_for { IsStructureFor self.old (D.disk device.old) }
         requires late { 6 ≤ f.number }
         ensures deleted { OnOk result
             (Deletes (home_of self.old) f (D.disk device.old) (D.disk device.new)) }
         ensures refused { IfErr result (λ refusal. FailsToDelete false (home_of self.old) f refusal
             (D.disk device.old) (D.disk device.new)) }
-        ensures stays { StaysFor (is_refused is_grave result) self.old self.new
+        ensures stays { StaysFor (is_refused is_fatal result) self.old self.new
             (D.disk device.new) }
-        ensures counts { is_refused is_light result ≡ true → counts_of self.new ≡ counts_of
+        ensures counts { is_refused is_clean result ≡ true → counts_of self.new ≡ counts_of
             self.old }
         ensures confined { IsTrue (D.disk device.old).honest → WritesParts self.old
             (is_in (headers_of (table_of (D.disk device.old).image (home_of self.old)) f.number))
@@ -43,7 +43,7 @@ impl Structure {
 }
 
 impl<D: Device> Files<D> {
-    ghost use Rattle.f11_files.specs.Open.{disk_in, has_failed, home_in, Answers, IsIdFrom};
+    ghost use Rattle.f11_files.specs.Open.{disk_in, has_failed, home_in, AnswersCall, IsIdFrom};
 
     /// Deletes a file, one that is marked for delete too. For each of its headers, in order, three things are written: the header, killed;
     /// the bit of its slot, so that it isn't in use; and the bits of its blocks, so that they are free. So each header is killed
@@ -55,7 +55,7 @@ impl<D: Device> Files<D> {
     /// `DeviceFault` where a transfer failed, `Damaged` where a header, a link or a block isn't as it should be.
     pub fn delete(&mut self, f: FileId) -> Result<(), Refusal>
         requires id { IsIdFrom 6 f }
-        ensures answers { Answers result self.old self.new }
+        ensures answers { AnswersCall result self.old self.new }
         ensures deleted { OnOk result
             (Deletes (home_in self.old) f (disk_in self.old) (disk_in self.new)) }
         ensures refused { IfErr result (λ refusal. FailsToDelete (has_failed self.old)
@@ -67,7 +67,7 @@ impl<D: Device> Files<D> {
             return Err(Refusal::VolumeFailed);
         }
         let answer = self.structure.delete(&mut self.device, f);
-        self.failed = is_grave(&answer);
+        self.failed = is_fatal(&answer);
         answer
     }
 }

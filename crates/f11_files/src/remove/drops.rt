@@ -1,17 +1,17 @@
 //! Headers that go: each is killed, its slot leaves use, and its blocks are marked free.
 ghost use Rattle.std.specs.Prelude.{◌≡◌, ◌<◌, ◌≤◌, ◌*◌, ◌^◌, IfErr, IsTrue, None, OnOk, drop, length};
 ghost use Rattle.f11_chain.specs.Calls.{HoldsHeader};
-ghost use Rattle.f11_files.specs.Answers.{is_grave, is_refused};
+ghost use Rattle.f11_files.specs.Answers.{is_fatal, is_refused};
 ghost use Rattle.f11_image_store.specs.Confines.{no_header, only_header};
-ghost use Rattle.f11_files.specs.Removing.Drops.{AreAllSpare, BreaksOff, Buries, DropsBehind, DropsHeader, GivesBlocks, GivesRun, HangsBehind, MayDrop, drop_cost, headers_behind, tail_cost};
+ghost use Rattle.f11_files.specs.Removing.Drops.{AreAllUnreferenced, BreaksOff, FreesSlot, DropsBehind, DropsHeader, GivesBlocks, GivesRun, HangsBehind, MayDrop, drop_cost, headers_behind, tail_cost};
 ghost use Rattle.f11_image_store.specs.FileLaws.{pointers_in};
-ghost use Rattle.f11_files.specs.Structure.{home_of, index_in, store_on, IsFor, StandsAlike, StaysFor, WritesParts};
+ghost use Rattle.f11_files.specs.Structure.{home_of, index_in, store_on, IsStructureFor, StandsAlike, StaysFor, WritesParts};
 ghost use Rattle.f11_header.specs.Header.{holds_header};
 ghost use Rattle.f11_map.specs.HeaderBlock.{blocks_named};
 ghost use Rattle.f11_index.specs.Table.{table_of};
 ghost use Rattle.f11_store.specs.Changes.{is_in, with_file};
 ghost use Rattle.f11_volume.specs.Volume.{volume_of};
-ghost use Rattle.f11_writes.specs.NameLaws.{AreSpare};
+ghost use Rattle.f11_writes.specs.NameLaws.{AreUnreferenced};
 
 use crate::answer::refusal_for;
 use crate::structure::Structure;
@@ -32,17 +32,17 @@ impl Structure {
     ///
     /// `DeviceFault` where a transfer failed, `Damaged` where they aren't all in the volume.
     fn give_run<D: Device>(&mut self, device: &mut D, lbn: u32, count: u32) -> Result<(), Refusal>
-        requires is_for { IsFor self.old (D.disk device.old) }
+        requires is_for { IsStructureFor self.old (D.disk device.old) }
         requires lbn { lbn < 2 ^ 25 }
         requires few { count ≤ 256 }
-        requires spare { IsTrue (D.disk device.old).honest → 0 < count
-            → AreSpare (volume_of (D.disk device.old).image (home_of self.old)) lbn count }
+        requires unreferenced { IsTrue (D.disk device.old).honest → 0 < count
+            → AreUnreferenced (volume_of (D.disk device.old).image (home_of self.old)) lbn count }
         ensures given { OnOk result
             (GivesRun (home_of self.old) lbn count (D.disk device.old) (D.disk device.new)) }
         ensures refused { IfErr result (λ refusal. BreaksOff (home_of self.old)
             (store_on self.old (D.disk device.old)) 4 refusal (D.disk device.old)
             (D.disk device.new)) }
-        ensures stays { StaysFor (is_refused is_grave result) self.old self.new
+        ensures stays { StaysFor (is_refused is_fatal result) self.old self.new
             (D.disk device.new) }
         ensures confined { WritesParts self.old no_header (D.disk device.old) (D.disk device.new) }
         ensures places { OnOk result (StandsAlike self.old self.new) }
@@ -70,10 +70,10 @@ impl Structure {
         block: &Block,
         keep: u32,
     ) -> Result<(), Refusal>
-        requires is_for { IsFor self.old (D.disk device.old) }
+        requires is_for { IsStructureFor self.old (D.disk device.old) }
         requires header { IsTrue (holds_header block.now) }
-        requires spare { IsTrue (D.disk device.old).honest
-            → AreAllSpare (volume_of (D.disk device.old).image (home_of self.old))
+        requires unreferenced { IsTrue (D.disk device.old).honest
+            → AreAllUnreferenced (volume_of (D.disk device.old).image (home_of self.old))
             (drop keep (blocks_named block.now)) }
         ensures given { OnOk result (GivesBlocks (home_of self.old)
             (drop keep (blocks_named block.now)) (pointers_in block.now)
@@ -81,7 +81,7 @@ impl Structure {
         ensures refused { IfErr result (λ refusal. BreaksOff (home_of self.old)
             (store_on self.old (D.disk device.old)) (4 * pointers_in block.now) refusal
             (D.disk device.old) (D.disk device.new)) }
-        ensures stays { StaysFor (is_refused is_grave result) self.old self.new
+        ensures stays { StaysFor (is_refused is_fatal result) self.old self.new
             (D.disk device.new) }
         ensures confined { WritesParts self.old no_header (D.disk device.old) (D.disk device.new) }
         ensures places { OnOk result (StandsAlike self.old self.new) }
@@ -102,17 +102,17 @@ impl Structure {
     /// # Errors
     ///
     /// `DeviceFault` where a transfer failed.
-    fn bury<D: Device>(&mut self, device: &mut D, n: u16, block: &Block) -> Result<(), Refusal>
-        requires is_for { IsFor self.old (D.disk device.old) }
+    fn free_slot<D: Device>(&mut self, device: &mut D, n: u16, block: &Block) -> Result<(), Refusal>
+        requires is_for { IsStructureFor self.old (D.disk device.old) }
         requires holds { HoldsHeader (index_in self.old) n block.now (D.disk device.old) }
         requires may { IsTrue (D.disk device.old).honest
             → MayDrop (table_of (D.disk device.old).image (home_of self.old)) n }
-        ensures buried { OnOk result
-            (Buries (home_of self.old) n block.now (D.disk device.old) (D.disk device.new)) }
+        ensures freed { OnOk result
+            (FreesSlot (home_of self.old) n block.now (D.disk device.old) (D.disk device.new)) }
         ensures refused { IfErr result (λ refusal. BreaksOff (home_of self.old)
             (with_file (store_on self.old (D.disk device.old)) n None) 2 refusal
             (D.disk device.old) (D.disk device.new)) }
-        ensures stays { StaysFor (is_refused is_grave result) self.old self.new
+        ensures stays { StaysFor (is_refused is_fatal result) self.old self.new
             (D.disk device.new) }
         ensures confined { WritesParts self.old (only_header n) (D.disk device.old)
             (D.disk device.new) }
@@ -141,7 +141,7 @@ impl Structure {
         n: u16,
         block: &Block,
     ) -> Result<(), Refusal>
-        requires is_for { IsFor self.old (D.disk device.old) }
+        requires is_for { IsStructureFor self.old (D.disk device.old) }
         requires holds { HoldsHeader (index_in self.old) n block.now (D.disk device.old) }
         requires may { IsTrue (D.disk device.old).honest
             → MayDrop (table_of (D.disk device.old).image (home_of self.old)) n }
@@ -150,13 +150,13 @@ impl Structure {
         ensures refused { IfErr result (λ refusal. BreaksOff (home_of self.old)
             (with_file (store_on self.old (D.disk device.old)) n None) (drop_cost block.now) refusal
             (D.disk device.old) (D.disk device.new)) }
-        ensures stays { StaysFor (is_refused is_grave result) self.old self.new
+        ensures stays { StaysFor (is_refused is_fatal result) self.old self.new
             (D.disk device.new) }
         ensures confined { WritesParts self.old (only_header n) (D.disk device.old)
             (D.disk device.new) }
         ensures places { OnOk result (StandsAlike self.old self.new) }
     {
-        self.bury(device, n, block)?;
+        self.free_slot(device, n, block)?;
         self.give_from(device, block, 0)
     }
 
@@ -170,7 +170,7 @@ impl Structure {
         device: &mut D,
         block: &mut Block,
     ) -> Result<(), Refusal>
-        requires is_for { IsFor self.old (D.disk device.old) }
+        requires is_for { IsStructureFor self.old (D.disk device.old) }
         requires header { IsTrue (holds_header block.old) }
         requires hangs { IsTrue (D.disk device.old).honest
             → HangsBehind (table_of (D.disk device.old).image (home_of self.old)) block.old
@@ -182,7 +182,7 @@ impl Structure {
             (tail_cost (table_of (D.disk device.old).image (home_of self.old))
             (headers_behind (table_of (D.disk device.old).image (home_of self.old)) block.old))
             refusal (D.disk device.old) (D.disk device.new)) }
-        ensures stays { StaysFor (is_refused is_grave result) self.old self.new
+        ensures stays { StaysFor (is_refused is_fatal result) self.old self.new
             (D.disk device.new) }
         ensures confined { let t = table_of (D.disk device.old).image (home_of self.old) in
             IsTrue (D.disk device.old).honest → WritesParts self.old

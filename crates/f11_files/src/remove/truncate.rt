@@ -1,9 +1,9 @@
 //! A file that is cut to its first blocks.
 ghost use Rattle.std.specs.Prelude.{◌≡◌, ◌≤◌, false, IfErr, IfOk, IsTrue, true};
-ghost use Rattle.f11_files.specs.Answers.{is_grave, is_light, is_refused, FailsToRead, WritesHeadersOf};
+ghost use Rattle.f11_files.specs.Answers.{is_fatal, is_clean, is_refused, FailsToRead, WritesHeadersOf};
 ghost use Rattle.f11_files.specs.Removing.Truncate.{Cuts, CutsOff, FailsToCut, FindsLastKept};
 ghost use Rattle.f11_files.specs.Operations.{length_causes};
-ghost use Rattle.f11_files.specs.Structure.{counts_of, home_of, index_in, store_on, IsFor, StaysFor, WritesParts};
+ghost use Rattle.f11_files.specs.Structure.{counts_of, home_of, index_in, store_on, IsStructureFor, StaysFor, WritesParts};
 ghost use Rattle.f11_header.specs.Header.{holds_header};
 ghost use Rattle.f11_index.specs.Headers.{headers_of};
 ghost use Rattle.f11_index.specs.Table.{table_of};
@@ -11,7 +11,7 @@ ghost use Rattle.f11_store.specs.Changes.{is_in};
 ghost use Rattle.f11_store.specs.Cost.{header_count};
 ghost use Rattle.f11_store.specs.Store.{file_named};
 
-use crate::answer::{is_grave, refusal_for};
+use crate::answer::{is_fatal, refusal_for};
 use crate::files::Files;
 use crate::structure::Structure;
 use f11_bytes::{BLOCK_SIZE, Block};
@@ -51,7 +51,7 @@ impl Structure {
         to: u32,
         block: &mut Block,
     ) -> Result<(u16, u32), Refusal>
-        requires is_for { IsFor self.now (D.disk device.old) }
+        requires is_for { IsStructureFor self.now (D.disk device.old) }
         requires own { 4 ≤ f.number }
         ensures found { IfOk result (λ found. FindsLastKept (home_of self.now)
             (index_in self.now) f to
@@ -83,15 +83,15 @@ impl Structure {
         f: FileId,
         to: u32,
     ) -> Result<u32, Refusal>
-        requires is_for { IsFor self.old (D.disk device.old) }
+        requires is_for { IsStructureFor self.old (D.disk device.old) }
         requires own { 4 ≤ f.number }
         ensures cut { IfOk result (λ blocks. (blocks ≡ to)
             × Cuts (home_of self.old) f to (D.disk device.old) (D.disk device.new)) }
         ensures refused { IfErr result (λ refusal. FailsToCut false (home_of self.old) f to refusal
             (D.disk device.old) (D.disk device.new)) }
-        ensures stays { StaysFor (is_refused is_grave result) self.old self.new
+        ensures stays { StaysFor (is_refused is_fatal result) self.old self.new
             (D.disk device.new) }
-        ensures counts { is_refused is_light result ≡ true → counts_of self.new ≡ counts_of
+        ensures counts { is_refused is_clean result ≡ true → counts_of self.new ≡ counts_of
             self.old }
         ensures confined { IsTrue (D.disk device.old).honest → WritesParts self.old
             (is_in (headers_of (table_of (D.disk device.old).image (home_of self.old)) f.number))
@@ -112,7 +112,7 @@ impl Structure {
 }
 
 impl<D: Device> Files<D> {
-    ghost use Rattle.f11_files.specs.Open.{disk_in, has_failed, home_in, Answers, IsIdFrom};
+    ghost use Rattle.f11_files.specs.Open.{disk_in, has_failed, home_in, AnswersCall, IsIdFrom};
 
     /// Cuts a file to its first `to` blocks, and answers how many it has then. The header that names the last of them, or the first one
     /// where none stays, is written with those blocks and no link; then its other blocks are marked free; and then each header behind
@@ -126,7 +126,7 @@ impl<D: Device> Files<D> {
     /// it should be.
     pub fn truncate(&mut self, f: FileId, to: u32) -> Result<u32, Refusal>
         requires id { IsIdFrom 4 f }
-        ensures answers { Answers result self.old self.new }
+        ensures answers { AnswersCall result self.old self.new }
         ensures cut { IfOk result (λ blocks. (blocks ≡ to)
             × Cuts (home_in self.old) f to (disk_in self.old) (disk_in self.new)) }
         ensures refused { IfErr result (λ refusal. FailsToCut (has_failed self.old)
@@ -138,7 +138,7 @@ impl<D: Device> Files<D> {
             return Err(Refusal::VolumeFailed);
         }
         let answer = self.structure.truncate(&mut self.device, f, to);
-        self.failed = is_grave(&answer);
+        self.failed = is_fatal(&answer);
         answer
     }
 }

@@ -19,7 +19,8 @@ use Rattle.f11_store.specs.File.{stated_end}
 use Rattle.f11_vfy.specs.Surveying.Bits.{limit_of}
 use Rattle.f11_vfy.specs.Chain.{KeepsTable}
 use Rattle.f11_volume.specs.Contents.{following, headers_reached, block_or_zeros, file_of}
-use Rattle.f11_vfy.specs.Directory.Reading.{KnowsNexts, HasBlocks, HoldsBlocks, HoldsHeader, TakesBlocks, TakesHeader, TakesHeaders, TakesDirectory, LooksAtHeader, LooksAtHeaders, LooksFor, ComesTo, numbered, until, wanted}
+use Rattle.f11_vfy.specs.Directory.Blank.{HoldNoRecord}
+use Rattle.f11_vfy.specs.Directory.Reading.{KnowsNexts, HasBlocks, HoldsBlocks, HoldsHeaderBlocks, TakesBlocks, TakesHeader, TakesHeaders, TakesDirectory, LooksAtHeader, LooksAtHeaders, LooksFor, ComesTo, numbered, until, wanted}
 use Rattle.f11_vfy.specs.Directory.Later.{Begins, TakesRecords}
 use Rattle.f11_vfy.specs.Surveying.Headers.{ReadsSlot, reads_of}
 use Rattle.f11_vfy.specs.declared.directories.contents.Directory.{Directory}
@@ -29,6 +30,7 @@ use Rattle.f11_vfy.specs.declared.survey.slot.State.{State}
 use Rattle.f11_vfy.specs.declared.survey.slot.State.TheVariants.{Live}
 use Rattle.f11_vfy.proofs.Surveying.Slots.{live-to}
 use Rattle.f11_vfy.proofs.Directory.Taking.{takes-same, takes-begin}
+use Rattle.f11_vfy.proofs.Directory.Walk.{still}
 use Rattle.f11_volume.proofs.FileLemmas.{following-none}
 
 numbered-some : (n : ℕ) → 1 ≤ n → numbered n ≡ Some n
@@ -141,7 +143,7 @@ header-fails index end at n old new faults looked = record { count = 0; looked =
 module _ (index : Index) (slots : List Slot) (dir : Directory) (at n : ℕ) (s : State) (b : List ℕ) (before : Later) (old now : Disk) (reads : ReadsSlot index n s b old now) where
   pub header-none : s ≢ Live → TakesHeader index slots dir at n 0 before before old now
   header-none dead = record {
-    takes = record { limit = refl; takes = λ t blocks first keeps holds taken. absurd (dead (live-to _ n s (reads.state_is holds.holds.0) holds.live)) };
+    takes = record { limit = refl; takes = λ image t blocks first keeps holds taken. absurd (dead (live-to _ n s (reads.state_is holds.holds.0.0) holds.live)) };
     count_is = λ honest live. absurd (dead (live-to _ n s (reads.state_is honest) live));
     few = omega arith;
     looked = looked_within (slot-looked index n reads.looked) (omega arith);
@@ -162,11 +164,10 @@ module _ (index : Index) (slots : List Slot) (dir : Directory) (at n : ℕ) (s :
     pub header-taken : (count : ℕ) (after : Later) (new : Disk) → count ≡ length (blocks_named b) → count ≤ 32512 → TakesBlocks slots dir at (blocks_named b) before after now new
         → TakesHeader index slots dir at n count before after old new
     header-taken count after new is few takes = record {
-      takes = takes-same slots dir.d (HoldsBlocks now (blocks_named b) at) (HoldsHeader index n at old) _ _ _ _ before after takes.takes refl (ap (λ (k : ℕ). until dir.end (at + k)) (sym is))
-          (λ blocks holds. (
-            reads.looked.honest ∙ holds.holds.0,
-            subst (λ (i : Image). HasBlocks i (blocks_named b) at blocks) (sym reads.looked.image)
-                (subst (λ (x : List ℕ). HasBlocks old.image (blocks_named x) at blocks) (sym (reads.block_is holds.holds.0 live)) holds.holds.1),
+      takes = takes-same slots dir.d (HoldsBlocks now (blocks_named b) at) (HoldsHeaderBlocks index n at old) _ _ _ _ before after takes.takes refl (ap (λ (k : ℕ). until dir.end (at + k)) (sym is))
+          (λ image blocks holds. (
+            still old now image reads.looked holds.holds.0,
+            subst (λ (x : List ℕ). HasBlocks image (blocks_named x) at blocks) (sym (reads.block_is holds.holds.0.0 live)) holds.holds.1,
           ));
       count_is = λ honest _. is ∙ named honest;
       few = few;
@@ -180,8 +181,8 @@ pub record Courses (index : Index) (slots : List Slot) (nexts : List ℕ) (dir :
   pub few : behind ≤ 32512 * counter
   pub comes : IsTrue old.honest → KnowsNexts (table_in old.image index) nexts → ComesTo (table_in old.image index) dir.d at second 255 → ComesTo (table_in old.image index) dir.d behind n (256 - counter)
   pub takes : (first : Later) → IsTrue old.honest → KnowsNexts (table_in old.image index) nexts → KeepsTable (table_in old.image index) slots → ComesTo (table_in old.image index) dir.d at second 255
-      → TakesRecords (table_in old.image index) dir.d (file_of old.image (table_in old.image index) dir.d).blocks (until dir.end at) first before
-      → TakesRecords (table_in old.image index) dir.d (file_of old.image (table_in old.image index) dir.d).blocks (until dir.end behind) first now
+      → TakesRecords old.image (table_in old.image index) dir.d (file_of old.image (table_in old.image index) dir.d).blocks (until dir.end at) first before
+      → TakesRecords old.image (table_in old.image index) dir.d (file_of old.image (table_in old.image index) dir.d).blocks (until dir.end behind) first now
   pub looked : Looked old disk (counter - 1 + (wanted dir.end 0 behind - wanted dir.end 0 at)) 0
 
 module _ (index : Index) (slots : List Slot) (nexts : List ℕ) (dir : Directory) (at second : ℕ) (before : Later) (old : Disk) where
@@ -211,8 +212,8 @@ module _ (index : Index) (slots : List Slot) (nexts : List ℕ) (dir : Directory
       comes = λ honest knows comes. comes-more t dir.d behind n (256 - counter) (256 - (counter + 1)) (is.comes honest knows comes) some (omega (arith, below)) nexts m count knows next (counted honest ((is.comes honest knows comes).live some));
       takes = λ first honest knows keeps comes taken.
           let here = is.comes honest knows comes in
-          takes.takes.takes t blocks first keeps
-          (record { live = subst (λ (x : Table). IsLive x n) (sym same) (here.live some); holds = (is.looked.honest ∙ honest, held honest here) })
+          takes.takes.takes old.image t blocks first keeps
+          (record { live = subst (λ (x : Table). IsLive x n) (sym same) (here.live some); holds = ((is.looked.honest ∙ honest, is.looked.image), held here) })
           (is.takes first honest knows keeps comes taken);
       looked = looked_within (looked_more is.looked takes.looked) (omega (arith, is.order, low));
     }
@@ -223,8 +224,8 @@ module _ (index : Index) (slots : List Slot) (nexts : List ℕ) (dir : Directory
         counted : IsTrue old.honest → IsLive t n → count ≡ length (blocks_named (t.header n))
         counted honest live = subst (λ (x : Table). IsLive x n → count ≡ length (blocks_named (x.header n))) same (takes.count_is (is.looked.honest ∙ honest)) live
 
-        held : IsTrue old.honest → ComesTo t dir.d behind n (256 - counter) → HasBlocks disk.image (blocks_named ((table_in disk.image index).header n)) behind blocks
-        held honest here = subst (λ (i : Image). HasBlocks i (blocks_named ((table_in i index).header n)) behind blocks) (sym is.looked.image)
+        held : ComesTo t dir.d behind n (256 - counter) → HasBlocks old.image (blocks_named ((table_in disk.image index).header n)) behind blocks
+        held here = subst (λ (x : Table). HasBlocks old.image (blocks_named (x.header n)) behind blocks) (sym same)
             (comes-has t dir.d behind n (256 - counter) (256 - (counter + 1)) here some (omega (arith, below)) old.image)
 
     -- a header more was looked at
@@ -251,7 +252,7 @@ module _ (index : Index) (slots : List Slot) (nexts : List ℕ) (dir : Directory
     courses-end done = record {
       limit = is.limit;
       takes = λ first honest knows keeps comes taken.
-          subst (λ (k : ℕ). TakesRecords t dir.d blocks k first now) (done honest knows (is.comes honest knows comes) ∙ ap (until dir.end) (sym (long old.image t dir.d))) (is.takes first honest knows keeps comes taken);
+          subst (λ (k : ℕ). TakesRecords old.image t dir.d blocks k first now) (done honest knows (is.comes honest knows comes) ∙ ap (until dir.end) (sym (long old.image t dir.d))) (is.takes first honest knows keeps comes taken);
       looked = looked-at;
     }
 
@@ -278,7 +279,7 @@ module _ (index : Index) (slots : List Slot) (nexts : List ℕ) (d : ℕ) (s : S
   pub dead-directory : s ≢ Live → TakesDirectory index slots nexts d before before old now
   dead-directory dead = record {
     limit = refl;
-    takes = λ honest knows keeps live. absurd (dead (live-to _ d s (reads.state_is honest) live));
+    takes = λ honest knows keeps live known. absurd (dead (live-to _ d s (reads.state_is honest) live));
     looked = record { reads = 1; looked = slot-looked index d reads.looked; few = λ honest knows live. omega arith };
   }
 
@@ -319,8 +320,8 @@ module _ (index : Index) (slots : List Slot) (nexts : List ℕ) (dir : Directory
     image-is : disk.image ≡ old.image
     image-is = takes.looked.image ∙ reads.looked.image
 
-    still : IsTrue old.honest → IsTrue disk.honest
-    still honest = takes.looked.honest ∙ (reads.looked.honest ∙ honest)
+    honest-still : IsTrue old.honest → IsTrue disk.honest
+    honest-still honest = takes.looked.honest ∙ (reads.looked.honest ∙ honest)
 
     comes-next : IsTrue old.honest → KnowsNexts of nexts → IsLive of dir.d → ComesTo of dir.d count second 255
     comes-next honest knows alive =
@@ -328,19 +329,20 @@ module _ (index : Index) (slots : List Slot) (nexts : List ℕ) (dir : Directory
         subst (λ (k : ℕ). ComesTo of dir.d k second 255) plain
         (comes-more of dir.d 0 dir.d 256 255 (comes-begin of nexts dir.d knows alive) (knows.fit.low dir.d alive.in_use) (omega arith) nexts second count knows next (counted ∙ named-is honest))
 
-    first-taken : IsTrue old.honest → KnowsNexts of nexts → KeepsTable of slots → IsLive of dir.d → TakesRecords of dir.d (file_of old.image of dir.d).blocks (until dir.end count) before mid
-    first-taken honest knows keeps alive =
+    first-taken : IsTrue old.honest → KnowsNexts of nexts → KeepsTable of slots → IsLive of dir.d → HoldNoRecord before.blank old.image
+        → TakesRecords old.image of dir.d (file_of old.image of dir.d).blocks (until dir.end count) before mid
+    first-taken honest knows keeps alive known =
         let none : 0 ≡ until dir.end 0 = omega arith in
         let plain : until dir.end (0 + length (blocks_named b)) ≡ until dir.end count = omega (arith, counted) in
         let has : HasBlocks old.image (blocks_named (of.header dir.d)) 0 (file_of old.image of dir.d).blocks =
         comes-has of dir.d 0 dir.d 256 255 (comes-begin of nexts dir.d knows alive) (knows.fit.low dir.d alive.in_use) (omega arith) old.image in
-        subst (λ (k : ℕ). TakesRecords of dir.d (file_of old.image of dir.d).blocks k before mid) plain
-        (takes.takes.takes of (file_of old.image of dir.d).blocks before keeps (
-          reads.looked.honest ∙ honest,
-          subst (λ (i : Image). HasBlocks i (blocks_named b) 0 (file_of old.image of dir.d).blocks) (sym reads.looked.image)
-              (subst (λ (x : List ℕ). HasBlocks old.image (blocks_named x) 0 (file_of old.image of dir.d).blocks) (sym (header-is honest)) has),
+        subst (λ (k : ℕ). TakesRecords old.image of dir.d (file_of old.image of dir.d).blocks k before mid) plain
+        (takes.takes.takes old.image of (file_of old.image of dir.d).blocks before keeps (
+          (reads.looked.honest ∙ honest, reads.looked.image),
+          subst (λ (x : List ℕ). HasBlocks old.image (blocks_named x) 0 (file_of old.image of dir.d).blocks) (sym (header-is honest)) has,
         )
-        (subst (λ (k : ℕ). TakesRecords of dir.d (file_of old.image of dir.d).blocks k before begun) none (takes-begin of dir.d (file_of old.image of dir.d).blocks before begun begins)))
+        (subst (λ (k : ℕ). TakesRecords old.image of dir.d (file_of old.image of dir.d).blocks k before begun) none
+        (takes-begin old.image of dir.d (file_of old.image of dir.d).blocks before begun begins known)))
 
     pub others-look : (new : Disk) (faults : ℕ) → LooksAtHeaders index nexts dir count second 255 disk new faults → LooksFor index nexts dir.d old new faults
     others-look new faults looks = record {
@@ -348,7 +350,7 @@ module _ (index : Index) (slots : List Slot) (nexts : List ℕ) (dir : Directory
       looked = looked_more (looked_more (slot-looked index dir.d reads.looked) takes.looked) looks.looked;
       few = λ honest knows alive.
           let less = subst (λ (i : Image). KnowsNexts (table_in i index) nexts → ComesTo (table_in i index) dir.d count second 255
-          → wanted dir.end 0 count + looks.reads ≤ 255 + wanted dir.end 0 (length (all (table_in i index) dir.d))) image-is (looks.few (still honest)) knows (comes-next honest knows alive) in
+          → wanted dir.end 0 count + looks.reads ≤ 255 + wanted dir.end 0 (length (all (table_in i index) dir.d))) image-is (looks.few (honest-still honest)) knows (comes-next honest knows alive) in
           few-is _ honest (omega (arith, less, counted));
     }
 
@@ -356,11 +358,11 @@ module _ (index : Index) (slots : List Slot) (nexts : List ℕ) (dir : Directory
         → TakesDirectory index slots nexts dir.d before after old new
     directory-taken after new others limit = record {
       limit = others.limit ∙ takes.takes.limit ∙ limit;
-      takes = λ honest knows keeps alive.
-          subst (λ (k : ℕ). TakesRecords of dir.d (file_of old.image of dir.d).blocks k before after) (count-is honest)
+      takes = λ honest knows keeps alive known.
+          subst (λ (k : ℕ). TakesRecords old.image of dir.d (file_of old.image of dir.d).blocks k before after) (count-is honest)
           (subst (λ (i : Image). KnowsNexts (table_in i index) nexts → KeepsTable (table_in i index) slots → ComesTo (table_in i index) dir.d count second 255
-          → TakesRecords (table_in i index) dir.d (file_of i (table_in i index) dir.d).blocks (until dir.end count) before mid
-          → TakesRecords (table_in i index) dir.d (file_of i (table_in i index) dir.d).blocks (until dir.end (length (file_of i (table_in i index) dir.d).blocks)) before after)
-          image-is (others.takes before (still honest)) knows keeps (comes-next honest knows alive) (first-taken honest knows keeps alive));
+          → TakesRecords i (table_in i index) dir.d (file_of i (table_in i index) dir.d).blocks (until dir.end count) before mid
+          → TakesRecords i (table_in i index) dir.d (file_of i (table_in i index) dir.d).blocks (until dir.end (length (file_of i (table_in i index) dir.d).blocks)) before after)
+          image-is (others.takes before (honest-still honest)) knows keeps (comes-next honest knows alive) (first-taken honest knows keeps alive known));
       looked = others-look new 0 others.looked;
     }

@@ -88,7 +88,7 @@ module _ (index : Index) (r : Reading) (k : ℕ) (s : Slot) (old new : Disk) (be
       shows = λ honest bitmap is shows.
           let v = volume_in old.image index bitmap in
           let here = directory-at bitmap is in
-          later-next old.image v is.fit.low k here before after shows (takes.takes honest (knows-nexts v r is) (keeps-table v r is) here.file.live);
+          later-next old.image v is.fit.low k here before after shows (takes.takes honest (knows-nexts v r is) (keeps-table v r is) here.file.live shows.blank);
       limit = takes.limit;
       looked = looks-at 0 takes.looked;
     }

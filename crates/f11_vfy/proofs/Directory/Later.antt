@@ -14,6 +14,7 @@ use Rattle.f11_volume.specs.Volume.{Volume}
 use Rattle.f11_vfy.specs.declared.directories.flaws.Flaw.{Flaw}
 use Rattle.f11_vfy.specs.declared.directories.flaws.Flaw.TheVariants.{NoFile, Repeated, NoName}
 use Rattle.f11_vfy.specs.declared.directories.later.Later.{Later}
+use Rattle.f11_vfy.proofs.Directory.Blank.{blank-none}
 use Rattle.f11_vfy.proofs.Scanning.Found.{finds-none, finds-more, finds-same}
 use Rattle.f11_vfy.proofs.Directory.Records.{flaw-low, flaw-noted, noted-flaw, noted-directory, enters-noted, enters-found}
 
@@ -33,6 +34,7 @@ module _ (image : Image) (v : Volume) (low : (n : ℕ) → v.table.in_use n ≡ 
     no_file = finds-none-yet NoFile l.no_file is.no_file;
     repeated = finds-none-yet Repeated l.repeated is.repeated;
     no_name = finds-none-yet NoName l.no_name is.no_name;
+    blank = blank-none image l.blank is.blank;
   }
 
   -- slot k + 1 has no directory
@@ -63,6 +65,7 @@ module _ (image : Image) (v : Volume) (low : (n : ℕ) → v.table.in_use n ≡ 
       no_file = finds-still NoFile [] l.no_file shows.no_file;
       repeated = finds-still Repeated [] l.repeated shows.repeated;
       no_name = finds-still NoName [] l.no_name shows.no_name;
+      blank = shows.blank;
     }
 
   -- slot k + 1 has a directory, whose records were taken
@@ -105,10 +108,11 @@ module _ (image : Image) (v : Volume) (low : (n : ℕ) → v.table.in_use n ≡ 
     entered-back n A before (inl e) = inl (before.1 e)
     entered-back n A before (inr e) = inr e
 
-    pub later-next : (old new : Later) → ShowsLater image v k old → TakesRecords v.table (k + 1) here count old new → ShowsLater image v (k + 1) new
+    pub later-next : (old new : Later) → ShowsLater image v k old → TakesRecords image v.table (k + 1) here count old new → ShowsLater image v (k + 1) new
     later-next old new shows takes = record {
       entered = λ n. (λ has. entered-more n _ (shows.entered n) ((takes.entered n).0 has), λ e. (takes.entered n).1 (entered-back n _ (shows.entered n) (entered-next n e)));
       no_file = finds-next NoFile old.no_file new.no_file shows.no_file takes.no_file;
       repeated = finds-next Repeated old.repeated new.repeated shows.repeated takes.repeated;
       no_name = finds-next NoName old.no_name new.no_name shows.no_name takes.no_name;
+      blank = takes.blank;
     }

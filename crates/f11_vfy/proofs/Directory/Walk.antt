@@ -18,12 +18,16 @@ use Rattle.f11_map.specs.MapArea.{runs_of, blocks_in}
 use Rattle.f11_map.proofs.MapLemmas.{blocks_in-append, blocks_in-drop, length-blocks_in-more}
 use Rattle.f11_store.specs.Directory.{is_empty, record_in, record_at}
 use Rattle.f11_volume.specs.Contents.{block_or_zeros}
-use Rattle.f11_vfy.specs.Directory.Reading.{HasBlocks, HoldsBlocks, TakesBlocks, until, wanted}
+use Rattle.f11_vfy.specs.Surveying.Bits.{has}
+use Rattle.f11_vfy.specs.Directory.Blank.{AddsBlank, HasAll}
+use Rattle.f11_vfy.specs.Directory.Reading.{HasBlocks, HasImage, HoldsBlock, HoldsBlocks, TakesBlocks, until, wanted}
 use Rattle.f11_vfy.specs.Directory.Later.{TakesOn}
 use Rattle.f11_vfy.specs.declared.directories.contents.Directory.{Directory}
 use Rattle.f11_vfy.specs.declared.directories.later.Later.{Later}
+use Rattle.f11_vfy.specs.declared.survey.bits.Bits.{Bits}
 use Rattle.f11_vfy.specs.declared.survey.slot.Slot.{Slot}
-use Rattle.f11_vfy.proofs.Directory.Taking.{takes-more, takes-same, takes-skip}
+use Rattle.f11_vfy.proofs.Directory.Blank.{blank-more, block-empty}
+use Rattle.f11_vfy.proofs.Directory.Taking.{takes-empty, takes-more, takes-same, takes-skip}
 
 -- the records of a block of zeros are empty
 empty-zeros : (blocks : List (List ℕ)) (k : ℕ) → get_or blocks (k / 32) [] ≡ zero_block → is_empty (record_at blocks k) ≡ true
@@ -53,33 +57,83 @@ has-run image runs i run at blocks here has =
     has-left image (range_with_len run.0 run.1) (blocks_in (drop (i + 1) runs)) (at + length (blocks_in (take i runs))) blocks
     (has-right image (blocks_in (take i runs)) (range_with_len run.0 run.1 ++ blocks_in (drop (i + 1) runs)) at blocks (subst (λ (l : List ℕ). HasBlocks image l at blocks) parts has))
 
+-- the same image
+pub still : (old now : Disk) (image : Image) {most : ℕ} → Looked old now most 0 → HasImage old image → HasImage now image
+still old now image {most} looked has = (looked.honest ∙ has.0, looked.image ∙ has.1)
+
+-- one block
+module _ (slots : List Slot) (dir : Directory) (at lbn : ℕ) (old : Disk) where
+  abbrev pub Block : Image → List (List ℕ) → Type 0
+  Block = HoldsBlock old lbn at
+
+  -- that is known to hold no record
+  pub known-taken : (now : Later) → has now.blank lbn ≡ true → TakesOn slots dir.d Block (until dir.end at) (until dir.end (at + 1)) now now
+  known-taken now known = record {
+    limit = refl;
+    takes = λ image t blocks first keeps holds taken.
+        takes-empty image t dir.d blocks (until dir.end at) (until dir.end (at + 1)) first now (omega arith)
+        (block-empty dir.end at blocks (block_or_zeros image lbn) holds.1 (taken.blank lbn known)) taken;
+  }
+
+  -- that was read
+  pub read-taken : (b : List ℕ) (before after : Later) (blank : Bits) → (IsTrue old.honest → slice_get old.image lbn ≡ Some b)
+      → TakesOn slots dir.d (λ _ blocks. get_or blocks at [] ≡ b) (until dir.end at) (until dir.end (at + 1)) before after → AddsBlank lbn b after.blank blank
+      → TakesOn slots dir.d Block (until dir.end at) (until dir.end (at + 1)) before (record after { blank = blank })
+  read-taken b before after blank reads takes adds = record {
+    limit = takes.limit;
+    takes = λ image t blocks first keeps holds taken.
+        let is : block_or_zeros image lbn ≡ b = get_or_from_slice_get image lbn b zero_block (subst (λ (i : Image). slice_get i lbn ≡ Some b) holds.0.1 (reads holds.0.0)) in
+        let then = takes.takes image t blocks first keeps (holds.1 ∙ is) taken in
+        record {
+          entered = then.entered;
+          no_file = then.no_file;
+          repeated = then.repeated;
+          no_name = then.no_name;
+          names = then.names;
+          blank = blank-more image lbn b after.blank blank adds is then.blank;
+        };
+  }
+
 -- a run of blocks
 module _ (slots : List Slot) (dir : Directory) (at lbn count : ℕ) (old : Disk) (before : Later) where
-  abbrev pub Run : List (List ℕ) → Type 0
+  abbrev pub Run : Image → List (List ℕ) → Type 0
   Run = HoldsBlocks old (range_with_len lbn count) at
 
   -- block k of it
-  run-block : (blocks : List (List ℕ)) → Run blocks → (k : ℕ) → k < count → get_or blocks (at + k) [] ≡ block_or_zeros old.image (lbn + k)
-  run-block blocks holds k below = holds.1 k (omega (arith, below, length-range_with_len lbn count)) ∙ ap (block_or_zeros old.image) (get_or-range_with_len lbn count k 0 below)
+  run-block : (image : Image) (blocks : List (List ℕ)) → Run image blocks → (k : ℕ) → k < count → get_or blocks (at + k) [] ≡ block_or_zeros image (lbn + k)
+  run-block image blocks holds k below = holds.1 k (omega (arith, below, length-range_with_len lbn count)) ∙ ap (block_or_zeros image) (get_or-range_with_len lbn count k 0 below)
 
   -- one block more
-  pub run-more : (k : ℕ) (now after : Later) (b : List ℕ) (disk : Disk) → k < count → TakesOn slots dir.d Run (until dir.end at) (until dir.end (at + k)) before now → Looked old disk k 0
-      → (IsTrue disk.honest → slice_get disk.image (lbn + k) ≡ Some b) → TakesOn slots dir.d (λ blocks. get_or blocks (at + k) [] ≡ b) (until dir.end (at + k)) (until dir.end (at + k + 1)) now after
+  pub run-more : (k : ℕ) (now after : Later) (disk : Disk) → k < count → TakesOn slots dir.d Run (until dir.end at) (until dir.end (at + k)) before now → Looked old disk k 0
+      → TakesOn slots dir.d (HoldsBlock disk (lbn + k) (at + k)) (until dir.end (at + k)) (until dir.end (at + k + 1)) now after
       → TakesOn slots dir.d Run (until dir.end at) (until dir.end (at + (k + 1))) before after
-  run-more k now after b disk below taken looked reads here =
+  run-more k now after disk below taken looked here =
       let next : at + k + 1 ≡ at + (k + 1) = omega arith in
       takes-more slots dir.d Run Run Run _ _ _ before now after taken
-      (takes-same slots dir.d _ Run _ _ _ _ now after here refl (ap (until dir.end) next)
-      (λ blocks holds. run-block blocks holds k below ∙ get_or_from_slice_get old.image (lbn + k) b zero_block (subst (λ (i : Image). slice_get i (lbn + k) ≡ Some b) looked.image (reads (looked.honest ∙ holds.0)))))
-      (λ blocks holds. (holds, holds))
+      (takes-same slots dir.d _ Run _ _ _ _ now after here refl (ap (until dir.end) next) (λ image blocks holds. (still old disk image looked holds.0, run-block image blocks holds k below)))
+      (λ image blocks holds. (holds, holds))
+
+  -- all that are on the device are known to hold none
+  pub run-known : (n : ℕ) → n ≤ count → HasAll before.blank lbn (lbn + n) → TakesOn slots dir.d Run (until dir.end at) (until dir.end (at + n)) before before
+  run-known n few known = record {
+    limit = refl;
+    takes = λ image t blocks first keeps holds taken.
+        takes-empty image t dir.d blocks (until dir.end at) (until dir.end (at + n)) first before (omega arith) (λ k low high.
+        let place : at + (k / 32 - at) ≡ k / 32 = omega (arith, low, high) in
+        block-empty dir.end (k / 32) blocks (block_or_zeros image (lbn + (k / 32 - at)))
+        (ap (λ (m : ℕ). get_or blocks m []) (sym place) ∙ run-block image blocks holds (k / 32 - at) (omega (arith, low, high, few)))
+        (taken.blank (lbn + (k / 32 - at)) (known (lbn + (k / 32 - at)) (omega arith) (omega (arith, low, high)))) k (omega (arith, low, high)) (omega (arith, low, high)))
+        taken;
+  }
 
   -- those that are left hold no record before the end, or are past the device's end
-  run-zeros : (k : ℕ) → k ≡ min (wanted dir.end at count) (length old.image - lbn) → (blocks : List (List ℕ)) → Run blocks → (j : ℕ) → until dir.end (at + k) ≤ j → j < until dir.end (at + count)
-      → is_empty (record_at blocks j) ≡ true
-  run-zeros k all blocks holds j low high =
+  run-zeros : (k : ℕ) → k ≡ min (wanted dir.end at count) (length old.image - lbn) → (image : Image) (blocks : List (List ℕ)) → Run image blocks → (j : ℕ) → until dir.end (at + k) ≤ j
+      → j < until dir.end (at + count) → is_empty (record_at blocks j) ≡ true
+  run-zeros k all image blocks holds j low high =
       let place : at + (j / 32 - at) ≡ j / 32 = omega (arith, low, high, all) in
-      let past : length old.image ≤ lbn + (j / 32 - at) = omega (arith, low, high, all) in
-      empty-zeros blocks j (ap (λ (n : ℕ). get_or blocks n []) (sym place) ∙ run-block blocks holds (j / 32 - at) (omega (arith, low, high, all)) ∙ get_or-eq_default old.image zero_block past)
+      let long : length old.image ≡ length image = ap length holds.0.1 in
+      let past : length image ≤ lbn + (j / 32 - at) = omega (arith, low, high, all, long) in
+      empty-zeros blocks j (ap (λ (n : ℕ). get_or blocks n []) (sym place) ∙ run-block image blocks holds (j / 32 - at) (omega (arith, low, high, all)) ∙ get_or-eq_default image zero_block past)
 
   run-all : (k : ℕ) (now : Later) → k ≡ min (wanted dir.end at count) (length old.image - lbn) → TakesOn slots dir.d Run (until dir.end at) (until dir.end (at + k)) before now
       → TakesOn slots dir.d Run (until dir.end at) (until dir.end (at + length (range_with_len lbn count))) before now
@@ -87,8 +141,8 @@ module _ (slots : List Slot) (dir : Directory) (at lbn count : ℕ) (old : Disk)
       let long : at + count ≡ at + length (range_with_len lbn count) = omega (arith, length-range_with_len lbn count) in
       takes-same slots dir.d Run Run _ _ _ _ before now
       (takes-more slots dir.d Run Run Run _ _ _ before now now taken (takes-skip slots dir.d Run (until dir.end (at + k)) (until dir.end (at + count)) now (omega (arith, all)) (run-zeros k all))
-      (λ blocks holds. (holds, holds)))
-      refl (ap (until dir.end) long) (λ blocks holds. holds)
+      (λ image blocks holds. (holds, holds)))
+      refl (ap (until dir.end) long) (λ image blocks holds. holds)
 
   pub run-taken : (k : ℕ) (now : Later) (disk : Disk) → k ≡ min (wanted dir.end at count) (length old.image - lbn) → TakesOn slots dir.d Run (until dir.end at) (until dir.end (at + k)) before now → Looked old disk k 0
       → TakesBlocks slots dir at (range_with_len lbn count) before now old disk
@@ -106,12 +160,11 @@ module _ (slots : List Slot) (dir : Directory) (at : ℕ) (b : List ℕ) (old : 
       let next : behind + length (range_with_len run.0 run.1) ≡ behind + run.1 = omega (arith, length-range_with_len run.0 run.1) in
       takes-more slots dir.d (HoldsBlocks old (blocks_named b) at) (HoldsBlocks old (blocks_named b) at) (HoldsBlocks old (blocks_named b) at) _ _ _ before now after taken
       (takes-same slots dir.d (HoldsBlocks disk (range_with_len run.0 run.1) behind) (HoldsBlocks old (blocks_named b) at) _ _ _ _ now after takes.takes refl (ap (until dir.end) next)
-      (λ blocks holds. (
-        looked.honest ∙ holds.0,
-        subst (λ (m : Image). HasBlocks m (range_with_len run.0 run.1) behind blocks) (sym looked.image)
-            (subst (λ (n : ℕ). HasBlocks old.image (range_with_len run.0 run.1) n blocks) (sym is) (has-run old.image (runs_of (map_area b)) i run at blocks here holds.1)),
+      (λ image blocks holds. (
+        still old disk image looked holds.0,
+        subst (λ (n : ℕ). HasBlocks image (range_with_len run.0 run.1) n blocks) (sym is) (has-run image (runs_of (map_area b)) i run at blocks here holds.1),
       )))
-      (λ blocks holds. (holds, holds))
+      (λ image blocks holds. (holds, holds))
 
   -- which are all blocks of the header at the end
   pub pointers-all : (i behind : ℕ) → length (runs_of (map_area b)) ≤ i → behind ≡ at + length (blocks_in (take i (runs_of (map_area b)))) → behind ≡ at + length (blocks_named b)
@@ -135,6 +188,6 @@ module _ (slots : List Slot) (dir : Directory) (at : ℕ) (b : List ℕ) (old : 
       → TakesOn slots dir.d (HoldsBlocks old (blocks_named b) at) (until dir.end at) (until dir.end behind) before now → Looked old disk (wanted dir.end at (behind - at)) 0
       → TakesBlocks slots dir at (blocks_named b) before now old disk
   pointers-taken behind now disk is taken looked = record {
-    takes = takes-same slots dir.d _ _ _ _ _ _ before now taken refl (ap (until dir.end) is) (λ blocks holds. holds);
+    takes = takes-same slots dir.d _ _ _ _ _ _ before now taken refl (ap (until dir.end) is) (λ image blocks holds. holds);
     looked = looked_within looked (omega (arith, is));
   }

@@ -12,9 +12,9 @@ use Rattle.f11_dev.specs.Looked.{Looked}
 use Rattle.f11_dev.proofs.ImageLemmas.{image_block-read}
 use Rattle.f11_dev.proofs.LookedLemmas.{looked_none, looked_more, looked_within, looked_read}
 use Rattle.f11_home.specs.Home.{HomeFields, candidates, FindsHome, FindsNoHome}
-use Rattle.f11_index.specs.Calls.{Reads, FindsMisplaced}
+use Rattle.f11_index.specs.Calls.{ReadsIndex, FindsMisplaced}
 use Rattle.f11_index.specs.IndexFile.{Index, IsFirstPast, HasNonePast}
-use Rattle.f11_index.specs.Kept.{LiesWithin}
+use Rattle.f11_index.specs.Kept.{IndexLiesWithin}
 use Rattle.f11_index.specs.Sound.{IsIndexFile}
 use Rattle.f11_index.specs.Table.{Table, table_in, table_of}
 use Rattle.f11_chain.specs.FileHeaders.{IsSoundFile}
@@ -198,7 +198,7 @@ module _ (home : HomeFields) (index : Index) (old : Disk) (known : IsTrue old.ho
               looked = all-looked;
             }
 
-            pub reads-behind : (count size : ℕ) → count ≡ bitmap_count block → size ≡ stated_size block → LiesWithin index (length old.image) → HasNonePast index
+            pub reads-behind : (count size : ℕ) → count ≡ bitmap_count block → size ≡ stated_size block → IndexLiesWithin index (length old.image) → HasNonePast index
                 → ReadsBehind home index (bitmap_at (take count (drop 1 first)) size) old new
             reads-behind count size count_is size_is lies none = record {
               lie = record {
@@ -288,7 +288,7 @@ module _ (home : HomeFields) (index : Index) (old d1 : Disk) (known : IsTrue old
         past-fault control n past =
             bad-past home index old known d3 515 looked_three indexed_is own_is file_has first first_is on_disk lbn block d4 at counts gives (omega arith) (judged control) n past
 
-        pub behind-read : IsControlBlock block file device → (count size : ℕ) → count ≡ bitmap_count block → size ≡ stated_size block → LiesWithin index (length old.image) → HasNonePast index
+        pub behind-read : IsControlBlock block file device → (count size : ℕ) → count ≡ bitmap_count block → size ≡ stated_size block → IndexLiesWithin index (length old.image) → HasNonePast index
             → ReadsBehind home index (bitmap_at (take count (drop 1 first)) size) old d4
         behind-read control count size count_is size_is lies none =
             reads-behind home index old known d3 515 looked_three indexed_is own_is file_has first first_is on_disk lbn block d4 at counts gives (omega arith) (judged control) count size count_is size_is lies none
@@ -317,7 +317,7 @@ module _ (home : HomeFields) (old now : Disk) (finds : FindsHome old now home) w
   }
 
   -- and the index file was read
-  module _ (kept : Index) (then : Disk) (reads : Reads home kept now then) (new : Disk) where
+  module _ (kept : Index) (then : Disk) (reads : ReadsIndex home kept now then) (new : Disk) where
     looked_then : Looked old then (candidates (length old.image) + 272) 0
     looked_then = looked_within (looked_more home-looked reads.looked.looked) (omega (arith, reads.looked.few, small))
 

@@ -3,7 +3,7 @@ use Rattle.std.proofs.Common.{◌≡◌, ◌+◌, ◌<◌, ◌≤◌, ◌⊎◌,
 use Rattle.std.specs.List.{Contains}
 use Rattle.std.proofs.lemmas.Bool.{cases_lt, cond-true, cond-false}
 use Rattle.std.proofs.lemmas.List.{get_or_default}
-use Rattle.f11_findings.specs.Finding.{finding, Adds, if_so}
+use Rattle.f11_findings.specs.Finding.{finding, AddsFindings, if_so}
 use Rattle.f11_findings.specs.declared.finding.Finding.{Finding}
 use Rattle.f11_vfy.specs.Scanning.Found.{Finds, FoundAmong}
 use Rattle.f11_vfy.specs.Scanning.Scans.{start_of}
@@ -60,7 +60,7 @@ no-one : (g : Finding) → ¬ Contains [] g
 no-one g (n, within, is) = omega arith
 
 -- a finding that was added where a test holds
-pub finds-if : (R : ℕ → ℕ → ℕ → Type 0) (holds : Bool) (f : Finding) (old new : List Finding) → Adds old new (if_so holds f)
+pub finds-if : (R : ℕ → ℕ → ℕ → Type 0) (holds : Bool) (f : Finding) (old new : List Finding) → AddsFindings old new (if_so holds f)
     → (holds ≡ true → R f.code f.a f.b) → ((code a b : ℕ) → R code a b → (holds ≡ true) × (finding code a b ≡ f)) → Finds R old new
 finds-if R true f old new adds to from = record {
   kept = adds.kept;
@@ -88,7 +88,7 @@ pub among-none : (P : ℕ → Type 0) (found : ℕ → Finding) (old : List Find
 among-none P found old = finds-none _ old (λ code a b r. omega (arith, r.below))
 
 pub among-more : (P : ℕ → Type 0) (found : ℕ → Finding) (k : ℕ) (holds : Bool) (old now new : List Finding) → Finds (FoundAmong P found k) old now → IsTrue holds ↔ P k
-    → Adds now new (if_so holds (found k)) → Finds (FoundAmong P found (k + 1)) old new
+    → AddsFindings now new (if_so holds (found k)) → Finds (FoundAmong P found (k + 1)) old new
 among-more P found k holds old now new finds test adds =
     finds-more (FoundAmong P found k) (λ code a b. P k × (finding code a b ≡ found k)) (FoundAmong P found (k + 1)) old now new finds
     (finds-if _ holds (found k) now new adds (λ is. (test.0 is, refl)) (λ code a b r. (test.1 r.0, r.1)))
@@ -102,7 +102,7 @@ among-more P found k holds old now new finds test adds =
 
 -- and where the test is of the number alone
 pub among-test : (p : ℕ → Bool) (found : ℕ → Finding) (k : ℕ) (holds : Bool) (old now new : List Finding) → Finds (FoundAmong (λ i. p i ≡ true) found k) old now → holds ≡ p k
-    → Adds now new (if_so holds (found k)) → Finds (FoundAmong (λ i. p i ≡ true) found (k + 1)) old new
+    → AddsFindings now new (if_so holds (found k)) → Finds (FoundAmong (λ i. p i ≡ true) found (k + 1)) old new
 among-test p found k holds old now new finds is adds = among-more (λ i. p i ≡ true) found k holds old now new finds (λ h. sym is ∙ h, λ h. is ∙ h) adds
 
 -- the findings of a list

@@ -32,7 +32,7 @@ table-fit image index is valid = record {
   segments = λ n. segment_number-byte image (header_lbn index n) is;
 }
 
-table-slots : (image : Image) (index : Index) → (table_in image index).slots ≡ slots index
+pub table-slots : (image : Image) (index : Index) → (table_in image index).slots ≡ slots index
 unfolding table_in
 table-slots image index = refl
 
@@ -40,6 +40,8 @@ table-slots image index = refl
 pub reads-volume : (index : Index) (bitmap : Bitmap) (r : Reading) (old now new : Disk) → IsImage old.image → IsIndex index → ReadsFree bitmap r.free old now → SurveysDisk index bitmap.size r.survey now new
     → ((t : Table) → KeepsTable t r.survey.slots.items → ShowsChains t r.chains) → ReadsVolume index bitmap r old new
 reads-volume index bitmap r old now new image valid free surveys chains = record {
+  slots = surveys.is_survey.count;
+  size = free.limit;
   shows = λ honest. shows honest;
   looked = looked_more free.looked surveys.looked;
 }

@@ -4,7 +4,7 @@ use Rattle.std.specs.Prelude.{Contains, All}
 use Rattle.std.proofs.lemmas.Bool.{cases_lt}
 use Rattle.std.proofs.lemmas.List.Elements.{All-contains, Contains-get_or}
 use Rattle.f11_dev.specs.Image.{Image}
-use Rattle.f11_findings.specs.Finding.{finding, IsExactly, IsInOrder, Adds}
+use Rattle.f11_findings.specs.Finding.{finding, IsExactly, IsInOrder, AddsFindings}
 use Rattle.f11_findings.specs.declared.finding.Finding.{Finding}
 use Rattle.f11_findings.proofs.FindingLemmas.{IsExactly-added}
 use Rattle.f11_home.specs.Home.{HomeFields}
@@ -28,7 +28,7 @@ exactly-same R S found to from is = record {
 }
 
 -- a fault of the frame is the only one, and there is no note beside it
-pub one-fault : (image : Image) (code a : ℕ) (found : List Finding) → IsFrameFault image code a → Adds [] found (finding code a 0 ∷ []) → IsExactly (IsFault image) found
+pub one-fault : (image : Image) (code a : ℕ) (found : List Finding) → IsFrameFault image code a → AddsFindings [] found (finding code a 0 ∷ []) → IsExactly (IsFault image) found
 one-fault image code a found fault adds = IsExactly-added (IsFault image) found (finding code a 0 ∷ []) adds (first-only (finding code a 0) (of_frame code a fault)) only
   where
     first-only : (f : Finding) → IsFault image f.code f.a f.b → All (λ g. IsFault image g.code g.a g.b) (f ∷ [])

@@ -7,7 +7,7 @@ use Rattle.f11_dev.specs.Disk.{Disk}
 use Rattle.f11_dev.specs.Image.{Image}
 use Rattle.f11_dev.specs.Looked.{Looked}
 use Rattle.f11_dev.proofs.LookedLemmas.{looked_more}
-use Rattle.f11_findings.specs.Finding.{finding, IsExactly, Adds}
+use Rattle.f11_findings.specs.Finding.{finding, IsExactly, AddsFindings}
 use Rattle.f11_home.specs.Home.{HomeFields}
 use Rattle.f11_home.proofs.HomeLemmas.{home-unique}
 use Rattle.f11_index.specs.IndexFile.{Index, index_of}
@@ -86,7 +86,7 @@ examines-volume index bitmap old mid new faults notes frame found = record {
 }
 
 -- and where its frame has a fault, that is all
-pub examines-frame : (code a : ℕ) (old new : Disk) (found : List Finding) → FindsFrameFault code a old new → Adds [] found (finding code a 0 ∷ []) → Examines found [] old new
+pub examines-frame : (code a : ℕ) (old new : Disk) (found : List Finding) → FindsFrameFault code a old new → AddsFindings [] found (finding code a 0 ∷ []) → Examines found [] old new
 examines-frame code a old new found fault adds = record {
   verifies = λ honest. record { faults_are = one-fault old.image code a found (fault.fault honest) adds; notes_are = no-note old.image code a (fault.fault honest) };
   looked = over-frame old new 0 fault.looked;

@@ -4,7 +4,7 @@ use Rattle.std.specs.List.{slice_get, range_with_len}
 use Rattle.std.proofs.lemmas.Bool.{cases_lt, ltb-true, lt-ltb}
 use Rattle.std.proofs.lemmas.List.{take_more, take_all}
 use Rattle.std.proofs.lemmas.Option.{slice_get_within, get_or_from_slice_get, same_Some}
-use Rattle.f11_findings.specs.Finding.{finding, Adds, if_so}
+use Rattle.f11_findings.specs.Finding.{finding, AddsFindings, if_so}
 use Rattle.f11_findings.specs.declared.finding.Finding.{Finding}
 use Rattle.f11_header.specs.Fields.{map_area}
 use Rattle.f11_map.specs.MapArea.{runs_of, blocks_in}
@@ -52,7 +52,7 @@ pub outside-none : (b : List ℕ) (n size : ℕ) (old : List Finding) → Finds 
 outside-none b n size old = finds-none _ old (λ code a i r. omega (arith, r.1))
 
 pub outside-more : (b : List ℕ) (n size k : ℕ) (run : ℕ × ℕ) (old now new : List Finding) → slice_get (runs_of (map_area b)) k ≡ Some run
-    → Finds (λ code a i. OutsideOf b n size code a i × (i < k)) old now → Adds now new (if_so (ltb size (run.0 + run.1)) (finding 8 n k))
+    → Finds (λ code a i. OutsideOf b n size code a i × (i < k)) old now → AddsFindings now new (if_so (ltb size (run.0 + run.1)) (finding 8 n k))
     → Finds (λ code a i. OutsideOf b n size code a i × (i < k + 1)) old new
 outside-more b n size k run old now new at finds adds =
     finds-more (λ code a i. OutsideOf b n size code a i × (i < k)) (λ code a i. OutsideOf b n size code a i × (i ≡ k)) (λ code a i. OutsideOf b n size code a i × (i < k + 1)) old now new finds

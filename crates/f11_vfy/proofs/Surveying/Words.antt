@@ -213,6 +213,15 @@ zero-word word i k {held} below from none bit is =
     let zero : eqb (bit_at word (k % 64)) 1 ≡ false = ap (λ w. eqb (bit_at w (k % 64)) 1) none ∙ ap (λ b. eqb b 1) (bit_at-zero (k % 64)) in
     both_ways held (bit (omega arith) ∙ zero) is
 
+-- a word that has all bits of a run's mask has the number
+pub masked-word : (first end i low high word all k : ℕ) {held : Bool} → low ≡ first - 64 * i → high ≡ min (end - 64 * i) 64 → all ≡ 2 ^ high - 2 ^ low → bit_and word all ≡ all → first ≤ k → k < end
+    → 64 * i ≤ k → k < 64 * (i + 1) → (k / 64 ≡ i → held ≡ eqb (bit_at word (k % 64)) 1) → held ≡ true
+masked-word first end i low high word all k {held} low_is high_is all_is both from below behind before bit =
+    let one : bit_at all (k % 64) ≡ 1 =
+    ap (λ m. bit_at m (k % 64)) all_is ∙ bit_at_mask_inside low high (k % 64) (omega (arith, low_is, from, behind, before)) (omega (arith, high_is, below, behind, before)) in
+    let least : min (bit_at word (k % 64)) (bit_at all (k % 64)) ≡ bit_at all (k % 64) = sym (bit_at_and word all (k % 64)) ∙ ap (λ m. bit_at m (k % 64)) both in
+    bit (omega (arith, behind, before)) ∙ eq-eqb (bit_at word (k % 64)) 1 (omega (arith, one, least, bit_at-lt word (k % 64)))
+
 -- of two words that have all bits together, one has the number
 pub full-words : (x y i k : ℕ) {one other : Bool} → k < 64 * (i + 1) → 64 * i ≤ k → bit_or x y ≡ 2 ^ 64 - 2 ^ 0 → (k / 64 ≡ i → one ≡ eqb (bit_at x (k % 64)) 1)
     → (k / 64 ≡ i → other ≡ eqb (bit_at y (k % 64)) 1) → (one || other) ≡ true

@@ -6,6 +6,7 @@ use Rattle.f11_findings.specs.declared.finding.Finding.{Finding}
 use Rattle.f11_index.specs.Table.{Table}
 use Rattle.f11_vfy.specs.Surveying.Bits.{has, limit_of}
 use Rattle.f11_vfy.specs.Chain.{KeepsTable}
+use Rattle.f11_vfy.specs.Directory.Blank.{HoldNoRecord}
 use Rattle.f11_vfy.specs.Directory.Flaws.{EntersIn, HasFlaw, KeepsNames, flaw_code}
 use Rattle.f11_vfy.specs.Scanning.Found.{Finds, FoundAmong}
 use Rattle.f11_volume.specs.Notes.{IsEntered, IsVolumeNote}
@@ -30,23 +31,26 @@ pub record ShowsLater (image : Image) (v : Volume) (k : ℕ) (l : Later) : Type 
   pub no_file : Finds (FlawsUpTo image v NoFile k) [] l.no_file
   pub repeated : Finds (FlawsUpTo image v Repeated k) [] l.repeated
   pub no_name : Finds (FlawsUpTo image v NoName k) [] l.no_name
+  pub blank : HoldNoRecord l.blank image
 
 -- the flaws of one kind of the first n records of directory d are added
 abbrev pub FindsFlaws : Table → ℕ → List (List ℕ) → ℕ → Flaw → List Finding → List Finding → Type 0
 FindsFlaws t d blocks n flaw old new = Finds (FoundAmong (λ i. HasFlaw flaw t blocks i) (λ i. finding (flaw_code flaw) d i) n) old new
 
--- The first n records of directory d were taken, whose blocks these are.
-pub record TakesRecords (t : Table) (d : ℕ) (blocks : List (List ℕ)) (n : ℕ) (old new : Later) : Type 0 where
+-- The first n records of directory d were taken, whose blocks these are, and no block that is kept as blank holds one.
+pub record TakesRecords (image : Image) (t : Table) (d : ℕ) (blocks : List (List ℕ)) (n : ℕ) (old new : Later) : Type 0 where
   pub entered : (m : ℕ) → has new.entered m ≡ true ↔ ((has old.entered m ≡ true) ⊎ EntersIn t blocks n m)
   pub no_file : FindsFlaws t d blocks n NoFile old.no_file new.no_file
   pub repeated : FindsFlaws t d blocks n Repeated old.repeated new.repeated
   pub no_name : FindsFlaws t d blocks n NoName old.no_name new.no_name
   pub names : KeepsNames blocks n new.names
+  pub blank : HoldNoRecord new.blank image
 
--- Where its first records are taken, so many, those up to another were taken too, if its blocks are as P says.
-pub record TakesOn (slots : List Slot) (d : ℕ) (P : List (List ℕ) → Type 0) (from to : ℕ) (old new : Later) : Type 0 where
+-- Where its first records are taken, so many, those up to another were taken too, if the image and its blocks are as P says.
+pub record TakesOn (slots : List Slot) (d : ℕ) (P : Image → List (List ℕ) → Type 0) (from to : ℕ) (old new : Later) : Type 0 where
   pub limit : limit_of new.entered ≡ limit_of old.entered
-  pub takes : (t : Table) → (blocks : List (List ℕ)) → (first : Later) → KeepsTable t slots → P blocks → TakesRecords t d blocks from first old → TakesRecords t d blocks to first new
+  pub takes : (image : Image) → (t : Table) → (blocks : List (List ℕ)) → (first : Later) → KeepsTable t slots → P image blocks →
+      TakesRecords image t d blocks from first old → TakesRecords image t d blocks to first new
 
 -- nothing is found yet
 pub record IsNewLater (l : Later) : Type 0 where
@@ -54,6 +58,7 @@ pub record IsNewLater (l : Later) : Type 0 where
   pub no_file : l.no_file ≡ []
   pub repeated : l.repeated ≡ []
   pub no_name : l.no_name ≡ []
+  pub blank : (lbn : ℕ) → has l.blank lbn ≡ false
 
 -- The next directory is in hand, and none of its records is taken.
 pub record Begins (old new : Later) : Type 0 where
@@ -62,3 +67,4 @@ pub record Begins (old new : Later) : Type 0 where
   pub repeated : new.repeated ≡ old.repeated
   pub no_name : new.no_name ≡ old.no_name
   pub no_names : new.names.keys ≡ []
+  pub blank : new.blank ≡ old.blank

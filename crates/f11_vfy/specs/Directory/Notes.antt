@@ -47,24 +47,28 @@ directory_reads image t = reads_up_to image t t.slots
 pub record LooksUpTo (index : Index) (r : Reading) (n : ℕ) (old new : Disk) (faults : ℕ) : Type 0 where
   pub reads : ℕ
   pub looked : Looked old new reads faults
-  pub few : IsTrue old.honest → (bitmap : Bitmap) → ShowsVolume (volume_in old.image index bitmap) r → reads ≤ reads_up_to old.image (table_in old.image index) n
+  pub few : IsTrue old.honest → (bitmap : Bitmap) → ShowsVolume (volume_in old.image index bitmap) r →
+      reads ≤ reads_up_to old.image (table_in old.image index) n
 
 -- Slot k + 1 was looked at; so many transfers failed.
 pub record LooksAt (index : Index) (r : Reading) (k : ℕ) (old new : Disk) (faults : ℕ) : Type 0 where
   pub reads : ℕ
   pub looked : Looked old new reads faults
-  pub few : IsTrue old.honest → (bitmap : Bitmap) → ShowsVolume (volume_in old.image index bitmap) r → reads ≤ reads_at old.image (table_in old.image index) k
+  pub few : IsTrue old.honest → (bitmap : Bitmap) → ShowsVolume (volume_in old.image index bitmap) r →
+      reads ≤ reads_at old.image (table_in old.image index) k
 
 -- Slot k + 1 was judged.
 pub record JudgesSlot (index : Index) (r : Reading) (k : ℕ) (before after : Later) (old new : Disk) : Type 0 where
-  pub shows : IsTrue old.honest → (bitmap : Bitmap) → ShowsVolume (volume_in old.image index bitmap) r → ShowsLater old.image (volume_in old.image index bitmap) k before
+  pub shows : IsTrue old.honest → (bitmap : Bitmap) → ShowsVolume (volume_in old.image index bitmap) r →
+      ShowsLater old.image (volume_in old.image index bitmap) k before
       → ShowsLater old.image (volume_in old.image index bitmap) (k + 1) after
   pub limit : limit_of after.entered ≡ limit_of before.entered
   pub looked : LooksAt index r k old new 0
 
 -- The directories of the first slots were judged.
 pub record JudgesUpTo (index : Index) (r : Reading) (n : ℕ) (later : Later) (old new : Disk) : Type 0 where
-  pub shows : IsTrue old.honest → (bitmap : Bitmap) → ShowsVolume (volume_in old.image index bitmap) r → ShowsLater old.image (volume_in old.image index bitmap) n later
+  pub shows : IsTrue old.honest → (bitmap : Bitmap) → ShowsVolume (volume_in old.image index bitmap) r →
+      ShowsLater old.image (volume_in old.image index bitmap) n later
   pub limit : limit_of later.entered ≡ length r.survey.slots.items + 1
   pub looked : LooksUpTo index r n old new 0
 
@@ -72,7 +76,8 @@ pub record JudgesUpTo (index : Index) (r : Reading) (n : ℕ) (later : Later) (o
 pub record LooksThrough (index : Index) (r : Reading) (old new : Disk) (faults : ℕ) : Type 0 where
   pub reads : ℕ
   pub looked : Looked old new reads faults
-  pub few : IsTrue old.honest → (bitmap : Bitmap) → ShowsVolume (volume_in old.image index bitmap) r → reads ≤ directory_reads old.image (table_in old.image index)
+  pub few : IsTrue old.honest → (bitmap : Bitmap) → ShowsVolume (volume_in old.image index bitmap) r →
+      reads ≤ directory_reads old.image (table_in old.image index)
 
 -- The notes of the directories were added.
 pub record AddsDirectoryNotes (index : Index) (r : Reading) (found_old found_new : List Finding) (old new : Disk) : Type 0 where

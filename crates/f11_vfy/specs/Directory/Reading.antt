@@ -1,5 +1,27 @@
 -- What is read of a directory (Files-11 On-Disk Structure Level 1, "Directories").
-use Rattle.std.specs.Prelude.{◌≡◌, ℕ, ◌+◌, ◌-◌, ◌*◌, ◌/◌, ◌<◌, ◌≤◌, zero, suc, min, IsTrue, List, [], length, drop, slice_index, slice_index_or, Option, Some, None}
+use Rattle.std.specs.Prelude.{
+  ◌≡◌,
+  ℕ,
+  ◌+◌,
+  ◌-◌,
+  ◌*◌,
+  ◌/◌,
+  ◌<◌,
+  ◌≤◌,
+  zero,
+  suc,
+  min,
+  IsTrue,
+  List,
+  [],
+  length,
+  drop,
+  slice_index,
+  slice_index_or,
+  Option,
+  Some,
+  None,
+}
 use Rattle.f11_chain.specs.FileHeaders.{blocks_by}
 use Rattle.f11_dev.specs.Disk.{Disk}
 use Rattle.f11_dev.specs.Image.{Image}
@@ -12,6 +34,7 @@ use Rattle.f11_store.specs.File.{File}
 use Rattle.f11_vfy.specs.Surveying.Bits.{limit_of}
 use Rattle.f11_vfy.specs.Chain.{IsFit, KeepsTable, NextsTo}
 use Rattle.f11_volume.specs.Contents.{following, headers_reached, block_or_zeros, file_of}
+use Rattle.f11_vfy.specs.Directory.Blank.{HoldNoRecord}
 use Rattle.f11_vfy.specs.Directory.Later.{TakesOn, TakesRecords}
 use Rattle.f11_vfy.specs.declared.directories.contents.Directory.{Directory}
 use Rattle.f11_vfy.specs.declared.directories.later.Later.{Later}
@@ -35,11 +58,19 @@ wanted end at count = min count ((end + 31) / 32 - at)
 abbrev pub HasBlocks : Image → List ℕ → ℕ → List (List ℕ) → Type 0
 HasBlocks image lbns at blocks = (k : ℕ) → k < length lbns → slice_index_or blocks (at + k) [] ≡ block_or_zeros image (slice_index lbns k)
 
--- the same, of an honest disk
-abbrev pub HoldsBlocks : Disk → List ℕ → ℕ → List (List ℕ) → Type 0
-HoldsBlocks disk lbns at blocks = IsTrue disk.honest × HasBlocks disk.image lbns at blocks
+-- the disk is honest, and this is its image
+abbrev pub HasImage : Disk → Image → Type 0
+HasImage disk image = IsTrue disk.honest × (disk.image ≡ image)
 
--- The blocks at these LBNs, which are a directory's from block `at` on, were taken, and read where they hold a record before its end.
+-- the blocks at these LBNs of an honest disk are a directory's from its block `at` on
+abbrev pub HoldsBlocks : Disk → List ℕ → ℕ → Image → List (List ℕ) → Type 0
+HoldsBlocks disk lbns at image blocks = HasImage disk image × HasBlocks image lbns at blocks
+
+-- the block at this LBN of an honest disk is a directory's block `at`
+abbrev pub HoldsBlock : Disk → ℕ → ℕ → Image → List (List ℕ) → Type 0
+HoldsBlock disk lbn at image blocks = HasImage disk image × (slice_index_or blocks at [] ≡ block_or_zeros image lbn)
+
+-- The blocks at these LBNs, which are a directory's from block `at` on, were taken, and read where they may hold a record before its end.
 pub record TakesBlocks (slots : List Slot) (dir : Directory) (at : ℕ) (lbns : List ℕ) (before after : Later) (old new : Disk) : Type 0 where
   pub takes : TakesOn slots dir.d (HoldsBlocks old lbns at) (until dir.end at) (until dir.end (at + length lbns)) before after
   pub looked : Looked old new (wanted dir.end at (length lbns)) 0
@@ -51,14 +82,16 @@ pub record LooksAtHeader (index : Index) (end at n : ℕ) (old new : Disk) (faul
   pub few : IsTrue old.honest → IsLive (table_in old.image index) n → count ≤ length (blocks_named ((table_in old.image index).header n))
 
 -- the blocks that header n names are a directory's from its block `at` on
-pub record HoldsHeader (index : Index) (n at : ℕ) (disk : Disk) (blocks : List (List ℕ)) : Type 0 where
+pub record HoldsHeaderBlocks (index : Index) (n at : ℕ) (disk : Disk) (image : Image) (blocks : List (List ℕ)) : Type 0 where
   pub live : IsLive (table_in disk.image index) n
-  pub holds : HoldsBlocks disk (blocks_named ((table_in disk.image index).header n)) at blocks
+  pub holds : HoldsBlocks disk (blocks_named ((table_in disk.image index).header n)) at image blocks
 
 -- Header n of a directory was read, and its blocks, so many, were taken.
-pub record TakesHeader (index : Index) (slots : List Slot) (dir : Directory) (at n count : ℕ) (before after : Later) (old new : Disk) : Type 0 where
-  pub takes : TakesOn slots dir.d (HoldsHeader index n at old) (until dir.end at) (until dir.end (at + count)) before after
-  pub count_is : IsTrue old.honest → IsLive (table_in old.image index) n → count ≡ length (blocks_named ((table_in old.image index).header n))
+pub record TakesHeader (index : Index) (slots : List Slot) (dir : Directory) (at n count : ℕ) (before after : Later)
+    (old new : Disk) : Type 0 where
+  pub takes : TakesOn slots dir.d (HoldsHeaderBlocks index n at old) (until dir.end at) (until dir.end (at + count)) before after
+  pub count_is : IsTrue old.honest → IsLive (table_in old.image index) n →
+      count ≡ length (blocks_named ((table_in old.image index).header n))
   pub few : count ≤ 32512
   pub looked : Looked old new (1 + wanted dir.end at count) 0
 
@@ -78,14 +111,18 @@ pub record LooksAtHeaders (index : Index) (nexts : List ℕ) (dir : Directory) (
   pub reads : ℕ
   pub looked : Looked old new reads faults
   pub few : IsTrue old.honest → KnowsNexts (table_in old.image index) nexts → ComesTo (table_in old.image index) dir.d at n most
-      → wanted dir.end 0 at + reads ≤ most + wanted dir.end 0 (length (blocks_by (table_in old.image index) (headers_reached (table_in old.image index) dir.d)))
+      → wanted dir.end 0 at + reads ≤ most + wanted dir.end 0
+      (length (blocks_by (table_in old.image index) (headers_reached (table_in old.image index) dir.d)))
 
 -- They were taken.
-pub record TakesHeaders (index : Index) (slots : List Slot) (nexts : List ℕ) (dir : Directory) (at n most : ℕ) (before after : Later) (old new : Disk) : Type 0 where
+pub record TakesHeaders (index : Index) (slots : List Slot) (nexts : List ℕ) (dir : Directory) (at n most : ℕ)
+    (before after : Later) (old new : Disk) : Type 0 where
   pub limit : limit_of after.entered ≡ limit_of before.entered
-  pub takes : (first : Later) → IsTrue old.honest → KnowsNexts (table_in old.image index) nexts → KeepsTable (table_in old.image index) slots → ComesTo (table_in old.image index) dir.d at n most
-      → TakesRecords (table_in old.image index) dir.d (file_of old.image (table_in old.image index) dir.d).blocks (until dir.end at) first before
-      → TakesRecords (table_in old.image index) dir.d (file_of old.image (table_in old.image index) dir.d).blocks
+  pub takes : (first : Later) → IsTrue old.honest → KnowsNexts (table_in old.image index) nexts →
+      KeepsTable (table_in old.image index) slots → ComesTo (table_in old.image index) dir.d at n most
+      → TakesRecords old.image (table_in old.image index) dir.d (file_of old.image (table_in old.image index) dir.d).blocks
+      (until dir.end at) first before
+      → TakesRecords old.image (table_in old.image index) dir.d (file_of old.image (table_in old.image index) dir.d).blocks
       (until dir.end (length (file_of old.image (table_in old.image index) dir.d).blocks)) first after
   pub looked : LooksAtHeaders index nexts dir at n most old new 0
 
@@ -101,11 +138,15 @@ most_reads image t d = 256 + record_blocks (file_of image t d)
 pub record LooksFor (index : Index) (nexts : List ℕ) (d : ℕ) (old new : Disk) (faults : ℕ) : Type 0 where
   pub reads : ℕ
   pub looked : Looked old new reads faults
-  pub few : IsTrue old.honest → KnowsNexts (table_in old.image index) nexts → IsLive (table_in old.image index) d → reads ≤ most_reads old.image (table_in old.image index) d
+  pub few : IsTrue old.honest → KnowsNexts (table_in old.image index) nexts → IsLive (table_in old.image index) d →
+      reads ≤ most_reads old.image (table_in old.image index) d
 
 -- A directory's records were taken.
-pub record TakesDirectory (index : Index) (slots : List Slot) (nexts : List ℕ) (d : ℕ) (before after : Later) (old new : Disk) : Type 0 where
+pub record TakesDirectory (index : Index) (slots : List Slot) (nexts : List ℕ) (d : ℕ) (before after : Later)
+    (old new : Disk) : Type 0 where
   pub limit : limit_of after.entered ≡ limit_of before.entered
-  pub takes : IsTrue old.honest → KnowsNexts (table_in old.image index) nexts → KeepsTable (table_in old.image index) slots → IsLive (table_in old.image index) d
-      → TakesRecords (table_in old.image index) d (file_of old.image (table_in old.image index) d).blocks (entry_count (file_of old.image (table_in old.image index) d)) before after
+  pub takes : IsTrue old.honest → KnowsNexts (table_in old.image index) nexts →
+      KeepsTable (table_in old.image index) slots → IsLive (table_in old.image index) d → HoldNoRecord before.blank old.image
+      → TakesRecords old.image (table_in old.image index) d (file_of old.image (table_in old.image index) d).blocks
+      (entry_count (file_of old.image (table_in old.image index) d)) before after
   pub looked : LooksFor index nexts d old new 0

@@ -6,13 +6,13 @@ use Rattle.f11_dev.specs.Image.{Image}
 use Rattle.f11_dev.specs.Looked.{Looked}
 use Rattle.f11_home.specs.Home.{HomeFields, candidates}
 use Rattle.f11_index.specs.IndexFile.{Index, index_of}
-use Rattle.f11_index.specs.Kept.{LiesWithin}
+use Rattle.f11_index.specs.Kept.{IndexLiesWithin}
 use Rattle.f11_volume.specs.Faults.{IsFramed, IsFrameFault}
 use Rattle.f11_volume.specs.Space.{storage_bitmap}
 
 -- An index file and a storage bitmap lie on a device of so many blocks, and the bitmap has a bit for each block of the volume.
 pub record LieOn (index : Index) (bitmap : Bitmap) (blocks : ℕ) : Type 0 where
-  pub index_lies : LiesWithin index blocks
+  pub index_lies : IndexLiesWithin index blocks
   pub bitmap_lies : BitmapLiesWithin bitmap blocks
   pub some : 0 < length bitmap.places
   pub few : length bitmap.places ≤ 126

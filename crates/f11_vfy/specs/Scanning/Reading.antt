@@ -4,7 +4,7 @@ use Rattle.f11_bits.specs.Bitmap.{Bitmap, is_free}
 use Rattle.f11_dev.specs.Disk.{Disk}
 use Rattle.f11_dev.specs.Image.{Image}
 use Rattle.f11_dev.specs.Looked.{Looked}
-use Rattle.f11_index.specs.IndexFile.{Index}
+use Rattle.f11_index.specs.IndexFile.{Index, slots}
 use Rattle.f11_index.specs.Table.{table_in}
 use Rattle.f11_vfy.specs.Surveying.Bits.{has, limit_of}
 use Rattle.f11_vfy.specs.Chain.{IsFit, ShowsChains}
@@ -39,8 +39,10 @@ volume_in image index bitmap = record { table = table_in image index; size = bit
 abbrev pub most_read : Index → Bitmap → ℕ
 most_read index bitmap = length bitmap.places + used_slots index
 
--- A volume was read: the reading is of the disk's where that is honest.
+-- A volume was read: the reading has as many slots and blocks, and is of the disk's where that is honest.
 pub record ReadsVolume (index : Index) (bitmap : Bitmap) (r : Reading) (old new : Disk) : Type 0 where
+  pub slots : length r.survey.slots.items ≡ slots index
+  pub size : limit_of r.free ≡ bitmap.size
   pub shows : IsTrue old.honest → ShowsVolume (volume_in old.image index bitmap) r
   pub looked : Looked old new (most_read index bitmap) 0
 

@@ -7,7 +7,16 @@ use Rattle.f11_vfy.specs.Surveying.Bits.{has, limit_of}
 use Rattle.f11_vfy.specs.Scanning.Found.{Finds, FoundAmong}
 use Rattle.f11_vfy.specs.declared.survey.bits.Bits.{Bits}
 use Rattle.f11_vfy.specs.declared.findings.scans.Kind.{Kind}
-use Rattle.f11_vfy.specs.declared.findings.scans.Kind.TheVariants.{BadHeader, WrongLink, LinkPastLast, LinkToVolume, DeadHeader, Orphan, Marked, NotClosed}
+use Rattle.f11_vfy.specs.declared.findings.scans.Kind.TheVariants.{
+  BadHeader,
+  WrongLink,
+  LinkPastLast,
+  LinkToVolume,
+  DeadHeader,
+  Orphan,
+  Marked,
+  NotClosed,
+}
 use Rattle.f11_vfy.specs.declared.survey.slot.Slot.{Slot}
 use Rattle.f11_vfy.specs.declared.survey.slot.State.TheVariants.{Bad, Dead, Live}
 
@@ -57,4 +66,5 @@ start_of test (suc k) = if test k then start_of test k else suc k
 -- The runs of lost blocks that end in word i were found, and one that goes on behind it begins there.
 pub record FindsLost (named free : Bits) (i next : ℕ) (old new : List Finding) : Type 0 where
   pub next_is : next ≡ start_of (is_lost named free) (min (64 * (i + 1)) (limit_of free))
-  pub found : Finds (FoundAmong (λ k. (64 * i ≤ k) × (ends_lost named free k ≡ true)) (λ k. finding 1 (start_of (is_lost named free) k) k) (min (64 * (i + 1)) (limit_of free))) old new
+  pub found : Finds (FoundAmong (λ k. (64 * i ≤ k) × (ends_lost named free k ≡ true))
+      (λ k. finding 1 (start_of (is_lost named free) k) k) (min (64 * (i + 1)) (limit_of free))) old new

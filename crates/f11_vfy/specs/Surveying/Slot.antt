@@ -41,7 +41,15 @@ pub record KeepsSlot (t : Table) (n : ℕ) (s : Slot) : Type 0 where
 
 -- a slot not in use
 abbrev pub unused_slot : Slot
-unused_slot = record { state = Unused; segment = 0; sequence = 0; characteristics = 0; link = record { number = 0; sequence = 0; volume = 0 }; directory = false }
+unused_slot = record {
+  state = Unused;
+  segment = 0;
+  sequence = 0;
+  characteristics = 0;
+  link =
+      record { number = 0; sequence = 0; volume = 0 };
+  directory = false;
+}
 
 -- what is kept of slot k + 1
 abbrev pub kept_slot : List Slot → ℕ → Slot

@@ -24,6 +24,8 @@ pub(crate) struct Later {
     pub(crate) repeated: Findings,
     /// The records that have no name.
     pub(crate) no_name: Findings,
+    /// The blocks that were read and hold no record, before a directory's end or behind it.
+    pub(crate) blank: Bits,
     /// The names of the records so far of the directory in hand.
     names: BTreeSet<[u16; 5]>,
 }
@@ -33,17 +35,23 @@ impl Later {
     ghost use Rattle.f11_vfy.specs.Directory.Reading.{until};
     ghost use Rattle.f11_vfy.specs.Directory.Later.{Begins, IsNewLater, TakesOn};
 
-    /// Nothing is found yet, of a volume of so many slots.
-    pub(crate) fn new(alloc: Global, slots: u32) -> Result<Later, NoMemory>
+    /// Nothing is found yet, of a volume of so many slots, on a device of so many blocks.
+    ///
+    /// # Errors
+    ///
+    /// `NoMemory` where there is no memory for a bit a slot and a bit a block.
+    pub(crate) fn new(alloc: Global, slots: u32, blocks: u32) -> Result<Later, NoMemory>
         requires { slots < 65536 }
         ensures new { IfOk result (λ later. IsNewLater later) }
         ensures limit { IfOk result (λ later. limit_of later.entered ≡ slots + 1) }
+        ensures room { IfOk result (λ later. limit_of later.blank ≡ blocks) }
     {
         Ok(Later {
             entered: Bits::new(alloc, slots + 1)?,
             no_file: Findings::new(alloc),
             repeated: Findings::new(alloc),
             no_name: Findings::new(alloc),
+            blank: Bits::new(alloc, blocks)?,
             names: BTreeSet::new(alloc),
         })
     }
@@ -69,7 +77,7 @@ impl Later {
     ) -> Result<(), NoMemory>
         requires { limit_of self.old.entered ≡ length slots.now + 1 }
         ensures { OnOk result (TakesOn slots.now d
-            (λ blocks. record.now ≡ record_of_bytes (record_at blocks i)) i (i + 1)
+            (λ _ blocks. record.now ≡ record_of_bytes (record_at blocks i)) i (i + 1)
             self.old self.new) }
     {
         if record.is_empty() {
@@ -99,7 +107,7 @@ impl Later {
         requires limit { limit_of self.old.entered ≡ length slots.now + 1 }
         requires few { at < 8323072 }
         ensures { OnOk result (TakesOn slots.now dir.d
-            (λ blocks. slice_index_or blocks at [] ≡ block.now)
+            (λ _ blocks. slice_index_or blocks at [] ≡ block.now)
             (until dir.end at) (until dir.end (at + 1)) self.old self.new) }
     {
         for k in 0..dir.end.saturating_sub(u64::from(32 * at)).min(32) as u32 {

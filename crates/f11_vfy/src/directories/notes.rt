@@ -1,7 +1,7 @@
 //! The notes of a volume's directories.
 ghost use Rattle.std.specs.Prelude.{◌≡◌, ◌↔◌, ◌<◌, ◌+◌, false, true, length, IsTrue, IfOk, IsErrOf, OnOk};
 ghost use Rattle.f11_findings.specs.Finding.{finding};
-ghost use Rattle.f11_index.specs.Kept.{index_kept, LiesWithin};
+ghost use Rattle.f11_index.specs.Kept.{index_kept, IndexLiesWithin};
 ghost use Rattle.f11_vfy.specs.Surveying.Bits.{has, limit_of};
 ghost use Rattle.f11_vfy.specs.Scanning.Found.{Finds, FoundAmong};
 ghost use Rattle.f11_vfy.specs.Scanning.Scans.{IsFileSlot};
@@ -76,7 +76,7 @@ impl Reading {
         k: usize,
         later: &mut Later,
     ) -> Result<(), ReadFault>
-        requires within { LiesWithin (index_kept index.now) (length (D.disk device.old).image) }
+        requires within { IndexLiesWithin (index_kept index.now) (length (D.disk device.old).image) }
         requires slot { k < length self.now.survey.slots.items }
         requires limit { limit_of later.old.entered ≡ length self.now.survey.slots.items + 1 }
         ensures judges { OnOk result (JudgesSlot (index_kept index.now) self.now k later.old
@@ -103,7 +103,7 @@ impl Reading {
         device: &mut D,
         index: &IndexFile,
     ) -> Result<Later, ReadFault>
-        requires within { LiesWithin (index_kept index.now) (length (D.disk device.old).image) }
+        requires within { IndexLiesWithin (index_kept index.now) (length (D.disk device.old).image) }
         ensures judges { IfOk result (λ later. JudgesUpTo (index_kept index.now) self.now
             (length self.now.survey.slots.items) later (D.disk device.old) (D.disk device.new)) }
         ensures failed { IsErrOf result ReadFault.DeviceFault
@@ -113,7 +113,7 @@ impl Reading {
             → LooksThrough (index_kept index.now) self.now (D.disk device.old)
             (D.disk device.new) 0 }
     {
-        let mut later = Later::new(alloc, self.survey.slots.len() as u32)?;
+        let mut later = Later::new(alloc, self.survey.slots.len() as u32, device.blocks())?;
         for k in 0..self.survey.slots.len() {
             self.judge_slot(alloc, device, index, k, &mut later)?;
         }
@@ -121,7 +121,8 @@ impl Reading {
     }
 
     /// Adds the notes of directories, those of the codes 6 to 9, to those of the codes 1 to 5. For each directory it reads each of its
-    /// headers once, 256 at most, and each block once that holds a record before the end.
+    /// headers once, 256 at most, and each block once that has a place before the end, but none that an earlier read found without a
+    /// record.
     ///
     /// # Errors
     ///
@@ -133,7 +134,7 @@ impl Reading {
         index: &IndexFile,
         found: &mut Findings,
     ) -> Result<(), ReadFault>
-        requires within { LiesWithin (index_kept index.now) (length (D.disk device.old).image) }
+        requires within { IndexLiesWithin (index_kept index.now) (length (D.disk device.old).image) }
         ensures adds { OnOk result (AddsDirectoryNotes (index_kept index.now) self.now
             found.old found.new (D.disk device.old) (D.disk device.new)) }
         ensures failed { IsErrOf result ReadFault.DeviceFault

@@ -4,8 +4,9 @@ ghost use Rattle.std.specs.List.{range_with_len};
 ghost use Rattle.f11_dev.specs.Looked.{Looked};
 ghost use Rattle.f11_header.specs.Header.{holds_header};
 ghost use Rattle.f11_map.specs.HeaderBlock.{blocks_named};
-ghost use Rattle.f11_index.specs.Kept.{index_kept, LiesWithin};
+ghost use Rattle.f11_index.specs.Kept.{index_kept, IndexLiesWithin};
 
+use crate::directories::blank::{add_blank, are_in, is_in};
 use crate::directories::contents::{Directory, is_live, record_end};
 use crate::directories::later::Later;
 use crate::fault::ReadFault;
@@ -22,10 +23,48 @@ const MOST_HEADERS: u32 = 256;
 
 impl Later {
     ghost use Rattle.f11_vfy.specs.Surveying.Bits.{limit_of};
-    ghost use Rattle.f11_vfy.specs.Directory.Reading.{wanted, TakesBlocks, TakesHeader, TakesHeaders, TakesDirectory, LooksAtHeader, LooksAtHeaders, LooksFor};
+    ghost use Rattle.f11_vfy.specs.Directory.Later.{TakesOn};
+    ghost use Rattle.f11_vfy.specs.Directory.Reading.{until, wanted, HoldsBlock, TakesBlocks, TakesHeader, TakesHeaders, TakesDirectory};
+    ghost use Rattle.f11_vfy.specs.Directory.Reading.{LooksAtHeader, LooksAtHeaders, LooksFor};
 
-    /// Takes the blocks from an LBN on, so many, which are those of a directory from its block `at` on. It reads those that hold a
-    /// record before the end, each into `into`; a block past the device's end counts as zeros, and takes no step.
+    /// Takes the block at an LBN, which is block `at` of a directory, where those before it are taken. It reads it into `into`, unless an
+    /// earlier read found no record in it.
+    ///
+    /// # Errors
+    ///
+    /// `DeviceFault` where the transfer failed; `NoMemory` where there was no memory for a name or for a finding.
+    fn take_at<D: Device>(
+        &mut self,
+        device: &mut D,
+        slots: &[Slot],
+        dir: Directory,
+        at: u32,
+        lbn: u32,
+        into: &mut Block,
+    ) -> Result<(), ReadFault>
+        requires limit { limit_of self.old.entered ≡ length slots.now + 1 }
+        requires few { at < 8323072 }
+        requires within { lbn < length (D.disk device.old).image }
+        ensures takes { OnOk result (TakesOn slots.now dir.d (HoldsBlock (D.disk device.old) lbn at)
+            (until dir.end at) (until dir.end (at + 1)) self.old self.new) }
+        ensures looked { OnOk result (Looked (D.disk device.old) (D.disk device.new) 1 0) }
+        ensures failed { IsErrOf result ReadFault.DeviceFault
+            → Looked (D.disk device.old) (D.disk device.new) 1 1 }
+        ensures no_memory { IsErrOf result ReadFault.NoMemory
+            → Looked (D.disk device.old) (D.disk device.new) 1 0 }
+    {
+        if is_in(&self.blank, lbn) {
+            return Ok(());
+        }
+        device.read(lbn, into)?;
+        self.take_block(slots, dir, at, into)?;
+        add_blank(&mut self.blank, lbn, into);
+        Ok(())
+    }
+
+    /// Takes the blocks from an LBN on, so many, which are those of a directory from its block `at` on. It reads those that have a place
+    /// before the end, each into `into`, unless an earlier read found no record in it; a block past the device's end counts as zeros, and
+    /// takes no step. Where no block has to be read, 64 of them take a step.
     ///
     /// # Errors
     ///
@@ -51,9 +90,12 @@ impl Later {
     {
         let (lbn, count) = run;
         let there = device.blocks().saturating_sub(lbn);
-        for k in 0..dir.wanted(at, count).min(there) {
-            device.read(lbn + k, into)?;
-            self.take_block(slots, dir, at + k, into)?;
+        let left = dir.wanted(at, count).min(there);
+        if are_in(&self.blank, lbn, lbn + left) {
+            return Ok(());
+        }
+        for k in 0..left {
+            self.take_at(device, slots, dir, at + k, lbn + k, into)?;
         }
         Ok(())
     }
@@ -111,7 +153,7 @@ impl Later {
         at: u32,
         n: u16,
     ) -> Result<u32, ReadFault>
-        requires within { LiesWithin (index_kept index.now) (length (D.disk device.old).image) }
+        requires within { IndexLiesWithin (index_kept index.now) (length (D.disk device.old).image) }
         requires limit { limit_of self.old.entered ≡ length slots.now + 1 }
         requires few { at + 32512 ≤ 8323072 }
         ensures takes { IfOk result (λ count.
@@ -147,7 +189,7 @@ impl Later {
         at: u32,
         second: u16,
     ) -> Result<(), ReadFault>
-        requires within { LiesWithin (index_kept index.now) (length (D.disk device.old).image) }
+        requires within { IndexLiesWithin (index_kept index.now) (length (D.disk device.old).image) }
         requires limit { limit_of self.old.entered ≡ length slots.now + 1 }
         requires few { at ≤ 32512 }
         ensures takes { OnOk result
@@ -176,7 +218,8 @@ impl Later {
     }
 
     /// Takes the directory whose first header is that of slot `d`, with the next header of each slot as it is kept. It reads each of its
-    /// headers once, 256 at most, and each block once that holds a record before the end.
+    /// headers once, 256 at most, and each block once that has a place before the end, but none that an earlier read found without a
+    /// record.
     ///
     /// # Errors
     ///
@@ -190,7 +233,7 @@ impl Later {
         nexts: &[u16],
         d: u16,
     ) -> Result<(), ReadFault>
-        requires within { LiesWithin (index_kept index.now) (length (D.disk device.old).image) }
+        requires within { IndexLiesWithin (index_kept index.now) (length (D.disk device.old).image) }
         requires limit { limit_of self.old.entered ≡ length slots.now + 1 }
         requires slot { (0 < d) × (d ≤ length nexts.now) }
         ensures takes { OnOk result (TakesDirectory (index_kept index.now) slots.now nexts.now d

@@ -1,8 +1,9 @@
 //! What is read of a volume, and what is found of it without another transfer: all faults, and the notes of blocks and headers.
-ghost use Rattle.std.specs.Prelude.{◌≡◌, ◌<◌, ◌≤◌, ◌*◌, length, IfOk, IsErrOf};
+ghost use Rattle.std.specs.Prelude.{◌≡◌, ◌↔◌, ◌<◌, ◌≤◌, ◌*◌, length, IfOk, IsErrOf, IsTrue};
 ghost use Rattle.f11_bits.specs.Bitmap.{LiesWithin as BitmapLiesWithin};
-ghost use Rattle.f11_index.specs.Kept.{index_kept, LiesWithin};
+ghost use Rattle.f11_index.specs.Kept.{index_kept, IndexLiesWithin};
 ghost use Rattle.f11_vfy.specs.Scanning.Parts.{IsReading};
+ghost use Rattle.f11_vfy.specs.Surveying.Bits.{has};
 
 use crate::chains::{Chains, find_chains};
 use crate::fault::ReadFault;
@@ -59,7 +60,7 @@ impl Reading {
         places: &[u32],
         size: u32,
     ) -> Result<Reading, ReadFault>
-        requires within { LiesWithin (index_kept index.now) (length (D.disk device.old).image) }
+        requires within { IndexLiesWithin (index_kept index.now) (length (D.disk device.old).image) }
         requires few { length places.now ≤ 126 }
         requires covered { size ≤ 4096 * length places.now }
         requires bitmap { BitmapLiesWithin (bitmap_at places.now size)
@@ -133,5 +134,28 @@ impl Reading {
         add_headers(&mut found, Kind::Marked, slots, &self.chains)?;
         add_headers(&mut found, Kind::NotClosed, slots, &self.chains)?;
         Ok(found)
+    }
+}
+
+impl Reading {
+    ghost use Rattle.f11_vfy.specs.Reclaiming.Slots.{IsOrphan};
+    ghost use Rattle.f11_index.specs.Headers.{IsInFile};
+    ghost use Rattle.f11_volume.specs.Volume.{Volume};
+    ghost use Rattle.f11_vfy.specs.Scanning.Reading.{ShowsVolume};
+
+    /// Whether header `n`, of one of the slots, is one of a file.
+    pub(crate) fn in_file(&self, n: u16) -> bool
+        requires { n ≤ length self.now.survey.slots.items }
+        ensures { result ≡ has self.now.chains.in_file n }
+    {
+        self.chains.in_file.contains(u32::from(n))
+    }
+
+    /// Whether header `n`, of one of the slots, is live and one of no file.
+    pub(crate) fn is_orphan(&self, n: u16) -> bool
+        requires { (0 < n) × (n ≤ length self.now.survey.slots.items) }
+        ensures { (v : Volume) → ShowsVolume v self.now → IsTrue result ↔ IsOrphan v.table n }
+    {
+        self.survey.slots[usize::from(n) - 1].is_live() && !self.in_file(n)
     }
 }

@@ -4,7 +4,7 @@ ghost use Rattle.std.specs.List.{range_with_len};
 ghost use Rattle.f11_dev.specs.Looked.{Looked};
 ghost use Rattle.f11_header.specs.Header.{holds_header};
 ghost use Rattle.f11_map.specs.HeaderBlock.{blocks_named};
-ghost use Rattle.f11_index.specs.Kept.{index_kept, LiesWithin};
+ghost use Rattle.f11_index.specs.Kept.{index_kept, IndexLiesWithin};
 ghost use Rattle.f11_vfy.specs.Frames.Parts.{needed, KeepsIf, ReadsBitmapFile, FindsNoBitmapFile};
 
 use crate::fault::ReadFault;
@@ -35,7 +35,7 @@ pub(crate) fn read_bitmap_file<D: Device>(
     device: &mut D,
     index: &IndexFile,
 ) -> Result<Option<Vec<u32>>, ReadFault>
-    requires within { LiesWithin (index_kept index.now) (length (D.disk device.old).image) }
+    requires within { IndexLiesWithin (index_kept index.now) (length (D.disk device.old).image) }
     ensures reads { IfOk result (λ found. MatchOption found
         (FindsNoBitmapFile (index_kept index.now) (D.disk device.old) (D.disk device.new))
         (λ blocks. ReadsBitmapFile (index_kept index.now) blocks.items

@@ -4,7 +4,7 @@ ghost use Rattle.f11_dev.specs.Looked.{Looked};
 ghost use Rattle.f11_header.specs.Header.{holds_header};
 ghost use Rattle.f11_home.specs.Home.{candidate};
 ghost use Rattle.f11_map.specs.HeaderBlock.{blocks_named};
-ghost use Rattle.f11_index.specs.Kept.{index_kept, LiesWithin};
+ghost use Rattle.f11_index.specs.Kept.{index_kept, IndexLiesWithin};
 ghost use Rattle.f11_vfy.specs.Surveying.Bits.{has, limit_of};
 ghost use Rattle.f11_vfy.specs.Frames.Earlier.{Puts, PutsNamed, JudgesEarlier};
 
@@ -36,7 +36,7 @@ pub(crate) fn are_earlier_named<D: Device>(
     index: &IndexFile,
     lbn: u32,
 ) -> Result<bool, ReadFault>
-    requires within { LiesWithin (index_kept index.now) (length (D.disk device.old).image) }
+    requires within { IndexLiesWithin (index_kept index.now) (length (D.disk device.old).image) }
     ensures judges { IfOk result (λ named.
         JudgesEarlier (index_kept index.now) lbn named (D.disk device.old) (D.disk device.new)) }
     ensures failed { IsErrOf result ReadFault.DeviceFault
@@ -59,7 +59,7 @@ fn put_named<D: Device>(
     index: &IndexFile,
     named: &mut Bits,
 ) -> Result<(), DeviceFault>
-    requires within { LiesWithin (index_kept index.now) (length (D.disk device.old).image) }
+    requires within { IndexLiesWithin (index_kept index.now) (length (D.disk device.old).image) }
     ensures limit { limit_of named.new ≡ limit_of named.old }
     ensures puts { OnOk result (PutsNamed (index_kept index.now) named.old named.new
         (D.disk device.old) (D.disk device.new)) }

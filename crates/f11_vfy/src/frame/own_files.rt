@@ -2,7 +2,7 @@
 ghost use Rattle.std.specs.Prelude.{◌≡◌, ◌<◌, ◌≤◌, length, IfOk, OnErr, MatchOption};
 ghost use Rattle.f11_dev.specs.Looked.{Looked};
 ghost use Rattle.f11_index.specs.IndexFile.{slots};
-ghost use Rattle.f11_index.specs.Kept.{index_kept, LiesWithin};
+ghost use Rattle.f11_index.specs.Kept.{index_kept, IndexLiesWithin};
 ghost use Rattle.f11_vfy.specs.Frames.Parts.{JudgesOwnFile, FindsOwnFiles, FindsNoOwnFile};
 
 use f11_bytes::BLOCK_SIZE;
@@ -21,7 +21,7 @@ pub(crate) fn first_no_file<D: Device>(
     device: &mut D,
     index: &IndexFile,
 ) -> Result<Option<u16>, DeviceFault>
-    requires within { LiesWithin (index_kept index.now) (length (D.disk device.old).image) }
+    requires within { IndexLiesWithin (index_kept index.now) (length (D.disk device.old).image) }
     ensures judges { IfOk result (λ found. MatchOption found
         (FindsOwnFiles (index_kept index.now) (D.disk device.old) (D.disk device.new))
         (λ n. FindsNoOwnFile (index_kept index.now) n (D.disk device.old) (D.disk device.new))) }
@@ -38,7 +38,7 @@ pub(crate) fn first_no_file<D: Device>(
 /// Whether header `n` is the first of the file `n,n`.
 fn is_own_file<D: Device>(device: &mut D, index: &IndexFile, n: u16) -> Result<bool, DeviceFault>
     requires slot { (0 < n) × (n ≤ slots (index_kept index.now)) }
-    requires within { LiesWithin (index_kept index.now) (length (D.disk device.old).image) }
+    requires within { IndexLiesWithin (index_kept index.now) (length (D.disk device.old).image) }
     ensures judges { IfOk result (λ own.
         JudgesOwnFile (index_kept index.now) n own (D.disk device.old) (D.disk device.new)) }
     ensures failed { OnErr result (Looked (D.disk device.old) (D.disk device.new) 1 1) }

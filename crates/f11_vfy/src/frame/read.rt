@@ -2,7 +2,7 @@
 ghost use Rattle.std.specs.Prelude.{IsTrue, IfOk, IsErrOf, length};
 ghost use Rattle.f11_dev.specs.Looked.{Looked};
 ghost use Rattle.f11_home.specs.Home.{IsSound};
-ghost use Rattle.f11_index.specs.Kept.{index_kept, LiesWithin};
+ghost use Rattle.f11_index.specs.Kept.{index_kept, IndexLiesWithin};
 ghost use Rattle.f11_vfy.specs.Frames.Read.{IsIndexOf, FramesBehind, Frames};
 ghost use Rattle.f11_vfy.specs.Frames.Frame.{FailsToReadFrame, LacksFrameMemory};
 
@@ -84,7 +84,7 @@ fn read_files<D: Device>(
     home: &Home,
     index: IndexFile,
 ) -> Result<Framing, ReadFault>
-    requires within { LiesWithin (index_kept index) (length (D.disk device.old).image) }
+    requires within { IndexLiesWithin (index_kept index) (length (D.disk device.old).image) }
     requires sound { IsTrue (D.disk device.old).honest
         → IsIndexOf (D.disk device.old).image home.now (index_kept index) }
     ensures frames { IfOk result (λ framing.

@@ -3,7 +3,7 @@ ghost use Rattle.std.specs.Prelude.{◌≡◌, ◌≤◌, ◌<◌, ◌+◌, leng
 ghost use Rattle.f11_dev.specs.Looked.{Looked};
 ghost use Rattle.f11_header.specs.Header.{IsHeader};
 ghost use Rattle.f11_index.specs.IndexFile.{slots};
-ghost use Rattle.f11_index.specs.Kept.{index_kept, LiesWithin};
+ghost use Rattle.f11_index.specs.Kept.{index_kept, IndexLiesWithin};
 ghost use Rattle.f11_vfy.specs.Surveying.Headers.{reads_of, used_slots, ReadsSlot, SurveysDisk};
 
 use crate::fault::ReadFault;
@@ -70,7 +70,7 @@ pub fn survey_headers<D: Device>(
     index: &IndexFile,
     size: u32,
 ) -> Result<Survey, ReadFault>
-    requires within { LiesWithin (index_kept index.now) (length (D.disk device.old).image) }
+    requires within { IndexLiesWithin (index_kept index.now) (length (D.disk device.old).image) }
     ensures surveys { IfOk result (λ survey. SurveysDisk (index_kept index.now) size survey
         (D.disk device.old) (D.disk device.new)) }
     ensures failed { IsErrOf result ReadFault.DeviceFault
@@ -95,7 +95,7 @@ pub(crate) fn read_slot<D: Device>(
     n: u16,
     block: &mut Block,
 ) -> Result<State, DeviceFault>
-    requires within { LiesWithin (index_kept index.now) (length (D.disk device.old).image) }
+    requires within { IndexLiesWithin (index_kept index.now) (length (D.disk device.old).image) }
     ensures reads { IfOk result (λ state. ReadsSlot (index_kept index.now) n state block.new
         (D.disk device.old) (D.disk device.new)) }
     ensures failed { OnErr result

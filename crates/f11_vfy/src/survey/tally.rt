@@ -91,7 +91,7 @@ impl Tally {
 }
 
 /// The word whose bits from `low` on are 1, below `high`.
-fn mask(low: u32, high: u32) -> u64
+pub(crate) fn mask(low: u32, high: u32) -> u64
     requires order { low ≤ high }
     requires high { high ≤ 64 }
     ensures { result ≡ 2 ^ high - 2 ^ low }

@@ -13,7 +13,7 @@ use Rattle.rt11_volume.specs.Rewriting.Draft.{IsRewritten}
 use Rattle.rt11_volume.specs.Entry.{area_length, status, is_one_kind}
 use Rattle.rt11_volume.specs.InHand.{KeepsOthers}
 use Rattle.rt11_volume.specs.Operations.{with_entries}
-use Rattle.rt11_volume.specs.Segment.{Segment, segment_words, segment_with, words_of, area_start, areas_end}
+use Rattle.rt11_volume.specs.Segment.{Segment, segment_words, segment_with, words_in, area_start, areas_end}
 use Rattle.rt11_volume.specs.Store.{rt_store_of}
 use Rattle.rt11_volume.proofs.Verifying.Keep.{KeepsLinks, KeepsAreas, visited-same, visited-low, sound-kept, keeps-words}
 use Rattle.rt11_volume.proofs.Verifying.Sound.{IsSoundImage}
@@ -36,7 +36,7 @@ unfolding segment_words
 words-kept old new k j kept apart =
     let one = kept (4 + 2 * j) (λ same. apart (omega (arith, same))) (λ same. omega (arith, same)) in
     let two = kept (4 + 2 * j + 1) (λ same. omega (arith, same)) (λ same. apart (omega (arith, same))) in
-    λ i. words_of (one i ++ two i)
+    λ i. words_in (one i ++ two i)
 
 -- the header's words
 header-kept : (old new : Image) (k : ℕ) (es : List (List ℕ)) → Rewrites old new k es → (j w : ℕ) → w < 5 → slice_index (segment_words new j) w ≡ slice_index (segment_words old j) w

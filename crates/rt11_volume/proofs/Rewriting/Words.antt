@@ -11,31 +11,31 @@ use Rattle.f11_bytes.specs.Words.{word, with_word}
 use Rattle.f11_bytes.proofs.WordLemmas.{word-with_word, word-with_word_apart, length-with_word}
 use Rattle.f11_dev.specs.Image.{Image}
 use Rattle.f11_dev.proofs.ImageLemmas.{image_block-read}
-use Rattle.rt11_volume.specs.Segment.{words_of, segment_words}
+use Rattle.rt11_volume.specs.Segment.{words_in, segment_words}
 
 -- word i of some bytes
-pub words_of-at : (bytes : List ℕ) (i : ℕ) → i < 512 → slice_index (words_of bytes) i ≡ word bytes (2 * i)
-unfolding words_of
+pub words_of-at : (bytes : List ℕ) (i : ℕ) → i < 512 → slice_index (words_in bytes) i ≡ word bytes (2 * i)
+unfolding words_in
 words_of-at bytes i within =
     let long : i < length (range_with_len 0 512) = omega (arith, length-range_with_len 0 512) in
     let place : get_or (range_with_len 0 512) i 0 ≡ i = get_or-range_with_len 0 512 i 0 within ∙ omega arith in
     get_or-map (λ k. word bytes (2 * k)) (range_with_len 0 512) i 0 0 long ∙ ap (λ k. word bytes (2 * k)) place
 
 -- and none past the end
-pub words_of-past : (bytes : List ℕ) (i : ℕ) → 512 ≤ i → slice_index (words_of bytes) i ≡ 0
-unfolding words_of
+pub words_of-past : (bytes : List ℕ) (i : ℕ) → 512 ≤ i → slice_index (words_in bytes) i ≡ 0
+unfolding words_in
 words_of-past bytes i past =
     let size : length (map (λ k. word bytes (2 * k)) (range_with_len 0 512)) ≡ 512 = simp (length-map, length-range_with_len) in
     get_or_past (map (λ k. word bytes (2 * k)) (range_with_len 0 512)) i 0 (omega (arith, size))
 
 -- a word in the first block, and one in the second
-pub words_of-low : (low high : List ℕ) (i : ℕ) → length low ≡ 512 → i < 256 → slice_index (words_of (low ++ high)) i ≡ word low (2 * i)
+pub words_of-low : (low high : List ℕ) (i : ℕ) → length low ≡ 512 → i < 256 → slice_index (words_in (low ++ high)) i ≡ word low (2 * i)
 words_of-low low high i size within =
     let one = get_or_append_left low high 0 (2 * i) (omega arith) in
     let two = get_or_append_left low high 0 (2 * i + 1) (omega arith) in
     words_of-at (low ++ high) i (omega arith) ∙ (λ k. one k + 256 * two k)
 
-pub words_of-high : (low high : List ℕ) (i : ℕ) → length low ≡ 512 → 256 ≤ i → i < 512 → slice_index (words_of (low ++ high)) i ≡ word high (2 * (i - 256))
+pub words_of-high : (low high : List ℕ) (i : ℕ) → length low ≡ 512 → 256 ≤ i → i < 512 → slice_index (words_in (low ++ high)) i ≡ word high (2 * (i - 256))
 words_of-high low high i size behind within =
     let one = get_or-append_right low high (2 * i) 0 (omega arith) in
     let two = get_or-append_right low high (2 * i + 1) 0 (omega arith) in
@@ -47,29 +47,29 @@ words_of-high low high i size behind within =
 
 -- two blocks that were read one after another are those of a segment
 pub segment_words-read : (image later : Image) (k n : ℕ) (low high : List ℕ) → n ≡ k → later ≡ image → slice_get image (4 + 2 * n) ≡ Some low
-    → slice_get later (4 + 2 * n + 1) ≡ Some high → words_of (low ++ high) ≡ segment_words image k
+    → slice_get later (4 + 2 * n + 1) ≡ Some high → words_in (low ++ high) ≡ segment_words image k
 unfolding segment_words
 segment_words-read image later k n low high number same one two =
     let first = image_block-read image (4 + 2 * n) low one in
     let second = image_block-read image (4 + 2 * n + 1) high (sym (ap (λ (i : Image). slice_get i (4 + 2 * n + 1)) same) ∙ two) in
-    rw (← number) (λ i. words_of (sym first i ++ sym second i))
+    rw (← number) (λ i. words_in (sym first i ++ sym second i))
 
 -- there are 512 of them
-pub length-words_of : (bytes : List ℕ) → length (words_of bytes) ≡ 512
-unfolding words_of
+pub length-words_of : (bytes : List ℕ) → length (words_in bytes) ≡ 512
+unfolding words_in
 length-words_of bytes = simp (length-map, length-range_with_len)
 
 -- a word that was put in the first block, and in the second
-pub words_of-set_low : (low high : List ℕ) (i w : ℕ) → length low ≡ 512 → i < 256 → words_of (with_word low (2 * i) w ++ high) ≡ slice_set (words_of (low ++ high)) i w
+pub words_of-set_low : (low high : List ℕ) (i w : ℕ) → length low ≡ 512 → i < 256 → words_in (with_word low (2 * i) w ++ high) ≡ slice_set (words_in (low ++ high)) i w
 words_of-set_low low high i w size within =
     let now : List ℕ = with_word low (2 * i) w in
     let long : length now ≡ 512 = length-with_word low (2 * i) w ∙ size in
-    let old : List ℕ = words_of (low ++ high) in
-    same_number_lists (words_of (now ++ high)) (slice_set old i w) (length-words_of (now ++ high) ∙ sym (length-set old i w ∙ length-words_of (low ++ high))) (λ k inside.
+    let old : List ℕ = words_in (low ++ high) in
+    same_number_lists (words_in (now ++ high)) (slice_set old i w) (length-words_of (now ++ high) ∙ sym (length-set old i w ∙ length-words_of (low ++ high))) (λ k inside.
     let few : k < 512 = omega (arith, inside, length-words_of (now ++ high)) in
     elim (cases_eq k i) [
       | inl same ↦
-          ap (slice_index (words_of (now ++ high))) same ∙ words_of-low now high i long within ∙ word-with_word low (2 * i) w (omega (arith, size, within))
+          ap (slice_index (words_in (now ++ high))) same ∙ words_of-low now high i long within ∙ word-with_word low (2 * i) w (omega (arith, size, within))
           ∙ sym (get_or-set_same old i w 0 (omega (arith, length-words_of (low ++ high), within))) ∙ ap (λ j. get_or (slice_set old i w) j 0) (sym same)
       | inr apart ↦ elim (cases_lt k 256) [
         | inl first ↦
@@ -82,16 +82,16 @@ words_of-set_low low high i w size within =
     by_order k i apart = elim (cases_lt k i) [ inl less ↦ inl (omega (arith, less)) | inr more ↦ inr (omega (arith, more, apart)) ]
 
 pub words_of-set_high : (low high : List ℕ) (i w : ℕ) → length low ≡ 512 → length high ≡ 512 → 256 ≤ i → i < 512
-    → words_of (low ++ with_word high (2 * (i - 256)) w) ≡ slice_set (words_of (low ++ high)) i w
+    → words_in (low ++ with_word high (2 * (i - 256)) w) ≡ slice_set (words_in (low ++ high)) i w
 words_of-set_high low high i w size size_high behind within =
     let at : ℕ = 2 * (i - 256) in
     let now : List ℕ = with_word high at w in
-    let old : List ℕ = words_of (low ++ high) in
-    same_number_lists (words_of (low ++ now)) (slice_set old i w) (length-words_of (low ++ now) ∙ sym (length-set old i w ∙ length-words_of (low ++ high))) (λ k inside.
+    let old : List ℕ = words_in (low ++ high) in
+    same_number_lists (words_in (low ++ now)) (slice_set old i w) (length-words_of (low ++ now) ∙ sym (length-set old i w ∙ length-words_of (low ++ high))) (λ k inside.
     let few : k < 512 = omega (arith, inside, length-words_of (low ++ now)) in
     elim (cases_eq k i) [
       | inl same ↦
-          ap (slice_index (words_of (low ++ now))) same ∙ words_of-high low now i size behind within ∙ word-with_word high at w (omega (arith, size_high, behind, within))
+          ap (slice_index (words_in (low ++ now))) same ∙ words_of-high low now i size behind within ∙ word-with_word high at w (omega (arith, size_high, behind, within))
           ∙ sym (get_or-set_same old i w 0 (omega (arith, length-words_of (low ++ high), within))) ∙ ap (λ j. get_or (slice_set old i w) j 0) (sym same)
       | inr apart ↦ elim (cases_lt k 256) [
         | inl first ↦ words_of-low low now k size first ∙ sym (words_of-low low high k size first) ∙ sym (get_or-set_other old i k w 0 apart)

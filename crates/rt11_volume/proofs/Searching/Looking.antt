@@ -7,7 +7,8 @@ use Rattle.std.proofs.lemmas.Option.{slice_get-get_or}
 use Rattle.f11_dev.specs.Disk.{Disk}
 use Rattle.f11_dev.specs.Image.{Image}
 use Rattle.rt11_volume.specs.Directory.{segment_of, visited}
-use Rattle.rt11_volume.specs.Searching.Looking.{segments_of, found_segment, IsSoundDisk, IsOnDevice, IsPlaceIn, IsFirstIn, IsFirstFound, IsKept, Surveys}
+use Rattle.rt11_volume.specs.Searching.Looking.{segments_of, found_segment, IsOnDevice, IsPlaceIn, IsFirstIn, IsFirstFound, IsKept, Surveys}
+use Rattle.rt11_volume.specs.Verifying.Verdict.{IsSoundDisk}
 use Rattle.rt11_volume.specs.Entry.{is_file_named}
 use Rattle.rt11_volume.specs.Searching.Search.{HasNone, is_empty_for}
 use Rattle.rt11_volume.specs.Segment.{Segment, segment_words, next_segment, entries, extra_bytes}

@@ -8,7 +8,7 @@ use Rattle.f11_dev.specs.Image.{Image}
 use Rattle.rt11_volume.specs.Directory.{count_of, next_of, visited, segment_of}
 use Rattle.rt11_volume.specs.Rewriting.Draft.{IsRewritten}
 use Rattle.rt11_volume.specs.Entry.{area_length, status, is_end, is_one_kind}
-use Rattle.rt11_volume.specs.Segment.{Segment, segment_words, segment_with, words_of, entries, entry_place, entry_room, extra_bytes, highest_segment, HasEnd}
+use Rattle.rt11_volume.specs.Segment.{Segment, segment_words, segment_with, words_in, entries, entry_place, entry_room, extra_bytes, highest_segment, HasEnd}
 use Rattle.rt11_volume.specs.Rewriting.Split.{back_header, front_header, IsApart, KeepsSplit}
 use Rattle.rt11_volume.proofs.DeleteLemmas.{extra-first}
 use Rattle.rt11_volume.proofs.Verifying.Sound.{IsSoundImage}
@@ -54,7 +54,7 @@ unfolding segment_words
 words-apart old new k number j kept a b c =
     let one = kept (4 + 2 * j) (low j 1 a) (low j k b) (low j number c) in
     let two = kept (4 + 2 * j + 1) (high j 1 a) (high j k b) (high j number c) in
-    λ i. words_of (one i ++ two i)
+    λ i. words_in (one i ++ two i)
   where
     low : (j n : ℕ) → j ≢ n → IsApart (4 + 2 * j) n
     low j n apart = record { low = λ e. apart (omega (arith, e)); high = λ e. omega (arith, e) }

@@ -3,7 +3,7 @@ use Rattle.std.proofs.Common.{◌≡◌, ℕ, zero, suc, ◌<◌, ◌↔◌, Boo
 use Rattle.std.specs.List.{All, Contains}
 use Rattle.std.proofs.lemmas.List.Elements.{Contains-get_or}
 use Rattle.f11_dev.specs.Image.{Image}
-use Rattle.f11_findings.specs.Finding.{finding, IsExactly, Adds}
+use Rattle.f11_findings.specs.Finding.{finding, IsExactly, AddsFindings}
 use Rattle.f11_findings.specs.declared.finding.Finding.{Finding}
 use Rattle.f11_findings.proofs.FindingLemmas.{IsExactly-added}
 use Rattle.rt11_volume.specs.Directory.{IsSized, HasSize}
@@ -17,7 +17,7 @@ use Rattle.rt11_volume.proofs.Verifying.Faults.{faults_found, faults_listed}
 use Rattle.rt11_volume.proofs.Verifying.Notes.{notes_noted, notes_listed}
 
 -- a directory of a wrong size is the only fault
-pub faults-size : (image : Image) (found : List Finding) → ¬ IsSized image → Adds [] found (finding 1 0 0 ∷ []) → IsExactly (IsRtFault image) found
+pub faults-size : (image : Image) (found : List Finding) → ¬ IsSized image → AddsFindings [] found (finding 1 0 0 ∷ []) → IsExactly (IsRtFault image) found
 faults-size image found wrong adds = IsExactly-added (IsRtFault image) found (finding 1 0 0 ∷ []) adds each all
   where
     each : All (λ f. IsRtFault image f.code f.a f.b) (finding 1 0 0 ∷ [])
@@ -36,7 +36,7 @@ notes-size image found wrong none = subst (IsExactly (IsRtNote image)) (sym none
 }
 
 -- the faults and notes of the segments that were visited
-pub faults-sized : (image : Image) (found : List Finding) → IsSized image → Adds [] found (faults_of (length image) (visits image)) → IsExactly (IsRtFault image) found
+pub faults-sized : (image : Image) (found : List Finding) → IsSized image → AddsFindings [] found (faults_of (length image) (visits image)) → IsExactly (IsRtFault image) found
 faults-sized image found sized adds = IsExactly-added (IsRtFault image) found (faults_of (length image) (visits image)) adds
     (λ k d within. let f : Finding = get_or (faults_of (length image) (visits image)) k d in
     of_directory f.code f.a f.b sized (faults_found image f (Contains-get_or (faults_of (length image) (visits image)) k d within)))
@@ -46,7 +46,7 @@ faults-sized image found sized adds = IsExactly-added (IsRtFault image) found (f
     all _ _ _ (size_wrong w) = absurd (w sized)
     all _ _ _ (of_directory code a b s fault) = faults_listed image code a b fault
 
-pub notes-sized : (image : Image) (found : List Finding) → IsSized image → Adds [] found (notes_of (visits image)) → IsExactly (IsRtNote image) found
+pub notes-sized : (image : Image) (found : List Finding) → IsSized image → AddsFindings [] found (notes_of (visits image)) → IsExactly (IsRtNote image) found
 notes-sized image found sized adds = IsExactly-added (IsRtNote image) found (notes_of (visits image)) adds
     (λ k d within. let f : Finding = get_or (notes_of (visits image)) k d in
     record { sized = sized; note = notes_noted image f (Contains-get_or (notes_of (visits image)) k d within) })
@@ -70,7 +70,7 @@ sized-first image first blocks b is size tells holds =
 
 -- the lists, from what was read of an image that didn't change meanwhile
 pub found-sized : (image later : Image) (faults notes : List Finding) (visited vs ws : List Visited) (blocks : ℕ) → IsSized image → later ≡ image → blocks ≡ length image → visited ≡ visits later
-    → vs ≡ visited → ws ≡ visited → Adds [] faults (faults_of blocks vs) → Adds [] notes (notes_of ws) → IsExactly (IsRtFault image) faults × IsExactly (IsRtNote image) notes
+    → vs ≡ visited → ws ≡ visited → AddsFindings [] faults (faults_of blocks vs) → AddsFindings [] notes (notes_of ws) → IsExactly (IsRtFault image) faults × IsExactly (IsRtNote image) notes
 found-sized image later faults notes visited vs ws blocks sized same size is one two adds also =
     let all : visited ≡ visits image = is ∙ ap visits same in
-    (faults-sized image faults sized (subst (Adds [] faults) (λ i. faults_of (size i) ((one ∙ all) i)) adds), notes-sized image notes sized (subst (Adds [] notes) (ap notes_of (two ∙ all)) also))
+    (faults-sized image faults sized (subst (AddsFindings [] faults) (λ i. faults_of (size i) ((one ∙ all) i)) adds), notes-sized image notes sized (subst (AddsFindings [] notes) (ap notes_of (two ∙ all)) also))

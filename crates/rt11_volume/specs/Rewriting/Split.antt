@@ -1,5 +1,26 @@
 -- A segment that is split: what is written of it.
-use Rattle.std.specs.Prelude.{◌≡◌, ◌≢◌, ◌≤◌, ◌<◌, ℕ, ◌+◌, ◌-◌, ◌/◌, ◌&&◌, nat_le, nat_lt, if◌then◌else◌, IsTrue, List, [], ◌∷◌, length, slice_index, slice_range, slice_set}
+use Rattle.std.specs.Prelude.{
+  ◌≡◌,
+  ◌≢◌,
+  ◌≤◌,
+  ◌<◌,
+  ℕ,
+  ◌+◌,
+  ◌-◌,
+  ◌/◌,
+  ◌&&◌,
+  nat_le,
+  nat_lt,
+  if◌then◌else◌,
+  IsTrue,
+  List,
+  [],
+  ◌∷◌,
+  length,
+  slice_index,
+  slice_range,
+  slice_set,
+}
 use Rattle.f11_dev.specs.Disk.{Disk}
 use Rattle.f11_dev.specs.Image.{Image, image_block}
 use Rattle.f11_dev.specs.Looked.{Looked}
@@ -14,7 +35,8 @@ use Rattle.rt11_volume.specs.declared.lookup.entry.Found.{Found}
 
 -- the entries from one to before another, with a file in the front of area i where that is one of them
 abbrev pub half_with : ℕ → List (List ℕ) → ℕ → ℕ → ℕ → List ℕ → ℕ → ℕ → List (List ℕ)
-half_with extra es a b i name blocks day = if nat_le a i && nat_lt i b then with_file extra (slice_range es a b) (i - a) name blocks day else slice_range es a b
+half_with extra es a b i name blocks day = if nat_le a i && nat_lt i b then with_file extra (slice_range es a b)
+    (i - a) name blocks day else slice_range es a b
 
 -- the header of what stays of a segment, which links to the new one, and that of the new one, whose areas begin at a block; both tell the
 -- highest segment in use, which counts in segment 1
@@ -67,5 +89,7 @@ pub record SplitsHere (found : Found) (first : List ℕ) (number : ℕ) (file : 
   pub wrote_back : WritesSegment number back old one
   pub wrote_first : WritesFirst found.number (slice_set first 2 number) one two
   pub wrote_front : WritesSegment found.number front two new
-  pub back_is : IsRewritten (back_header found.segment number start) (half_with (extra_bytes found.segment) (found_segment found).entries kept count found.i file.name file.blocks file.date) back
-  pub front_is : IsRewritten (front_header found.segment number) (half_with (extra_bytes found.segment) (found_segment found).entries 0 kept found.i file.name file.blocks file.date) front
+  pub back_is : IsRewritten (back_header found.segment number start)
+      (half_with (extra_bytes found.segment) (found_segment found).entries kept count found.i file.name file.blocks file.date) back
+  pub front_is : IsRewritten (front_header found.segment number)
+      (half_with (extra_bytes found.segment) (found_segment found).entries 0 kept found.i file.name file.blocks file.date) front

@@ -1,5 +1,25 @@
 -- What is looked for in a directory, and what was found.
-use Rattle.std.specs.Prelude.{◌≡◌, ℕ, ◌+◌, ◌-◌, ◌<◌, take, slice_range, Bool, true, false, IsTrue, List, [], length, map, Option, Some, None, slice_index_or}
+use Rattle.std.specs.Prelude.{
+  ◌≡◌,
+  ℕ,
+  ◌+◌,
+  ◌-◌,
+  ◌<◌,
+  take,
+  slice_range,
+  Bool,
+  true,
+  false,
+  IsTrue,
+  List,
+  [],
+  length,
+  map,
+  Option,
+  Some,
+  None,
+  slice_index_or,
+}
 use Rattle.std.specs.List.{slice_get}
 use Rattle.f11_dev.specs.Disk.{Disk}
 use Rattle.f11_dev.specs.Image.{Image}
@@ -12,15 +32,10 @@ use Rattle.rt11_volume.specs.Operations.{with_file}
 use Rattle.rt11_volume.specs.declared.rewrite.edit.NewFile.{NewFile}
 use Rattle.rt11_volume.specs.Searching.Search.{is_empty_for, HasNone}
 use Rattle.rt11_volume.specs.Segment.{Segment, segment_lbn, segment_words, segment_with, area_start, extra_bytes}
-use Rattle.rt11_volume.specs.Verifying.Verdict.{IsRtAccepted}
+use Rattle.rt11_volume.specs.Verifying.Verdict.{IsSoundDisk}
 use Rattle.rt11_volume.specs.declared.lookup.entry.Found.{Found}
 use Rattle.rt11_volume.specs.declared.lookup.entry.Wanted.{Wanted}
 use Rattle.rt11_volume.specs.declared.lookup.entry.Wanted.TheVariants.{File, Area}
-
--- The disk is honest, and its image is accepted.
-pub record IsSoundDisk (disk : Disk) : Type 0 where
-  pub honest : IsTrue disk.honest
-  pub accepted : IsRtAccepted disk.image
 
 -- the segments of an image in link order
 abbrev pub segments_of : Image → List Segment
@@ -72,7 +87,8 @@ pub record IsFirstFound (test : List ℕ → Bool) (image : Image) (found : Foun
   pub visited_at : slice_get (visited image) place ≡ Some found.number
   pub words_are : found.segment ≡ segment_words image found.number
   pub first : IsFirstIn test (segment_of image found.number).entries found.i
-  pub none_earlier : (earlier k : ℕ) → earlier < place → slice_get (visited image) earlier ≡ Some k → IsPlaceIn test (segment_of image k).entries None
+  pub none_earlier : (earlier k : ℕ) → earlier < place → slice_get (visited image) earlier ≡ Some k →
+      IsPlaceIn test (segment_of image k).entries None
 
 -- It was found; it stands in the segment in hand on any disk.
 pub record FindsFirst (wanted : Wanted) (found : Found) (old new : Disk) : Type 0 where
@@ -95,7 +111,8 @@ Searches wanted None old new = FindsNone wanted old new
 abbrev pub IsKept : (List ℕ → Bool) → Option Found → ℕ → List ℕ → Option Found → Type 0
 IsKept test (Some found) number words kept = kept ≡ Some found
 IsKept test None number words None = IsPlaceIn test (segment_with number words).entries None
-IsKept test None number words (Some found) = (found.number ≡ number) × (found.segment ≡ words) × IsFirstIn test (segment_with number words).entries found.i
+IsKept test None number words (Some found) = (found.number ≡ number) × (found.segment ≡ words) ×
+    IsFirstIn test (segment_with number words).entries found.i
 
 -- The first empty area of at least so many blocks was found, and no file of the name.
 pub record FindsRoom (name : List ℕ) (blocks : ℕ) (found : Found) (disk : Disk) : Type 0 where
@@ -120,4 +137,6 @@ pub record CreatesHere (found : Found) (file : NewFile) (old new : Disk) : Type 
   pub written : WritesSegment found.number segment old new
   pub count : ℕ
   pub count_is : count ≡ length (found_segment found).entries
-  pub rewritten : IsRewritten (take 5 found.segment) (with_file (extra_bytes found.segment) (slice_range (found_segment found).entries 0 count) (found.i - 0) file.name file.blocks file.date) segment
+  pub rewritten : IsRewritten (take 5 found.segment)
+      (with_file (extra_bytes found.segment) (slice_range (found_segment found).entries 0 count)
+      (found.i - 0) file.name file.blocks file.date) segment

@@ -47,9 +47,11 @@ pub data IsDirectoryFault (image : Image) : ℕ → ℕ → ℕ → Type 0 where
   -- segment k has wrong extra bytes, and nothing of it or behind it is judged
   extra_wrong : (k : ℕ) → IsWrong image k → IsDirectoryFault image 4 k 0
   -- segment k has no end mark
-  no_end : (place k : ℕ) → IsJudged image place k → ¬ HasEnd (extra_bytes (segment_words image k)) (segment_words image k) → IsDirectoryFault image 5 k 0
+  no_end : (place k : ℕ) → IsJudged image place k →
+      ¬ HasEnd (extra_bytes (segment_words image k)) (segment_words image k) → IsDirectoryFault image 5 k 0
   -- entry i of segment k isn't of one kind
-  status_wrong : (place k i : ℕ) (entry : List ℕ) → IsEntry image place k i entry → is_one_kind (status entry) ≡ false → IsDirectoryFault image 6 k i
+  status_wrong : (place k i : ℕ) (entry : List ℕ) → IsEntry image place k i entry →
+      is_one_kind (status entry) ≡ false → IsDirectoryFault image 6 k i
   -- its area ends outside
   area_outside : (place k i : ℕ) (entry : List ℕ) → IsEntry image place k i entry → EndsOutside image k i → IsDirectoryFault image 7 k i
   -- segment k begins too early

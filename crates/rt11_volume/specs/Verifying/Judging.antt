@@ -1,5 +1,27 @@
 -- What is found in the segments that were visited, one finding behind the other.
-use Rattle.std.specs.Prelude.{ℕ, zero, suc, ◌+◌, ◌*◌, ◌==◌, ◌&&◌, ◌||◌, Bool, not, nat_lt, min, if◌then◌else◌, List, [], ◌∷◌, ◌++◌, length, take, slice_index, slice_index_or}
+use Rattle.std.specs.Prelude.{
+  ℕ,
+  zero,
+  suc,
+  ◌+◌,
+  ◌*◌,
+  ◌==◌,
+  ◌&&◌,
+  ◌||◌,
+  Bool,
+  not,
+  nat_lt,
+  min,
+  if◌then◌else◌,
+  List,
+  [],
+  ◌∷◌,
+  ◌++◌,
+  length,
+  take,
+  slice_index,
+  slice_index_or,
+}
 use Rattle.std.specs.List.{list_any, range_with_len}
 use Rattle.f11_findings.specs.Finding.{finding, gather, if_so}
 use Rattle.f11_findings.specs.declared.finding.Finding.{Finding}
@@ -7,7 +29,18 @@ use Rattle.rt11_volume.specs.Directory.{are_extra_wrong}
 use Rattle.rt11_volume.specs.Entry.{status, name_words, is_end, is_one_kind, is_tentative, is_permanent, is_file_named}
 use Rattle.rt11_volume.specs.InHand.{visit_at}
 use Rattle.rt11_volume.specs.RtName.{is_rt_name}
-use Rattle.rt11_volume.specs.Segment.{Segment, segment_with, segment_count, next_segment, highest_segment, extra_bytes, entry_place, entry_room, area_start, areas_end}
+use Rattle.rt11_volume.specs.Segment.{
+  Segment,
+  segment_with,
+  segment_count,
+  next_segment,
+  highest_segment,
+  extra_bytes,
+  entry_place,
+  entry_room,
+  area_start,
+  areas_end,
+}
 use Rattle.rt11_volume.specs.declared.directory.Visited.{Visited}
 
 -- the segment visited at a place
@@ -25,12 +58,14 @@ end_ahead vs (suc j) = areas_end (segment_at vs j)
 
 -- whether an end mark stands in a segment
 unfoldable pub has_end : ℕ → List ℕ → Bool
-has_end extra s = list_any (λ i. nat_lt (entry_place extra i) 512 && is_end (slice_index s (entry_place extra i))) (range_with_len 0 (entry_room extra + 1))
+has_end extra s = list_any (λ i. nat_lt (entry_place extra i) 512 && is_end (slice_index s (entry_place extra i)))
+    (range_with_len 0 (entry_room extra + 1))
 
 -- the faults of an entry, on a device of so many blocks
 unfoldable pub entry_faults : ℕ → Segment → ℕ → List Finding
 entry_faults blocks seg i =
-    if_so (not (is_one_kind (status (entry_of seg i)))) (finding 6 seg.number i) ++ if_so (nat_lt (min blocks 65535) (area_start seg (i + 1))) (finding 7 seg.number i)
+    if_so (not (is_one_kind (status (entry_of seg i)))) (finding 6 seg.number i) ++
+    if_so (nat_lt (min blocks 65535) (area_start seg (i + 1))) (finding 7 seg.number i)
 
 -- whether the segment at a place links to one that there isn't, and whether it links back
 abbrev pub links_outside : List Visited → ℕ → Bool
@@ -74,7 +109,8 @@ faults_of blocks vs = gather (visit_faults blocks vs) (length vs) ++ if_so (is_h
 -- whether a file before entry i of the segment at a place has a name: in a segment before, or before it in the same one
 unfoldable pub has_name_before : List Visited → ℕ → ℕ → List ℕ → Bool
 has_name_before vs j i name =
-    list_any (λ l. list_any (is_file_named name) (segment_at vs l).entries) (range_with_len 0 j) || list_any (is_file_named name) (take i (segment_at vs j).entries)
+    list_any (λ l. list_any (is_file_named name) (segment_at vs l).entries) (range_with_len 0 j) || list_any
+    (is_file_named name) (take i (segment_at vs j).entries)
 
 -- the notes of an entry
 unfoldable pub entry_notes : List Visited → ℕ → ℕ → List Finding
@@ -82,7 +118,8 @@ entry_notes vs j i =
     let e = entry_of (segment_at vs j) i in
     let k = (visit_at vs j).number in
     if_so (is_tentative e) (finding 1 k i)
-    ++ (if_so (is_permanent e && not (is_rt_name (name_words e))) (finding 2 k i) ++ if_so (is_permanent e && has_name_before vs j i (name_words e)) (finding 3 k i))
+    ++ (if_so (is_permanent e && not (is_rt_name (name_words e))) (finding 2 k i) ++
+    if_so (is_permanent e && has_name_before vs j i (name_words e)) (finding 3 k i))
 
 -- the notes of the segment at a place, where its extra bytes are right
 unfoldable pub visit_notes : List Visited → ℕ → List Finding

@@ -29,8 +29,10 @@ pub data IsDirectoryNote (image : Image) : ℕ → ℕ → ℕ → Type 0 where
   -- entry i of segment k is tentative
   tentative : (place k i : ℕ) (entry : List ℕ) → IsEntry image place k i entry → is_tentative entry ≡ true → IsDirectoryNote image 1 k i
   -- it is that of a file without a name
-  no_name : (place k i : ℕ) (entry : List ℕ) → IsFileEntry image place k i entry → ¬ IsRtName (name_words entry) → IsDirectoryNote image 2 k i
+  no_name : (place k i : ℕ) (entry : List ℕ) → IsFileEntry image place k i entry → ¬ IsRtName (name_words entry) →
+      IsDirectoryNote image 2 k i
   -- it repeats a name
-  name_repeated : (place k i : ℕ) (entry : List ℕ) → IsFileEntry image place k i entry → RepeatsName image place i entry → IsDirectoryNote image 3 k i
+  name_repeated : (place k i : ℕ) (entry : List ℕ) → IsFileEntry image place k i entry →
+      RepeatsName image place i entry → IsDirectoryNote image 3 k i
   -- the areas of segment k begin behind the end of those before, with a gap
   begins_late : (place k : ℕ) → IsJudged image place k → end_before image place < (segment_of image k).first → IsDirectoryNote image 4 k 0

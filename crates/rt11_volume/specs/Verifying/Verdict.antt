@@ -1,5 +1,6 @@
 -- What the verifier of RT-11 volumes finds, and when an image is accepted (profile).
-use Rattle.std.specs.Prelude.{ℕ}
+use Rattle.std.specs.Prelude.{ℕ, IsTrue}
+use Rattle.f11_dev.specs.Disk.{Disk}
 use Rattle.f11_dev.specs.Image.{Image}
 use Rattle.rt11_volume.specs.Directory.{IsSized}
 use Rattle.rt11_volume.specs.Verifying.Faults.{IsDirectoryFault}
@@ -18,3 +19,8 @@ pub record IsRtNote (image : Image) (code a b : ℕ) : Type 0 where
 -- an image is accepted where it has no fault
 abbrev pub IsRtAccepted : Image → Type 0
 IsRtAccepted image = (code a b : ℕ) → ¬ IsRtFault image code a b
+
+-- The disk is honest, and its image is accepted.
+pub record IsSoundDisk (disk : Disk) : Type 0 where
+  pub honest : IsTrue disk.honest
+  pub accepted : IsRtAccepted disk.image

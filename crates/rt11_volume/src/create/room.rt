@@ -21,8 +21,7 @@ fn keep_first(area: Option<Found>, number: u16, segment: Segment, wanted: &Wante
     Some(Found { number, i, segment })
 }
 
-/// Looks for the first empty area of at least so many blocks, and whether there is a file of the name. Each block of the directory
-/// is read once at most.
+/// Looks for the first empty area of at least so many blocks, and whether there is a file of the name, by at most 62 reads.
 fn survey<D: Device>(
     device: &mut D,
     name: [u16; 3],

@@ -68,7 +68,7 @@ pub(crate) fn visit<D: Device>(device: &mut D, number: u16) -> Result<Option<Seg
     Ok(Some(Segment::read(device, number)?))
 }
 
-/// Looks for the first entry, in link order, that is wanted. Each block of the directory is read once at most.
+/// Looks for the first entry, in link order, that is wanted, by at most 62 reads.
 ///
 /// # Errors
 ///

@@ -2,9 +2,10 @@
 ghost use Rattle.std.specs.Prelude.{◌≡◌, ◌⊎◌, ◌+◌, ◌<◌, ◌≤◌, ◌^◌, IfOk, IfErr, IfSome, IsNone, IsErrOf, length};
 ghost use Rattle.f11_dev.specs.Looked.{Looked};
 ghost use Rattle.rt11_volume.specs.Entry.{area_length};
-ghost use Rattle.rt11_volume.specs.Files.{faults_in, FailsToFind, FailsToReach, IsBlockAt, IsFileAt};
+ghost use Rattle.rt11_volume.specs.Files.{faults_in, FailsToFindFile, FailsToReach, IsBlockAt, IsFileAt};
 ghost use Rattle.rt11_volume.specs.InHand.{SaysEntry};
-ghost use Rattle.rt11_volume.specs.Searching.Looking.{found_segment, found_entry, IsPlaceOf, IsSoundDisk, FindsFirst};
+ghost use Rattle.rt11_volume.specs.Searching.Looking.{found_segment, found_entry, IsPlaceOf, FindsFirst};
+ghost use Rattle.rt11_volume.specs.Verifying.Verdict.{IsSoundDisk};
 ghost use Rattle.rt11_volume.specs.Segment.{area_start};
 ghost use Rattle.rt11_volume.specs.Store.{rt_store_of};
 
@@ -37,7 +38,7 @@ pub(crate) fn find_file<D: Device>(device: &mut D, name: [u16; 3]) -> Result<Fou
     ensures looked { Looked (D.disk device.old) (D.disk device.new) 62 (faults_in result) }
     ensures found { IfOk result (λ found.
         FindsFirst (Wanted.File name) found (D.disk device.old) (D.disk device.new)) }
-    ensures refused { IfErr result (λ refusal. FailsToFind refusal name (D.disk device.old)) }
+    ensures refused { IfErr result (λ refusal. FailsToFindFile refusal name (D.disk device.old)) }
     ensures judged { ¬ IsErrOf result RtRefusal.Failed }
 {
     find_first(device, &Wanted::File(name))?.ok_or(RtRefusal::NoSuchFile)
@@ -48,7 +49,7 @@ pub(crate) fn locate<D: Device>(device: &mut D, name: [u16; 3]) -> Result<(u16, 
     ensures looked { Looked (D.disk device.old) (D.disk device.new) 62 (faults_in result) }
     ensures found { IfOk result (λ at. IsSoundDisk (D.disk device.old)
         → IsFileAt name (rt_store_of (D.disk device.old).image) at.0 at.1) }
-    ensures refused { IfErr result (λ refusal. FailsToFind refusal name (D.disk device.old)) }
+    ensures refused { IfErr result (λ refusal. FailsToFindFile refusal name (D.disk device.old)) }
     ensures judged { ¬ IsErrOf result RtRefusal.Failed }
 {
     let found = find_file(device, name)?;

@@ -1,7 +1,7 @@
 //! The faults of the segments that were visited.
 ghost use Rattle.std.specs.Prelude.{◌≡◌, ◌<◌, ◌≤◌, ◌^◌, nat_lt, [], length, OnOk, IfOk};
 ghost use Rattle.std.specs.List.{list_any, range_with_len};
-ghost use Rattle.f11_findings.specs.Finding.{Adds, gather, if_so, finding};
+ghost use Rattle.f11_findings.specs.Finding.{AddsFindings, gather, if_so, finding};
 ghost use Rattle.rt11_volume.specs.Verifying.Judging.{end_ahead, entry_faults, links_back, link_faults, area_faults, is_wrong_at, visit_faults, is_highest_wrong, faults_of};
 ghost use Rattle.rt11_volume.specs.Segment.{segment_with, entries, extra_bytes};
 
@@ -34,7 +34,7 @@ fn add_entry_faults(
     segment: &Segment,
     blocks: u32,
 ) -> Result<(), NoMemory>
-    ensures { OnOk result (Adds faults.old faults.new
+    ensures { OnOk result (AddsFindings faults.old faults.new
         (gather (entry_faults blocks (segment_with number segment.now))
         (length (entries (extra_bytes segment.now) segment.now)))) }
 {
@@ -52,7 +52,7 @@ fn add_entry_faults(
 /// Adds the faults of the link of the segment at place `j`.
 fn add_link_faults(faults: &mut Findings, visited: &[Visited], j: usize) -> Result<(), NoMemory>
     requires { j < length visited.now }
-    ensures { OnOk result (Adds faults.old faults.new (link_faults visited.now j)) }
+    ensures { OnOk result (AddsFindings faults.old faults.new (link_faults visited.now j)) }
 {
     let here = visit_at(visited, j);
     let next = here.segment.next();
@@ -73,7 +73,7 @@ fn add_area_faults(
 ) -> Result<(), NoMemory>
     requires inside { j < length visited.now }
     requires ahead { ahead ≡ end_ahead visited.now j }
-    ensures { OnOk result (Adds faults.old faults.new (area_faults blocks visited.now j)) }
+    ensures { OnOk result (AddsFindings faults.old faults.new (area_faults blocks visited.now j)) }
 {
     let here = visit_at(visited, j);
     faults.add_if(!here.segment.has_end(), finding(5, here.number, 0))?;
@@ -114,7 +114,7 @@ fn add_visit_faults(
     blocks: u32,
 ) -> Result<(), NoMemory>
     requires { j < length visited.now }
-    ensures { OnOk result (Adds faults.old faults.new (visit_faults blocks visited.now j)) }
+    ensures { OnOk result (AddsFindings faults.old faults.new (visit_faults blocks visited.now j)) }
 {
     if is_wrong_at(visited, j) {
         faults.add(finding(4, visit_at(visited, j).number, 0))?;
@@ -162,7 +162,7 @@ pub(crate) fn find_faults(
     blocks: u32,
 ) -> Result<Findings, NoMemory>
     requires { 0 < length visited.now }
-    ensures { IfOk result (λ faults. Adds [] faults (faults_of blocks visited.now)) }
+    ensures { IfOk result (λ faults. AddsFindings [] faults (faults_of blocks visited.now)) }
 {
     let mut faults = Findings::new(alloc);
     for j in 0..visited.len() {

@@ -1,7 +1,7 @@
 //! What is noted of the segments that were visited.
 ghost use Rattle.std.specs.Prelude.{◌≡◌, ◌<◌, ◌≤◌, ◌&&◌, not, [], length, take, OnOk, IfOk};
 ghost use Rattle.std.specs.List.{list_any};
-ghost use Rattle.f11_findings.specs.Finding.{Adds, gather};
+ghost use Rattle.f11_findings.specs.Finding.{AddsFindings, gather};
 ghost use Rattle.rt11_volume.specs.Entry.{is_file_named, is_one_kind, has_bit};
 ghost use Rattle.rt11_volume.specs.RtName.{is_rt_name};
 ghost use Rattle.rt11_volume.specs.Verifying.Judging.{segment_at, has_name_before, entry_notes, visit_notes, notes_of};
@@ -72,7 +72,7 @@ fn add_entry_notes(
 ) -> Result<(), NoMemory>
     requires place { j < length visited.now }
     requires entry { i < length (segment_at visited.now j).entries }
-    ensures { OnOk result (Adds notes.old notes.new (entry_notes visited.now j i)) }
+    ensures { OnOk result (AddsFindings notes.old notes.new (entry_notes visited.now j i)) }
 {
     let here = visit_at(visited, j);
     let entry = here.segment.entry(i);
@@ -86,7 +86,7 @@ fn add_entry_notes(
 /// Adds the notes of the entries of the segment at place `j`.
 fn add_notes_of_entries(notes: &mut Findings, visited: &[Visited], j: usize) -> Result<(), NoMemory>
     requires { j < length visited.now }
-    ensures { OnOk result (Adds notes.old notes.new
+    ensures { OnOk result (AddsFindings notes.old notes.new
         (gather (entry_notes visited.now j) (length (segment_at visited.now j).entries))) }
 {
     let count = visit_at(visited, j).segment.entry_count();
@@ -99,7 +99,7 @@ fn add_notes_of_entries(notes: &mut Findings, visited: &[Visited], j: usize) -> 
 /// Adds the notes of the segment at place `j`.
 fn add_visit_notes(notes: &mut Findings, visited: &[Visited], j: usize) -> Result<(), NoMemory>
     requires { j < length visited.now }
-    ensures { OnOk result (Adds notes.old notes.new (visit_notes visited.now j)) }
+    ensures { OnOk result (AddsFindings notes.old notes.new (visit_notes visited.now j)) }
 {
     if is_wrong_at(visited, j) {
         return Ok(());
@@ -113,7 +113,7 @@ fn add_visit_notes(notes: &mut Findings, visited: &[Visited], j: usize) -> Resul
 
 /// All notes of the segments that were visited.
 pub(crate) fn find_notes(alloc: Global, visited: &[Visited]) -> Result<Findings, NoMemory>
-    ensures { IfOk result (λ notes. Adds [] notes (notes_of visited.now)) }
+    ensures { IfOk result (λ notes. AddsFindings [] notes (notes_of visited.now)) }
 {
     let mut notes = Findings::new(alloc);
     for j in 0..visited.len() {

@@ -1,6 +1,6 @@
 //! The verifier: what is wrong with an RT-11 volume, and what is worth a note.
 ghost use Rattle.std.specs.Prelude.{◌≡◌, ◌↔◌, ◌≤◌, ◌<◌, [], ◌∷◌, IsTrue, IfOk, IfErr};
-ghost use Rattle.f11_findings.specs.Finding.{Adds, finding};
+ghost use Rattle.f11_findings.specs.Finding.{AddsFindings, finding};
 ghost use Rattle.rt11_volume.specs.Calls.{FindsAll, FailsToLook, Reports, FailsToReport};
 ghost use Rattle.rt11_volume.specs.Directory.{HasSize};
 ghost use Rattle.rt11_volume.specs.Segment.{segment_count};
@@ -50,14 +50,14 @@ fn is_sized(first: &Segment, blocks: u32) -> bool
 /// The fault that the directory's size is wrong, alone.
 fn wrong_size(alloc: Global) -> Result<(Faults, Notes), NoMemory>
     ensures { IfOk result (λ lists.
-        Adds [] lists.0 (finding 1 0 0 ∷ []) × (lists.1 ≡ [])) }
+        AddsFindings [] lists.0 (finding 1 0 0 ∷ []) × (lists.1 ≡ [])) }
 {
     let mut faults = Findings::new(alloc);
     faults.add(finding(1, 0, 0))?;
     Ok((faults, Findings::new(alloc)))
 }
 
-/// All faults and notes of the volume on a device. Each block of the directory is read once at most.
+/// All faults and notes of the volume on a device, from at most 62 reads.
 fn look<D: Device>(alloc: Global, device: &mut D) -> Result<(Faults, Notes), LookFault>
     ensures found { IfOk result (λ lists.
         FindsAll lists.0 lists.1 (D.disk device.old) (D.disk device.new)) }

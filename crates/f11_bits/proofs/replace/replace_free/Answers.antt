@@ -2,7 +2,6 @@ use Rattle.std.proofs.Common.{ap, ◌∙◌, sym, arith}
 use Rattle.f11_bytes.specs.Bits.{bit}
 use Rattle.f11_bytes.proofs.ResultLemmas.{OnErr-given}
 use Rattle.f11_dev.proofs.LookedLemmas.{looked_read}
-use Rattle.f11_bits.specs.Bitmap.{Bitmap}
 use Rattle.f11_bits.proofs.ReplaceLemmas.{replaced-kept, replaced-written, replaced-failed}
 use Rattle.f11_bits.proofs.replace.replace_free.Goals as goal
 

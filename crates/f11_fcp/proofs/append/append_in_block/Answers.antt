@@ -4,7 +4,7 @@ use Rattle.f11_image_store.specs.StoreOf.{store_of}
 use Rattle.f11_home.specs.Home.{HomeFields}
 use Rattle.f11_store.specs.Directory.{record_bytes}
 use Rattle.f11_fcp.specs.Entries.{IsTailOf}
-use Rattle.f11_fcp.proofs.AppendLemmas.{appends-at-home, breaks-at-home, end-appended, end-not-appended, end-tail, end-unread, grave-alone}
+use Rattle.f11_fcp.proofs.AppendLemmas.{appends-at-home, breaks-at-home, end-appended, end-not-appended, end-tail, end-unread, fatal-alone}
 use Rattle.f11_fcp.proofs.append.append_in_block.Goals as goal
 
 pub returns-in-Err-clause-refused : goal.returns-in-Err-clause-refused
@@ -32,5 +32,5 @@ returns-in-Err-append_entry-clause-refused g c =
     t.result c.in-Ok.block t.ensures.number t.ensures.place t.ensures.block t.ensures.attr t.ensures.length c.in-Ok.ensures.block
     (breaks-at-home c.args.directory t.result (record_bytes c.args.file c.args.name.now) (disk_in c.end_block.new.files) c.in-Ok.ensures.home c.in-Err-append_entry.ensures.refused)
 
-pub returns-in-Err-clause-grave : goal.returns-in-Err-clause-grave
-returns-in-Err-clause-grave g c = grave-alone c.in-Err.refusal c.in-Err.ensures.refused.right
+pub returns-in-Err-clause-fatal : goal.returns-in-Err-clause-fatal
+returns-in-Err-clause-fatal g c = fatal-alone c.in-Err.refusal c.in-Err.ensures.refused.right

@@ -1,8 +1,8 @@
-use Rattle.f11_image_store.proofs.InstanceLemmas.{loose-written, file-killed, file-rewritten}
+use Rattle.f11_image_store.proofs.InstanceLemmas.{fileless-written, file-killed, file-rewritten}
 use Rattle.f11_image_store.proofs.laws.header_writes.Goals as goal
 
-pub returns-clause-loose : goal.returns-clause-loose
-returns-clause-loose c = loose-written
+pub returns-clause-fileless : goal.returns-clause-fileless
+returns-clause-fileless c = fileless-written
 
 pub returns-clause-killed : goal.returns-clause-killed
 returns-clause-killed c = file-killed

@@ -1,4 +1,4 @@
-use Rattle.f11_image_store.proofs.InstanceLemmas.{unused-given, file-entered, loose-set}
+use Rattle.f11_image_store.proofs.InstanceLemmas.{unused-given, file-entered, fileless-set}
 use Rattle.f11_image_store.proofs.SlotLemmas.{slot-stored}
 use Rattle.f11_image_store.proofs.laws.slot_writes.Goals as goal
 
@@ -12,4 +12,4 @@ pub returns-clause-entered : goal.returns-clause-entered
 returns-clause-entered c = file-entered
 
 pub returns-clause-set : goal.returns-clause-set
-returns-clause-set c = loose-set
+returns-clause-set c = fileless-set

@@ -1,8 +1,8 @@
 use Rattle.std.proofs.Common.{◌∙◌, ap, codes, List, Option, None, slice_index_or}
 use Rattle.clap.specs.Words.{Text, found_of}
 use Rattle.f11_pip.specs.Commands.{init_names, rt_init_names}
-use Rattle.clap.proofs.WalkLemmas.{first_value-rows}
-use Rattle.f11_pip.proofs.WordsLemmas.{first_of-met, words_met}
+use Rattle.clap.proofs.WalkLemmas.{first_value-rows, one_text-rows}
+use Rattle.f11_pip.proofs.WordsLemmas.{first_of-met, one_of-met, words_met}
 use Rattle.f11_pip.proofs.words.command_of.Goals as goal
 
 pub returns-in-Some-home-default-clause-home : goal.returns-in-Some-home-default-clause-home
@@ -38,9 +38,11 @@ returns-in-Some-run-default-clause-run c image script met =
     )
 
 pub returns-in-Some-vfy-default-clause-vfy : goal.returns-in-Some-vfy-default-clause-vfy
-returns-in-Some-vfy-default-clause-vfy c image met =
-    c.vfy_of.ensures.vfy image (first_value-rows (found_of c.in-Some-vfy-default.given.now) (codes "image")
-    ∙ first_of-met _ _ _ _ image c.in-Some-vfy-default.ensures.rows met)
+returns-in-Some-vfy-default-clause-vfy c update image met =
+    c.vfy_of.ensures.vfy update image (
+      first_value-rows (found_of c.in-Some-vfy-default.given.now) (codes "image") ∙ first_of-met _ _ _ _ image c.in-Some-vfy-default.ensures.rows met.0,
+      one_text-rows (found_of c.in-Some-vfy-default.given.now) (codes "update") ∙ one_of-met _ _ _ _ _ c.in-Some-vfy-default.ensures.rows met.1,
+    )
 
 pub returns-in-Some-text-default-2-clause-rt_list : goal.returns-in-Some-text-default-2-clause-rt_list
 returns-in-Some-text-default-2-clause-rt_list c image met =

@@ -1,9 +1,9 @@
-use Rattle.std.proofs.Common.{[], arith, ◌∙◌, ap, ap₂, codes, map}
+use Rattle.std.proofs.Common.{[], arith, ◌∙◌, ap, ap₂, codes, false, map, true}
 use Rattle.clap.specs.Words.{is_simple, subcommand_of, takes}
-use Rattle.f11_pip.specs.Commands.{command_and_word, command_and_words, rt_init_names}
-use Rattle.f11_pip.specs.Words.{Asks, IsUnreadable, dump_line, home_line, name_line, rights_line, rt_init_line, rt_list_line, rt_vfy_line, run_line, vfy_line}
+use Rattle.f11_pip.specs.Commands.{command_and_flag, command_and_word, command_and_words, rt_init_names}
+use Rattle.f11_pip.specs.Words.{Asks, IsUnreadable, dump_line, home_line, name_line, rights_line, rt_init_line, rt_list_line, rt_vfy_line, run_line, update_line, vfy_line}
 use Rattle.f11_pip.proofs.LineLemmas.{takes-line, subcommand_of-rt_init}
-use Rattle.f11_pip.proofs.WordsLemmas.{failure_out_of_memory, match_ok, no_memory_or_none, none_or_no_memory, subcommand_of-rt_list, subcommand_of-rt_vfy, subcommand_of-run, subcommand_of-vfy, subcommand_of-dump, subcommand_of-home, subcommand_of-name, subcommand_of-rights, subcommand_of-none, is_simple-program}
+use Rattle.f11_pip.proofs.WordsLemmas.{failure_out_of_memory, match_ok, no_memory_or_none, none_or_no_memory, subcommand_of-rt_list, subcommand_of-rt_vfy, subcommand_of-run, subcommand_of-update, subcommand_of-vfy, subcommand_of-dump, subcommand_of-home, subcommand_of-name, subcommand_of-rights, subcommand_of-none, is_simple-program}
 use Rattle.f11_pip.proofs.words.parse.Goals as goal
 
 pub returns-in_err-matches-clause-asks : goal.returns-in_err-matches-clause-asks
@@ -37,7 +37,14 @@ returns-clause-asks g c (vfy_line word) line =
     let simple = ap is_simple c.in_ok-program.ensures ∙ is_simple-program in
     let met = (c.in_ok-matches.ensures.matches simple).1 ∙ ap₂ subcommand_of c.in_ok-program.ensures line.is_line in
     none_or_no_memory (Asks (vfy_line word)) (IsUnreadable (vfy_line word)) c.command_of.result
-    (match_ok _ _ c.command_of.result (c.command_of.ensures.vfy word (ap (command_and_word (codes "image")) met ∙ subcommand_of-vfy line.program word (line.plain 0 [] (omega arith)))))
+    (let these = subcommand_of-vfy line.program word (line.plain 0 [] (omega arith)) in
+    match_ok _ _ c.command_of.result (c.command_of.ensures.vfy false word (ap (command_and_word (codes "image")) met ∙ these.0, ap (command_and_flag (codes "update")) met ∙ these.1)))
+returns-clause-asks g c (update_line word) line =
+    let simple = ap is_simple c.in_ok-program.ensures ∙ is_simple-program in
+    let met = (c.in_ok-matches.ensures.matches simple).1 ∙ ap₂ subcommand_of c.in_ok-program.ensures line.is_line in
+    none_or_no_memory (Asks (update_line word)) (IsUnreadable (update_line word)) c.command_of.result
+    (let these = subcommand_of-update line.program word (line.plain 0 [] (omega arith)) in
+    match_ok _ _ c.command_of.result (c.command_of.ensures.vfy true word (ap (command_and_word (codes "image")) met ∙ these.0, ap (command_and_flag (codes "update")) met ∙ these.1)))
 returns-clause-asks g c (dump_line image number) line =
     let simple = ap is_simple c.in_ok-program.ensures ∙ is_simple-program in
     let met = (c.in_ok-matches.ensures.matches simple).1 ∙ ap₂ subcommand_of c.in_ok-program.ensures line.is_line in

@@ -1,5 +1,5 @@
 use Rattle.std.proofs.Common.{◌≡◌, ◌∙◌, IfSome, Some, subst, sym}
-use Rattle.f11_pip.specs.Octal.{SpellsUic}
+use Rattle.f11_numbers.specs.Octal.{SpellsUic}
 use Rattle.f11_pip.proofs.WordsLemmas.{uic_or_none}
 use Rattle.f11_pip.proofs.words.uic_of.Goals as goal
 

@@ -2,7 +2,8 @@ use Rattle.std.proofs.Common.{◌≡◌, ◌∙◌, ◌+◌, length, ap, sym, su
 use Rattle.f11_dev.specs.Image.{Image}
 use Rattle.f11_dev.proofs.LookedLemmas.{looked_none, looked_more, looked_within}
 use Rattle.rt11_volume.specs.InHand.{ReadsSegment}
-use Rattle.rt11_volume.specs.Searching.Looking.{Visits, IsSoundDisk, IsOnDevice}
+use Rattle.rt11_volume.specs.Searching.Looking.{Visits, IsOnDevice}
+use Rattle.rt11_volume.specs.Verifying.Verdict.{IsSoundDisk}
 use Rattle.rt11_volume.specs.Segment.{segment_words}
 use Rattle.rt11_volume.proofs.Verifying.Sound.{sound_from}
 use Rattle.rt11_volume.proofs.Walking.Walk.{IsNext, IsNext-first, visited-few}

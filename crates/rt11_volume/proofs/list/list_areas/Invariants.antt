@@ -2,7 +2,8 @@ use Rattle.std.proofs.Common.{◌≡◌, ◌*◌, take}
 use Rattle.std.specs.List.{flat_map}
 use Rattle.f11_dev.specs.Looked.{Looked}
 use Rattle.rt11_volume.specs.Listing.{shown_segment}
-use Rattle.rt11_volume.specs.Searching.Looking.{IsSoundDisk, segments_of}
+use Rattle.rt11_volume.specs.Searching.Looking.{segments_of}
+use Rattle.rt11_volume.specs.Verifying.Verdict.{IsSoundDisk}
 use Rattle.rt11_volume.proofs.Walking.Walk.{IsNext}
 use Rattle.rt11_volume.proofs.list.list_areas.Given as goal
 

@@ -1,5 +1,5 @@
 use Rattle.std.proofs.Common.{[], ◌∙◌, ◌||◌, false, ap, refl}
-use Rattle.f11_files.specs.Answers.{is_grave}
+use Rattle.f11_files.specs.Answers.{is_fatal}
 use Rattle.f11_fcp.proofs.OpenLemmas.{stays-open}
 use Rattle.f11_fcp.specs.Handles.{state_of}
 use Rattle.f11_fcp.specs.Places.{table_of}
@@ -24,4 +24,4 @@ returns-in-Err-clause-handles g c =
 pub returns-in-Err-clause-open : goal.returns-in-Err-clause-open
 returns-in-Err-clause-open g c =
     stays-open (table_of c.args.self.now) c.args.files.now c.create.new.self c.args.task c.args.caller _ _ [] [] c.requires.open (λ _. tt) (returns-in-Err-clause-handles g c)
-    (λ light. c.in-Err.ensures.answers.next ∙ ap (λ b. b || is_grave c.in-Err.refusal) c.requires.open.alive ∙ light)
+    (λ clean. c.in-Err.ensures.answers.next ∙ ap (λ b. b || is_fatal c.in-Err.refusal) c.requires.open.alive ∙ clean)

@@ -3,7 +3,7 @@ use Rattle.f11_dev.specs.Image.{Image}
 use Rattle.f11_home.specs.Home.{HomeFields}
 use Rattle.f11_store.specs.Changes.{with_marked_file}
 use Rattle.f11_store.specs.Store.{Store}
-use Rattle.f11_files.specs.Answers.{is_grave}
+use Rattle.f11_files.specs.Answers.{is_fatal}
 use Rattle.f11_files.specs.Open.{store_in, disk_in, home_in}
 use Rattle.f11_image_store.specs.StoreOf.{store_of}
 use Rattle.f11_fcp.specs.Accesses.{Table, HasAccessed, with_marks}
@@ -29,7 +29,7 @@ returns-in-Err-clause-handles g c =
 pub returns-in-Err-clause-open : goal.returns-in-Err-clause-open
 returns-in-Err-clause-open g c =
     stays-open (table_of c.args.self.now) c.args.files.now c.read_attr.new.self c.args.task c.args.caller _ _ [] [] c.requires.open (λ _. tt) (returns-in-Err-clause-handles g c)
-    (λ light. c.in-Err.ensures.answers.next ∙ ap (λ b. b || is_grave c.in-Err.refusal) c.requires.open.alive ∙ light)
+    (λ clean. c.in-Err.ensures.answers.next ∙ ap (λ b. b || is_fatal c.in-Err.refusal) c.requires.open.alive ∙ clean)
 
 pub returns-then-is_going-clause-handles : goal.returns-then-is_going-clause-handles
 returns-then-is_going-clause-handles g c =
@@ -66,7 +66,7 @@ returns-in-Err-delete-clause-handles g c =
 pub returns-in-Err-delete-clause-open : goal.returns-in-Err-delete-clause-open
 returns-in-Err-delete-clause-open g c =
     stays-open (table_of c.args.self.now) c.args.files.now c.delete.new.self c.args.task c.args.caller _ _ [] [] c.requires.open (λ _. tt) (returns-in-Err-delete-clause-handles g c)
-    (λ light. c.in-Err-delete.ensures.answers.next ∙ ap (λ b. b || is_grave c.in-Err-delete.refusal) (c.in-Ok.ensures.answers.next ∙ ap (λ b. b || false) c.requires.open.alive) ∙ light)
+    (λ clean. c.in-Err-delete.ensures.answers.next ∙ ap (λ b. b || is_fatal c.in-Err-delete.refusal) (c.in-Ok.ensures.answers.next ∙ ap (λ b. b || false) c.requires.open.alive) ∙ clean)
 
 pub returns-in-Ok-mark-clause-handles : goal.returns-in-Ok-mark-clause-handles
 returns-in-Ok-mark-clause-handles g c =
@@ -94,4 +94,4 @@ returns-in-Err-mark-clause-handles g c =
 pub returns-in-Err-mark-clause-open : goal.returns-in-Err-mark-clause-open
 returns-in-Err-mark-clause-open g c =
     stays-open (table_of c.args.self.now) c.args.files.now c.mark.new.self c.args.task c.args.caller _ _ [] [] c.requires.open (λ _. tt) (returns-in-Err-mark-clause-handles g c)
-    (λ light. c.in-Err-mark.ensures.answers.next ∙ ap (λ b. b || is_grave c.in-Err-mark.refusal) (c.in-Ok.ensures.answers.next ∙ ap (λ b. b || false) c.requires.open.alive) ∙ light)
+    (λ clean. c.in-Err-mark.ensures.answers.next ∙ ap (λ b. b || is_fatal c.in-Err-mark.refusal) (c.in-Ok.ensures.answers.next ∙ ap (λ b. b || false) c.requires.open.alive) ∙ clean)

@@ -1,12 +1,12 @@
 use Rattle.std.proofs.Common.{[], ◌∙◌, ◌||◌, false, ap, sym, refl}
 use Rattle.std.proofs.lemmas.Bool.{ne_eqb}
-use Rattle.f11_files.specs.Answers.{is_grave}
+use Rattle.f11_files.specs.Answers.{is_fatal}
 use Rattle.f11_files.specs.Open.{store_in}
 use Rattle.f11_fcp.specs.Handles.{state_of}
 use Rattle.f11_fcp.specs.Places.{table_of, entry_of}
 use Rattle.f11_fcp.proofs.OpenLemmas.{stays-open}
 use Rattle.f11_store.specs.declared.requests.Request.TheVariants as request
-use Rattle.f11_fcp.proofs.AccessedLemmas.{extend-zero, extend-none, extend-unprivileged, extended, not-extended, accessed-unread, of-accessed-light, there-held, least}
+use Rattle.f11_fcp.proofs.AccessedLemmas.{extend-zero, extend-none, extend-unprivileged, extended, not-extended, accessed-unread, of-accessed-clean, there-held, least}
 use Rattle.f11_fcp.proofs.table.Accesses.extend.Goals as goal
 
 pub returns-then-n-eq0-clause-handles : goal.returns-then-n-eq0-clause-handles
@@ -27,7 +27,7 @@ returns-in-Err-clause-handles g c =
 pub returns-in-Err-clause-open : goal.returns-in-Err-clause-open
 returns-in-Err-clause-open g c =
     stays-open (table_of c.args.self.now) c.args.files.now c.read_attr.new.self c.args.task c.args.caller _ _ [] [] c.requires.open (λ _. tt) (returns-in-Err-clause-handles g c)
-    (λ light. c.in-Err.ensures.answers.next ∙ ap (λ b. b || is_grave c.in-Err.refusal) c.requires.open.alive ∙ of-accessed-light c.in-Err.refusal (ap is_grave (sym c.of_accessed.ensures) ∙ light))
+    (λ clean. c.in-Err.ensures.answers.next ∙ ap (λ b. b || is_fatal c.in-Err.refusal) c.requires.open.alive ∙ of-accessed-clean c.in-Err.refusal (ap is_fatal (sym c.of_accessed.ensures) ∙ clean))
 
 pub returns-then-not-may-clause-handles : goal.returns-then-not-may-clause-handles
 returns-then-not-may-clause-handles g c =
@@ -65,5 +65,5 @@ returns-in-Err-extend-clause-handles g c =
 pub returns-in-Err-extend-clause-open : goal.returns-in-Err-extend-clause-open
 returns-in-Err-extend-clause-open g c =
     stays-open (table_of c.args.self.now) c.args.files.now c.extend.new.self c.args.task c.args.caller _ _ [] [] c.requires.open (λ _. tt) (returns-in-Err-extend-clause-handles g c)
-    (λ light. c.in-Err-extend.ensures.answers.next ∙ ap (λ b. b || is_grave c.in-Err-extend.refusal) (c.in-Ok.ensures.answers.next ∙ ap (λ b. b || false) c.requires.open.alive)
-    ∙ of-accessed-light c.in-Err-extend.refusal (ap is_grave (sym c.of_accessed-in-Err-extend.ensures) ∙ light))
+    (λ clean. c.in-Err-extend.ensures.answers.next ∙ ap (λ b. b || is_fatal c.in-Err-extend.refusal) (c.in-Ok.ensures.answers.next ∙ ap (λ b. b || false) c.requires.open.alive)
+    ∙ of-accessed-clean c.in-Err-extend.refusal (ap is_fatal (sym c.of_accessed-in-Err-extend.ensures) ∙ clean))

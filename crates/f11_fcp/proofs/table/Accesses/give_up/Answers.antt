@@ -2,14 +2,14 @@ use Rattle.std.proofs.Common.{◌≡◌, ◌∙◌, ◌||◌, true, false, inl, 
 use Rattle.std.proofs.lemmas.Bool.{not-true, not-false}
 use Rattle.f11_home.specs.Home.{HomeFields}
 use Rattle.f11_store.specs.declared.refusals.Refusal.{Refusal}
-use Rattle.f11_files.specs.Answers.{is_grave}
+use Rattle.f11_files.specs.Answers.{is_fatal}
 use Rattle.f11_files.specs.Open.{store_in, home_in, disk_in}
 use Rattle.f11_image_store.specs.StoreOf.{store_of}
 use Rattle.f11_fcp.specs.Accesses.{Table, is_held_in, any_mode}
 use Rattle.f11_fcp.specs.Handles.{state_of}
 use Rattle.f11_fcp.specs.Places.{table_of, entry_of}
 use Rattle.f11_fcp.proofs.AccessedLemmas.{mark-held}
-use Rattle.f11_fcp.proofs.DeaccessLemmas.{deaccess-plain, deaccess-deletes, deaccess-fails, deleted-kept, deletion-grave, given-kept}
+use Rattle.f11_fcp.proofs.DeaccessLemmas.{deaccess-plain, deaccess-deletes, deaccess-fails, deleted-kept, deletion-fatal, given-kept}
 use Rattle.f11_fcp.proofs.table.Accesses.give_up.Goals as goal
 
 pub returns-then-not-held-clause-handles : goal.returns-then-not-held-clause-handles
@@ -53,6 +53,6 @@ returns-in-Err-clause-handles g c =
     (sym c.if-is_accessed.false ∙ c.is_accessed.ensures ∙ ap (λ (t : Table). is_held_in any_mode t c.args.held.file) c.set.ensures.value)
     (state_of (table_of c.set.new.self) c.delete.new.self) c.in-Err.refusal c.of_accessed.result c.requires.open.alive c.in-Err.ensures.refused c.in-Err.ensures.answers.home c.of_accessed.ensures
 
-pub returns-in-Err-clause-grave : goal.returns-in-Err-clause-grave
-returns-in-Err-clause-grave g c =
-    subst (λ (e : Refusal). is_grave e ≡ true) (sym c.of_accessed.ensures) (deletion-grave (home_in c.args.files.now) c.args.held.file (disk_in c.args.files.now) (disk_in c.delete.new.self) c.in-Err.refusal c.requires.open.alive c.in-Err.ensures.refused)
+pub returns-in-Err-clause-fatal : goal.returns-in-Err-clause-fatal
+returns-in-Err-clause-fatal g c =
+    subst (λ (e : Refusal). is_fatal e ≡ true) (sym c.of_accessed.ensures) (deletion-fatal (home_in c.args.files.now) c.args.held.file (disk_in c.args.files.now) (disk_in c.delete.new.self) c.in-Err.refusal c.requires.open.alive c.in-Err.ensures.refused)

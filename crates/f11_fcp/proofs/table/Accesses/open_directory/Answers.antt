@@ -1,5 +1,5 @@
 use Rattle.std.proofs.Common.{◌||◌, sym, ◌∙◌, ap}
-use Rattle.f11_files.specs.Answers.{is_grave}
+use Rattle.f11_files.specs.Answers.{is_fatal}
 use Rattle.f11_files.specs.Open.{disk_in, home_in}
 use Rattle.f11_fcp.specs.Places.{table_of}
 use Rattle.f11_fcp.proofs.DirectoryLemmas.{open-system, open-unread, open-marked, open-unprivileged, open-barred, open-other, opened}
@@ -41,4 +41,4 @@ returns-clause-opened g c =
     c.is_directory.result c.if-not-is_directory.false c.is_directory.ensures
 
 pub returns-in-Err-clause-alive : goal.returns-in-Err-clause-alive
-returns-in-Err-clause-alive g c = λ light. c.in-Err.ensures.answers.next ∙ ap (λ b. b || is_grave c.in-Err.refusal) c.requires.alive ∙ light
+returns-in-Err-clause-alive g c = λ clean. c.in-Err.ensures.answers.next ∙ ap (λ b. b || is_fatal c.in-Err.refusal) c.requires.alive ∙ clean

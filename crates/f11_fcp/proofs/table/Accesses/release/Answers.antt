@@ -25,7 +25,7 @@ pub returns-in-Err-clause-handles : goal.returns-in-Err-clause-handles
 returns-in-Err-clause-handles g c =
     let t = table_of c.loop-unit.self in
     released-fails c.args.task c.args.caller (state_of (table_of c.args.self.now) c.args.files.now) (state_of t c.loop-unit.files) c.loop-unit.unit c.loop-unit-test.true c.loop-unit.invariant.so_far
-    (entry_of c.in-Some-held.held) (ap (t c.args.task) (sym c.in-Some.ensures.value) ∙ sym c.in-Some-held.ensures.value) (state_of (table_of c.give_up.new.self) c.give_up.new.files) c.in-Err.refusal c.in-Err.ensures.grave
+    (entry_of c.in-Some-held.held) (ap (t c.args.task) (sym c.in-Some.ensures.value) ∙ sym c.in-Some-held.ensures.value) (state_of (table_of c.give_up.new.self) c.give_up.new.files) c.in-Err.refusal c.in-Err.ensures.fatal
     (subst (λ (k : ℕ). Handles c.args.task c.args.caller (request.Deaccess k) (Err c.in-Err.refusal) (state_of t c.loop-unit.files) [] (state_of (table_of c.give_up.new.self) c.give_up.new.files) []) c.in-Some.ensures.value c.in-Err.ensures.handles)
 
 pub loop-unit-preserved : goal.loop-unit-preserved

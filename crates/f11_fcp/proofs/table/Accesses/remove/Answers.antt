@@ -48,4 +48,4 @@ returns-in-Err-clear_entry-clause-handles g c =
     c.in-Found.spot.within c.in-Err-clear_entry.refusal (state_of t c.clear_entry.new.files) c.in-Err-clear_entry.ensures.refused c.clear_entry.ensures.home
 
 pub returns-in-Err-clear_entry-clause-open : goal.returns-in-Err-clear_entry-clause-open
-returns-in-Err-clear_entry-clause-open g c = λ light. absurd (let grave = c.in-Err-clear_entry.ensures.refused.grave in cc)
+returns-in-Err-clear_entry-clause-open g c = λ clean. absurd (let fatal = c.in-Err-clear_entry.ensures.refused.fatal in cc)

@@ -1,6 +1,6 @@
 use Rattle.std.proofs.Common.{[], false, ◌||◌, refl, sym, ◌∙◌, ap, subst}
 use Rattle.f11_entries.specs.Costs.{look_cost, reading_cost}
-use Rattle.f11_files.specs.Answers.{FailsToRead, is_grave}
+use Rattle.f11_files.specs.Answers.{FailsToRead, is_fatal}
 use Rattle.f11_files.specs.Finding.Length.{CountsBlocks}
 use Rattle.f11_files.specs.Open.{disk_in, has_failed, home_in, store_in}
 use Rattle.f11_files.specs.Operations.{file_causes}
@@ -11,9 +11,9 @@ use Rattle.f11_store.specs.Store.{file_named}
 use Rattle.f11_store.specs.declared.refusals.Refusal.{Refusal}
 use Rattle.f11_fcp.specs.Directories.{IsDirectoryOf, LooksThrough, opening_causes}
 use Rattle.f11_fcp.specs.Places.{table_of}
-use Rattle.f11_fcp.proofs.AppendLemmas.{grave-alone}
+use Rattle.f11_fcp.proofs.AppendLemmas.{fatal-alone}
 use Rattle.f11_fcp.proofs.DirectoryLemmas.{fails-within, first-read, search-directory, search-files, search-uncounted, search-unread, searched}
-use Rattle.f11_fcp.proofs.KnownLemmas.{known-fails, known-file, known-light}
+use Rattle.f11_fcp.proofs.KnownLemmas.{known-fails, known-file, known-clean}
 use Rattle.f11_fcp.proofs.table.Accesses.search.Goals as goal
 
 pub returns-in-Err-clause-refused : goal.returns-in-Err-clause-refused
@@ -69,8 +69,8 @@ returns-in-Err-look_through-clause-refused g c =
     (c.in-Ok-length.ensures.answers.home ∙ c.in-Ok.ensures.home) c.in-Err-look_through.ensures.refused)
 
 pub returns-in-Err-length-clause-alive : goal.returns-in-Err-length-clause-alive
-returns-in-Err-length-clause-alive g c = λ light.
-    c.in-Err-length.ensures.answers.next ∙ ap (λ b. b || is_grave c.in-Err-length.refusal) (c.in-Ok.ensures.alive refl) ∙ known-light c.in-Err-length.refusal (ap is_grave (sym c.of_known.ensures) ∙ light)
+returns-in-Err-length-clause-alive g c = λ clean.
+    c.in-Err-length.ensures.answers.next ∙ ap (λ b. b || is_fatal c.in-Err-length.refusal) (c.in-Ok.ensures.alive refl) ∙ known-clean c.in-Err-length.refusal (ap is_fatal (sym c.of_known.ensures) ∙ clean)
 
 pub returns-in-Err-look_through-clause-alive : goal.returns-in-Err-look_through-clause-alive
-returns-in-Err-look_through-clause-alive g c = λ light. absurd (let grave = grave-alone c.in-Err-look_through.refusal c.in-Err-look_through.ensures.refused.right in cc)
+returns-in-Err-look_through-clause-alive g c = λ clean. absurd (let fatal = fatal-alone c.in-Err-look_through.refusal c.in-Err-look_through.ensures.refused.right in cc)

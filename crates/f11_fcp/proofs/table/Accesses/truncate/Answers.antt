@@ -1,10 +1,10 @@
 use Rattle.std.proofs.Common.{[], ◌∙◌, ◌||◌, false, ap, refl, sym}
-use Rattle.f11_files.specs.Answers.{is_grave}
+use Rattle.f11_files.specs.Answers.{is_fatal}
 use Rattle.f11_files.specs.Open.{store_in}
 use Rattle.f11_fcp.specs.Handles.{state_of}
 use Rattle.f11_fcp.specs.Places.{table_of, entry_of}
 use Rattle.f11_fcp.proofs.OpenLemmas.{stays-open}
-use Rattle.f11_fcp.proofs.AccessedLemmas.{of-accessed-light, there-held}
+use Rattle.f11_fcp.proofs.AccessedLemmas.{of-accessed-clean, there-held}
 use Rattle.f11_fcp.proofs.TruncateLemmas.{truncate-none, cut, not-cut}
 use Rattle.f11_fcp.proofs.table.Accesses.truncate.Goals as goal
 
@@ -29,4 +29,4 @@ returns-in-Err-clause-handles g c =
 pub returns-in-Err-clause-open : goal.returns-in-Err-clause-open
 returns-in-Err-clause-open g c =
     stays-open (table_of c.args.self.now) c.args.files.now c.truncate.new.self c.args.task c.args.caller _ _ [] [] c.requires.open (λ _. tt) (returns-in-Err-clause-handles g c)
-    (λ light. c.in-Err.ensures.answers.next ∙ ap (λ b. b || is_grave c.in-Err.refusal) c.requires.open.alive ∙ of-accessed-light c.in-Err.refusal (ap is_grave (sym c.of_accessed.ensures) ∙ light))
+    (λ clean. c.in-Err.ensures.answers.next ∙ ap (λ b. b || is_fatal c.in-Err.refusal) c.requires.open.alive ∙ of-accessed-clean c.in-Err.refusal (ap is_fatal (sym c.of_accessed.ensures) ∙ clean))

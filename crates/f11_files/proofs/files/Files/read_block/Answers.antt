@@ -10,5 +10,5 @@ invariant_of-self g c =
     let was = files-for c.args.self.now (g.met.D.Device.is_image c.args.self.now.device) c.if-self.false in
     let for = answered c.read_block-answer.result _ _ c.read_block-answer.ensures.read c.read_block-answer.ensures.refused
     (λ _ is. looked-for _ _ _ _ _ was is.reads.looked) (λ _ is. looked-for _ _ _ _ _ was is.reads.looked) in
-    let is = for-opened c.args.self.now.structure c.is_grave-self.result _ (g.met.D.Device.is_image c.read_block-answer.new.device) for in
+    let is = for-opened c.args.self.now.structure c.is_fatal-self.result _ (g.met.D.Device.is_image c.read_block-answer.new.device) for in
     record { lies = is.lies; accepted = is.accepted; home = is.home; keeps = is.keeps }

@@ -10,63 +10,63 @@ use Rattle.f11_files.proofs.structure.Structure.append_run.Goals as goal
 
 pub returns-in-Err-clause-refused : goal.returns-in-Err-clause-refused
 returns-in-Err-clause-refused g c =
-    fails-zeros c.args.self.now c.args.tail.now c.args.lbn c.args.count _ c.requires.is_for c.requires.last c.requires.own c.requires.within c.requires.few.0 c.requires.few.1 c.requires.spare c.requires.may _
+    fails-zeros c.args.self.now c.args.tail.now c.args.lbn c.args.count _ c.requires.is_for c.requires.last c.requires.own c.requires.within c.requires.few.0 c.requires.few.1 c.requires.unreferenced c.requires.may _
     c.in-Err.ensures.failed
 
 pub returns-in-Err-clause-stays : goal.returns-in-Err-clause-stays
 returns-in-Err-clause-stays g c =
-    breaks-stays (sound-moment c.args.self.now c.args.tail.now c.args.lbn c.args.count _ c.requires.is_for c.requires.last c.requires.own c.requires.within c.requires.few.0 c.requires.few.1 c.requires.spare c.requires.may) refl c.requires.is_for
-    (fails-zeros c.args.self.now c.args.tail.now c.args.lbn c.args.count _ c.requires.is_for c.requires.last c.requires.own c.requires.within c.requires.few.0 c.requires.few.1 c.requires.spare c.requires.may _ c.in-Err.ensures.failed)
+    breaks-stays (sound-moment c.args.self.now c.args.tail.now c.args.lbn c.args.count _ c.requires.is_for c.requires.last c.requires.own c.requires.within c.requires.few.0 c.requires.few.1 c.requires.unreferenced c.requires.may) refl c.requires.is_for
+    (fails-zeros c.args.self.now c.args.tail.now c.args.lbn c.args.count _ c.requires.is_for c.requires.last c.requires.own c.requires.within c.requires.few.0 c.requires.few.1 c.requires.unreferenced c.requires.may _ c.in-Err.ensures.failed)
 
 pub name_run-requires-clause-is_for : goal.name_run-requires-clause-is_for
-name_run-requires-clause-is_for g c = mid-for c.args.self.now c.args.tail.now c.args.lbn c.args.count _ _ c.requires.is_for c.requires.last c.requires.within c.requires.few.0 c.requires.few.1 c.requires.spare c.in-Ok.ensures.zeroes
+name_run-requires-clause-is_for g c = mid-for c.args.self.now c.args.tail.now c.args.lbn c.args.count _ _ c.requires.is_for c.requires.last c.requires.within c.requires.few.0 c.requires.few.1 c.requires.unreferenced c.in-Ok.ensures.zeroes
 
 pub name_run-requires-clause-last : goal.name_run-requires-clause-last
-name_run-requires-clause-last g c = mid-last c.args.self.now c.args.tail.now c.args.lbn c.args.count _ _ c.requires.is_for c.requires.last c.requires.within c.requires.few.0 c.requires.few.1 c.requires.spare c.in-Ok.ensures.zeroes
+name_run-requires-clause-last g c = mid-last c.args.self.now c.args.tail.now c.args.lbn c.args.count _ _ c.requires.is_for c.requires.last c.requires.within c.requires.few.0 c.requires.few.1 c.requires.unreferenced c.in-Ok.ensures.zeroes
 
 pub name_run-requires-clause-given : goal.name_run-requires-clause-given
-name_run-requires-clause-given g c = mid-given c.args.self.now c.args.tail.now c.args.lbn c.args.count _ _ c.requires.is_for c.requires.last c.requires.within c.requires.few.0 c.requires.few.1 c.requires.spare c.in-Ok.ensures.zeroes
+name_run-requires-clause-given g c = mid-given c.args.self.now c.args.tail.now c.args.lbn c.args.count _ _ c.requires.is_for c.requires.last c.requires.within c.requires.few.0 c.requires.few.1 c.requires.unreferenced c.in-Ok.ensures.zeroes
 
 pub returns-in-Err-name_run-clause-refused : goal.returns-in-Err-name_run-clause-refused
 returns-in-Err-name_run-clause-refused g c =
-    fails-named c.args.self.now c.args.tail.now c.args.lbn c.args.count _ c.requires.is_for c.requires.last c.requires.own c.requires.within c.requires.few.0 c.requires.few.1 c.requires.spare c.requires.may _ c.in-Ok.ensures.zeroes _ c.in-Err-name_run.ensures.failed
+    fails-named c.args.self.now c.args.tail.now c.args.lbn c.args.count _ c.requires.is_for c.requires.last c.requires.own c.requires.within c.requires.few.0 c.requires.few.1 c.requires.unreferenced c.requires.may _ c.in-Ok.ensures.zeroes _ c.in-Err-name_run.ensures.failed
 
 pub returns-in-Err-name_run-clause-stays : goal.returns-in-Err-name_run-clause-stays
 returns-in-Err-name_run-clause-stays g c =
-    breaks-stays (sound-moment c.args.self.now c.args.tail.now c.args.lbn c.args.count _ c.requires.is_for c.requires.last c.requires.own c.requires.within c.requires.few.0 c.requires.few.1 c.requires.spare c.requires.may) refl c.requires.is_for
-    (fails-named c.args.self.now c.args.tail.now c.args.lbn c.args.count _ c.requires.is_for c.requires.last c.requires.own c.requires.within c.requires.few.0 c.requires.few.1 c.requires.spare c.requires.may _ c.in-Ok.ensures.zeroes _ c.in-Err-name_run.ensures.failed)
+    breaks-stays (sound-moment c.args.self.now c.args.tail.now c.args.lbn c.args.count _ c.requires.is_for c.requires.last c.requires.own c.requires.within c.requires.few.0 c.requires.few.1 c.requires.unreferenced c.requires.may) refl c.requires.is_for
+    (fails-named c.args.self.now c.args.tail.now c.args.lbn c.args.count _ c.requires.is_for c.requires.last c.requires.own c.requires.within c.requires.few.0 c.requires.few.1 c.requires.unreferenced c.requires.may _ c.in-Ok.ensures.zeroes _ c.in-Err-name_run.ensures.failed)
 
 pub returns-then-named-clause-appended : goal.returns-then-named-clause-appended
-returns-then-named-clause-appended g c = appends-named c.args.self.now c.args.tail.now c.args.lbn c.args.count _ c.requires.is_for c.requires.last c.requires.own c.requires.within c.requires.few.0 c.requires.few.1 c.requires.spare c.requires.may _ c.in-Ok.ensures.zeroes _ _ (c.in-Ok-name_run.ensures.names c.if-named.true)
+returns-then-named-clause-appended g c = appends-named c.args.self.now c.args.tail.now c.args.lbn c.args.count _ c.requires.is_for c.requires.last c.requires.own c.requires.within c.requires.few.0 c.requires.few.1 c.requires.unreferenced c.requires.may _ c.in-Ok.ensures.zeroes _ _ (c.in-Ok-name_run.ensures.names c.if-named.true)
 
 pub returns-then-named-clause-stays : goal.returns-then-named-clause-stays
 returns-then-named-clause-stays g c = named-stays (c.in-Ok-name_run.ensures.names c.if-named.true)
 
 pub add_header-requires-clause-is_for : goal.add_header-requires-clause-is_for
-add_header-requires-clause-is_for g c = now-for c.args.self.now c.args.tail.now c.args.lbn c.args.count _ _ c.requires.is_for c.requires.last c.requires.within c.requires.few.0 c.requires.few.1 c.requires.spare c.in-Ok.ensures.zeroes _ _ (c.in-Ok-name_run.ensures.full c.if-named.false)
+add_header-requires-clause-is_for g c = now-for c.args.self.now c.args.tail.now c.args.lbn c.args.count _ _ c.requires.is_for c.requires.last c.requires.within c.requires.few.0 c.requires.few.1 c.requires.unreferenced c.in-Ok.ensures.zeroes _ _ (c.in-Ok-name_run.ensures.full c.if-named.false)
 
 pub add_header-requires-clause-last : goal.add_header-requires-clause-last
-add_header-requires-clause-last g c = now-last c.args.self.now c.args.tail.now c.args.lbn c.args.count _ _ c.requires.is_for c.requires.last c.requires.within c.requires.few.0 c.requires.few.1 c.requires.spare c.in-Ok.ensures.zeroes _ _ (c.in-Ok-name_run.ensures.full c.if-named.false)
+add_header-requires-clause-last g c = now-last c.args.self.now c.args.tail.now c.args.lbn c.args.count _ _ c.requires.is_for c.requires.last c.requires.within c.requires.few.0 c.requires.few.1 c.requires.unreferenced c.in-Ok.ensures.zeroes _ _ (c.in-Ok-name_run.ensures.full c.if-named.false)
 
 pub add_header-requires-clause-own : goal.add_header-requires-clause-own
-add_header-requires-clause-own g c = now-own c.args.self.now c.args.tail.now c.args.lbn c.args.count _ c.requires.is_for c.requires.last c.requires.own c.requires.within c.requires.few.0 c.requires.few.1 c.requires.spare c.requires.may _ c.in-Ok.ensures.zeroes _ _ (c.in-Ok-name_run.ensures.full c.if-named.false)
+add_header-requires-clause-own g c = now-own c.args.self.now c.args.tail.now c.args.lbn c.args.count _ c.requires.is_for c.requires.last c.requires.own c.requires.within c.requires.few.0 c.requires.few.1 c.requires.unreferenced c.requires.may _ c.in-Ok.ensures.zeroes _ _ (c.in-Ok-name_run.ensures.full c.if-named.false)
 
 pub add_header-requires-clause-given : goal.add_header-requires-clause-given
-add_header-requires-clause-given g c = now-given c.args.self.now c.args.tail.now c.args.lbn c.args.count _ _ c.requires.is_for c.requires.last c.requires.within c.requires.few.0 c.requires.few.1 c.requires.spare c.in-Ok.ensures.zeroes _ _ (c.in-Ok-name_run.ensures.full c.if-named.false)
+add_header-requires-clause-given g c = now-given c.args.self.now c.args.tail.now c.args.lbn c.args.count _ _ c.requires.is_for c.requires.last c.requires.within c.requires.few.0 c.requires.few.1 c.requires.unreferenced c.in-Ok.ensures.zeroes _ _ (c.in-Ok-name_run.ensures.full c.if-named.false)
 
 pub add_header-requires-clause-full : goal.add_header-requires-clause-full
-add_header-requires-clause-full g c = now-full c.args.self.now c.args.tail.now c.args.lbn c.args.count _ _ c.requires.is_for c.requires.last c.requires.within c.requires.few.0 c.requires.few.1 c.requires.spare c.in-Ok.ensures.zeroes _ _ (c.in-Ok-name_run.ensures.full c.if-named.false)
+add_header-requires-clause-full g c = now-full c.args.self.now c.args.tail.now c.args.lbn c.args.count _ _ c.requires.is_for c.requires.last c.requires.within c.requires.few.0 c.requires.few.1 c.requires.unreferenced c.in-Ok.ensures.zeroes _ _ (c.in-Ok-name_run.ensures.full c.if-named.false)
 
 pub add_header-requires-clause-may : goal.add_header-requires-clause-may
-add_header-requires-clause-may g c = now-may c.args.self.now c.args.tail.now c.args.lbn c.args.count _ c.requires.is_for c.requires.last c.requires.own c.requires.within c.requires.few.0 c.requires.few.1 c.requires.spare c.requires.may _ c.in-Ok.ensures.zeroes _ _ (c.in-Ok-name_run.ensures.full c.if-named.false)
+add_header-requires-clause-may g c = now-may c.args.self.now c.args.tail.now c.args.lbn c.args.count _ c.requires.is_for c.requires.last c.requires.own c.requires.within c.requires.few.0 c.requires.few.1 c.requires.unreferenced c.requires.may _ c.in-Ok.ensures.zeroes _ _ (c.in-Ok-name_run.ensures.full c.if-named.false)
 
 pub returns-clause-appended : goal.returns-clause-appended
 returns-clause-appended g c =
-    on_ok_weaker c.add_header.result (appends-header c.args.self.now c.args.tail.now c.args.lbn c.args.count _ c.requires.is_for c.requires.last c.requires.own c.requires.within c.requires.few.0 c.requires.few.1 c.requires.spare c.requires.may _ c.in-Ok.ensures.zeroes _ _ (c.in-Ok-name_run.ensures.full c.if-named.false) _ _ _) c.add_header.ensures.appended
+    on_ok_weaker c.add_header.result (appends-header c.args.self.now c.args.tail.now c.args.lbn c.args.count _ c.requires.is_for c.requires.last c.requires.own c.requires.within c.requires.few.0 c.requires.few.1 c.requires.unreferenced c.requires.may _ c.in-Ok.ensures.zeroes _ _ (c.in-Ok-name_run.ensures.full c.if-named.false) _ _ _) c.add_header.ensures.appended
 
 pub returns-clause-refused : goal.returns-clause-refused
 returns-clause-refused g c =
-    IfErr-weaker c.add_header.result _ _ (λ r. fails-header c.args.self.now c.args.tail.now c.args.lbn c.args.count _ c.requires.is_for c.requires.last c.requires.own c.requires.within c.requires.few.0 c.requires.few.1 c.requires.spare c.requires.may _ c.in-Ok.ensures.zeroes _ _ (c.in-Ok-name_run.ensures.full c.if-named.false) _ r) c.add_header.ensures.refused
+    IfErr-weaker c.add_header.result _ _ (λ r. fails-header c.args.self.now c.args.tail.now c.args.lbn c.args.count _ c.requires.is_for c.requires.last c.requires.own c.requires.within c.requires.few.0 c.requires.few.1 c.requires.unreferenced c.requires.may _ c.in-Ok.ensures.zeroes _ _ (c.in-Ok-name_run.ensures.full c.if-named.false) _ r) c.add_header.ensures.refused
 
 pub returns-clause-stays : goal.returns-clause-stays
 returns-clause-stays g c = c.add_header.ensures.stays

@@ -9,80 +9,80 @@ use Rattle.f11_files.specs.declared.extend.tail.Tail.{Tail}
 use Rattle.f11_files.proofs.structure.Structure.append_slots.Goals as goal
 
 pub returns-in-Err-clause-refused : goal.returns-in-Err-clause-refused
-returns-in-Err-clause-refused g c = fails-zeros c.args.self.now c.args.tail.now c.args.lbn c.args.count _ c.requires.is_for c.requires.last c.requires.index c.requires.within c.requires.few.0 c.requires.few.1 c.requires.spare c.requires.reserved c.requires.may _ c.in-Err.ensures.failed
+returns-in-Err-clause-refused g c = fails-zeros c.args.self.now c.args.tail.now c.args.lbn c.args.count _ c.requires.is_for c.requires.last c.requires.index c.requires.within c.requires.few.0 c.requires.few.1 c.requires.unreferenced c.requires.reserved c.requires.may _ c.in-Err.ensures.failed
 
 pub returns-in-Err-clause-stays : goal.returns-in-Err-clause-stays
 returns-in-Err-clause-stays g c =
-    breaks-stays (sound-moment c.args.self.now c.args.tail.now c.args.lbn c.args.count _ c.requires.is_for c.requires.last c.requires.index c.requires.within c.requires.few.0 c.requires.few.1 c.requires.spare c.requires.reserved c.requires.may) refl c.requires.is_for
-    (fails-zeros c.args.self.now c.args.tail.now c.args.lbn c.args.count _ c.requires.is_for c.requires.last c.requires.index c.requires.within c.requires.few.0 c.requires.few.1 c.requires.spare c.requires.reserved c.requires.may _ c.in-Err.ensures.failed)
+    breaks-stays (sound-moment c.args.self.now c.args.tail.now c.args.lbn c.args.count _ c.requires.is_for c.requires.last c.requires.index c.requires.within c.requires.few.0 c.requires.few.1 c.requires.unreferenced c.requires.reserved c.requires.may) refl c.requires.is_for
+    (fails-zeros c.args.self.now c.args.tail.now c.args.lbn c.args.count _ c.requires.is_for c.requires.last c.requires.index c.requires.within c.requires.few.0 c.requires.few.1 c.requires.unreferenced c.requires.reserved c.requires.may _ c.in-Err.ensures.failed)
 
 pub name_slots-requires-clause-is_for : goal.name_slots-requires-clause-is_for
-name_slots-requires-clause-is_for g c = mid-for c.args.self.now c.args.tail.now c.args.lbn c.args.count _ _ c.requires.is_for c.requires.last c.requires.within c.requires.few.0 c.requires.few.1 c.requires.spare c.in-Ok.ensures.zeroes
+name_slots-requires-clause-is_for g c = mid-for c.args.self.now c.args.tail.now c.args.lbn c.args.count _ _ c.requires.is_for c.requires.last c.requires.within c.requires.few.0 c.requires.few.1 c.requires.unreferenced c.in-Ok.ensures.zeroes
 
 pub name_slots-requires-clause-last : goal.name_slots-requires-clause-last
-name_slots-requires-clause-last g c = mid-last c.args.self.now c.args.tail.now c.args.lbn c.args.count _ _ c.requires.is_for c.requires.last c.requires.within c.requires.few.0 c.requires.few.1 c.requires.spare c.in-Ok.ensures.zeroes
+name_slots-requires-clause-last g c = mid-last c.args.self.now c.args.tail.now c.args.lbn c.args.count _ _ c.requires.is_for c.requires.last c.requires.within c.requires.few.0 c.requires.few.1 c.requires.unreferenced c.in-Ok.ensures.zeroes
 
 pub name_slots-requires-clause-given : goal.name_slots-requires-clause-given
-name_slots-requires-clause-given g c = mid-given c.args.self.now c.args.tail.now c.args.lbn c.args.count _ _ c.requires.is_for c.requires.last c.requires.within c.requires.few.0 c.requires.few.1 c.requires.spare c.in-Ok.ensures.zeroes
+name_slots-requires-clause-given g c = mid-given c.args.self.now c.args.tail.now c.args.lbn c.args.count _ _ c.requires.is_for c.requires.last c.requires.within c.requires.few.0 c.requires.few.1 c.requires.unreferenced c.in-Ok.ensures.zeroes
 
 pub name_slots-requires-clause-slots : goal.name_slots-requires-clause-slots
-name_slots-requires-clause-slots g c = mid-slots c.args.self.now c.args.tail.now c.args.lbn c.args.count _ c.requires.is_for c.requires.last c.requires.index c.requires.within c.requires.few.0 c.requires.few.1 c.requires.spare c.requires.reserved c.requires.may _ c.in-Ok.ensures.zeroes
+name_slots-requires-clause-slots g c = mid-slots c.args.self.now c.args.tail.now c.args.lbn c.args.count _ c.requires.is_for c.requires.last c.requires.index c.requires.within c.requires.few.0 c.requires.few.1 c.requires.unreferenced c.requires.reserved c.requires.may _ c.in-Ok.ensures.zeroes
 
 pub returns-in-Err-name_slots-clause-refused : goal.returns-in-Err-name_slots-clause-refused
-returns-in-Err-name_slots-clause-refused g c = fails-named c.args.self.now c.args.tail.now c.args.lbn c.args.count _ c.requires.is_for c.requires.last c.requires.index c.requires.within c.requires.few.0 c.requires.few.1 c.requires.spare c.requires.reserved c.requires.may _ c.in-Ok.ensures.zeroes _ c.in-Err-name_slots.ensures.failed
+returns-in-Err-name_slots-clause-refused g c = fails-named c.args.self.now c.args.tail.now c.args.lbn c.args.count _ c.requires.is_for c.requires.last c.requires.index c.requires.within c.requires.few.0 c.requires.few.1 c.requires.unreferenced c.requires.reserved c.requires.may _ c.in-Ok.ensures.zeroes _ c.in-Err-name_slots.ensures.failed
 
 pub returns-in-Err-name_slots-clause-stays : goal.returns-in-Err-name_slots-clause-stays
 returns-in-Err-name_slots-clause-stays g c =
-    breaks-stays (sound-moment c.args.self.now c.args.tail.now c.args.lbn c.args.count _ c.requires.is_for c.requires.last c.requires.index c.requires.within c.requires.few.0 c.requires.few.1 c.requires.spare c.requires.reserved c.requires.may) c.name_slots.ensures.home c.requires.is_for
-    (fails-named c.args.self.now c.args.tail.now c.args.lbn c.args.count _ c.requires.is_for c.requires.last c.requires.index c.requires.within c.requires.few.0 c.requires.few.1 c.requires.spare c.requires.reserved c.requires.may _ c.in-Ok.ensures.zeroes _ c.in-Err-name_slots.ensures.failed)
+    breaks-stays (sound-moment c.args.self.now c.args.tail.now c.args.lbn c.args.count _ c.requires.is_for c.requires.last c.requires.index c.requires.within c.requires.few.0 c.requires.few.1 c.requires.unreferenced c.requires.reserved c.requires.may) c.name_slots.ensures.home c.requires.is_for
+    (fails-named c.args.self.now c.args.tail.now c.args.lbn c.args.count _ c.requires.is_for c.requires.last c.requires.index c.requires.within c.requires.few.0 c.requires.few.1 c.requires.unreferenced c.requires.reserved c.requires.may _ c.in-Ok.ensures.zeroes _ c.in-Err-name_slots.ensures.failed)
 
 pub returns-then-named-clause-appended : goal.returns-then-named-clause-appended
-returns-then-named-clause-appended g c = appends-named c.args.self.now c.args.tail.now c.args.lbn c.args.count _ c.requires.is_for c.requires.last c.requires.index c.requires.within c.requires.few.0 c.requires.few.1 c.requires.spare c.requires.reserved c.requires.may _ c.in-Ok.ensures.zeroes _ _ _ (c.in-Ok-name_slots.ensures.names c.if-named.true)
+returns-then-named-clause-appended g c = appends-named c.args.self.now c.args.tail.now c.args.lbn c.args.count _ c.requires.is_for c.requires.last c.requires.index c.requires.within c.requires.few.0 c.requires.few.1 c.requires.unreferenced c.requires.reserved c.requires.may _ c.in-Ok.ensures.zeroes _ _ _ (c.in-Ok-name_slots.ensures.names c.if-named.true)
 
 pub returns-then-named-clause-stays : goal.returns-then-named-clause-stays
 returns-then-named-clause-stays g c = c.in-Ok-name_slots.ensures.stays
 
 pub add_index_header-requires-clause-is_for : goal.add_index_header-requires-clause-is_for
-add_index_header-requires-clause-is_for g c = then-for c.args.self.now c.args.tail.now c.args.lbn c.args.count _ c.requires.is_for c.requires.last c.requires.index c.requires.within c.requires.few.0 c.requires.few.1 c.requires.spare c.requires.reserved c.requires.may
+add_index_header-requires-clause-is_for g c = then-for c.args.self.now c.args.tail.now c.args.lbn c.args.count _ c.requires.is_for c.requires.last c.requires.index c.requires.within c.requires.few.0 c.requires.few.1 c.requires.unreferenced c.requires.reserved c.requires.may
     _ c.in-Ok.ensures.zeroes _ _ (c.in-Ok-name_slots.ensures.full c.if-named.false).1 _ (c.in-Ok-name_slots.ensures.full c.if-named.false).0
 
 pub add_index_header-requires-clause-last : goal.add_index_header-requires-clause-last
-add_index_header-requires-clause-last g c = then-last c.args.self.now c.args.tail.now c.args.lbn c.args.count _ c.requires.is_for c.requires.last c.requires.index c.requires.within c.requires.few.0 c.requires.few.1 c.requires.spare c.requires.reserved c.requires.may
+add_index_header-requires-clause-last g c = then-last c.args.self.now c.args.tail.now c.args.lbn c.args.count _ c.requires.is_for c.requires.last c.requires.index c.requires.within c.requires.few.0 c.requires.few.1 c.requires.unreferenced c.requires.reserved c.requires.may
     _ c.in-Ok.ensures.zeroes _ _ (c.in-Ok-name_slots.ensures.full c.if-named.false).1 _ (c.in-Ok-name_slots.ensures.full c.if-named.false).0
 
 pub add_index_header-requires-clause-index : goal.add_index_header-requires-clause-index
-add_index_header-requires-clause-index g c = then-index c.args.self.now c.args.tail.now c.args.lbn c.args.count _ c.requires.is_for c.requires.last c.requires.index c.requires.within c.requires.few.0 c.requires.few.1 c.requires.spare c.requires.reserved c.requires.may
+add_index_header-requires-clause-index g c = then-index c.args.self.now c.args.tail.now c.args.lbn c.args.count _ c.requires.is_for c.requires.last c.requires.index c.requires.within c.requires.few.0 c.requires.few.1 c.requires.unreferenced c.requires.reserved c.requires.may
     _ c.in-Ok.ensures.zeroes _ _ (c.in-Ok-name_slots.ensures.full c.if-named.false).1 _ (c.in-Ok-name_slots.ensures.full c.if-named.false).0
 
 pub add_index_header-requires-clause-given : goal.add_index_header-requires-clause-given
-add_index_header-requires-clause-given g c = then-given c.args.self.now c.args.tail.now c.args.lbn c.args.count _ c.requires.is_for c.requires.last c.requires.index c.requires.within c.requires.few.0 c.requires.few.1 c.requires.spare c.requires.reserved c.requires.may
+add_index_header-requires-clause-given g c = then-given c.args.self.now c.args.tail.now c.args.lbn c.args.count _ c.requires.is_for c.requires.last c.requires.index c.requires.within c.requires.few.0 c.requires.few.1 c.requires.unreferenced c.requires.reserved c.requires.may
     _ c.in-Ok.ensures.zeroes _ _ (c.in-Ok-name_slots.ensures.full c.if-named.false).1 _ (c.in-Ok-name_slots.ensures.full c.if-named.false).0
 
 pub add_index_header-requires-clause-within : goal.add_index_header-requires-clause-within
-add_index_header-requires-clause-within g c = then-within c.args.self.now c.args.tail.now c.args.lbn c.args.count _ c.requires.is_for c.requires.last c.requires.index c.requires.within c.requires.few.0 c.requires.few.1 c.requires.spare c.requires.reserved c.requires.may
+add_index_header-requires-clause-within g c = then-within c.args.self.now c.args.tail.now c.args.lbn c.args.count _ c.requires.is_for c.requires.last c.requires.index c.requires.within c.requires.few.0 c.requires.few.1 c.requires.unreferenced c.requires.reserved c.requires.may
     _ c.in-Ok.ensures.zeroes _ _ (c.in-Ok-name_slots.ensures.full c.if-named.false).1 _ (c.in-Ok-name_slots.ensures.full c.if-named.false).0
 
 pub add_index_header-requires-clause-full : goal.add_index_header-requires-clause-full
-add_index_header-requires-clause-full g c = now-full c.args.self.now c.args.tail.now c.args.lbn c.args.count _ _ c.requires.is_for c.requires.last c.requires.within c.requires.few.0 c.requires.few.1 c.requires.spare c.in-Ok.ensures.zeroes _ _ (c.in-Ok-name_slots.ensures.full c.if-named.false).1
+add_index_header-requires-clause-full g c = now-full c.args.self.now c.args.tail.now c.args.lbn c.args.count _ _ c.requires.is_for c.requires.last c.requires.within c.requires.few.0 c.requires.few.1 c.requires.unreferenced c.in-Ok.ensures.zeroes _ _ (c.in-Ok-name_slots.ensures.full c.if-named.false).1
 
 pub add_index_header-requires-clause-reserved : goal.add_index_header-requires-clause-reserved
-add_index_header-requires-clause-reserved g c = then-reserved c.args.self.now c.args.tail.now c.args.lbn c.args.count _ c.requires.is_for c.requires.last c.requires.index c.requires.within c.requires.few.0 c.requires.few.1 c.requires.spare c.requires.reserved c.requires.may
+add_index_header-requires-clause-reserved g c = then-reserved c.args.self.now c.args.tail.now c.args.lbn c.args.count _ c.requires.is_for c.requires.last c.requires.index c.requires.within c.requires.few.0 c.requires.few.1 c.requires.unreferenced c.requires.reserved c.requires.may
     _ c.in-Ok.ensures.zeroes _ _ (c.in-Ok-name_slots.ensures.full c.if-named.false).1 _ (c.in-Ok-name_slots.ensures.full c.if-named.false).0
 
 pub add_index_header-requires-clause-may : goal.add_index_header-requires-clause-may
-add_index_header-requires-clause-may g c = then-may c.args.self.now c.args.tail.now c.args.lbn c.args.count _ c.requires.is_for c.requires.last c.requires.index c.requires.within c.requires.few.0 c.requires.few.1 c.requires.spare c.requires.reserved c.requires.may
+add_index_header-requires-clause-may g c = then-may c.args.self.now c.args.tail.now c.args.lbn c.args.count _ c.requires.is_for c.requires.last c.requires.index c.requires.within c.requires.few.0 c.requires.few.1 c.requires.unreferenced c.requires.reserved c.requires.may
     _ c.in-Ok.ensures.zeroes _ _ (c.in-Ok-name_slots.ensures.full c.if-named.false).1 _ (c.in-Ok-name_slots.ensures.full c.if-named.false).0
 
 pub returns-clause-appended : goal.returns-clause-appended
-returns-clause-appended g c = on_ok_weaker c.add_index_header.result (appends-header c.args.self.now c.args.tail.now c.args.lbn c.args.count _ c.requires.is_for c.requires.last c.requires.index c.requires.within c.requires.few.0 c.requires.few.1 c.requires.spare c.requires.reserved c.requires.may
+returns-clause-appended g c = on_ok_weaker c.add_index_header.result (appends-header c.args.self.now c.args.tail.now c.args.lbn c.args.count _ c.requires.is_for c.requires.last c.requires.index c.requires.within c.requires.few.0 c.requires.few.1 c.requires.unreferenced c.requires.reserved c.requires.may
     _ c.in-Ok.ensures.zeroes _ _ (c.in-Ok-name_slots.ensures.full c.if-named.false).1 _ (c.in-Ok-name_slots.ensures.full c.if-named.false).0 _ _ _) c.add_index_header.ensures.appended
 
 pub returns-clause-refused : goal.returns-clause-refused
-returns-clause-refused g c = IfErr-weaker c.add_index_header.result _ _ (λ r. fails-header c.args.self.now c.args.tail.now c.args.lbn c.args.count _ c.requires.is_for c.requires.last c.requires.index c.requires.within c.requires.few.0 c.requires.few.1 c.requires.spare c.requires.reserved c.requires.may
+returns-clause-refused g c = IfErr-weaker c.add_index_header.result _ _ (λ r. fails-header c.args.self.now c.args.tail.now c.args.lbn c.args.count _ c.requires.is_for c.requires.last c.requires.index c.requires.within c.requires.few.0 c.requires.few.1 c.requires.unreferenced c.requires.reserved c.requires.may
     _ c.in-Ok.ensures.zeroes _ _ (c.in-Ok-name_slots.ensures.full c.if-named.false).1 _ (c.in-Ok-name_slots.ensures.full c.if-named.false).0 _ r) c.add_index_header.ensures.refused
 
 pub returns-clause-stays : goal.returns-clause-stays
-returns-clause-stays g c = then-stays c.args.self.now c.args.tail.now c.args.lbn c.args.count _ c.requires.is_for c.requires.last c.requires.index c.requires.within c.requires.few.0 c.requires.few.1 c.requires.spare c.requires.reserved c.requires.may
+returns-clause-stays g c = then-stays c.args.self.now c.args.tail.now c.args.lbn c.args.count _ c.requires.is_for c.requires.last c.requires.index c.requires.within c.requires.few.0 c.requires.few.1 c.requires.unreferenced c.requires.reserved c.requires.may
     _ c.in-Ok.ensures.zeroes _ _ (c.in-Ok-name_slots.ensures.full c.if-named.false).1 _ (c.in-Ok-name_slots.ensures.full c.if-named.false).0 c.add_index_header.ensures.stays
 
 pub returns-in-Err-clause-confined : goal.returns-in-Err-clause-confined

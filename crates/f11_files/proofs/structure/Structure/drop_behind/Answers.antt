@@ -41,7 +41,7 @@ pub returns-in-Err-clause-stays : goal.returns-in-Err-clause-stays
 returns-in-Err-clause-stays g c =
     let next = c.in-Err.ensures in
     let breaks = no-next _ c.loop.self _ _ _ _ c.loop.invariant.dropping c.in-Err.fault _ (λ is. next.no_end (ap Err is)) (λ is. next.damaged (ap Err is)) (λ is. next.failed (ap Err is)) in
-    rw (c.refusal_for.ensures, breaks.grave) (broken-stays c.args.self.now c.loop.self _ _ _ c.loop.invariant.dropping.home c.requires.is_for breaks)
+    rw (c.refusal_for.ensures, breaks.fatal) (broken-stays c.args.self.now c.loop.self _ _ _ c.loop.invariant.dropping.home c.requires.is_for breaks)
 
 pub drop_header-requires-clause-is_for : goal.drop_header-requires-clause-is_for
 drop_header-requires-clause-is_for g c = read-for _ c.loop.self _ _ _ _ c.loop.invariant.dropping _ _ _ (rw c.in-Ok-Some.field-0-is at c.in-Ok-Some.ensures.reads)
@@ -57,7 +57,7 @@ returns-in_err-drop_header-clause-refused g c =
 pub returns-in_err-drop_header-clause-stays : goal.returns-in_err-drop_header-clause-stays
 returns-in_err-drop_header-clause-stays g c =
     let breaks = c.in_err-drop_header.ensures.refused in
-    handed-stays c.from_residual.result _ _ _ _ c.from_residual.ensures.1 breaks.grave
+    handed-stays c.from_residual.result _ _ _ _ c.from_residual.ensures.1 breaks.fatal
     (broken-stays c.args.self.now _ _ _ _ (c.in_err-drop_header.ensures.stays.home ∙ c.loop.invariant.dropping.home) c.requires.is_for
     (next-breaks _ c.loop.self _ _ _ _ c.loop.invariant.dropping _ _ _ (rw c.in-Ok-Some.field-0-is at c.in-Ok-Some.ensures.reads) _ _ breaks))
 

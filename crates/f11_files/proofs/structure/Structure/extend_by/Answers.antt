@@ -42,7 +42,7 @@ returns-in_err-end-clause-refused g c =
 pub returns-in_err-end-clause-stays : goal.returns-in_err-end-clause-stays
 returns-in_err-end-clause-stays g c =
     let breaks = fails-run c.args.self.now c.args.tail.now c.args.n _ c.requires.is_for c.requires.last c.requires.may _ _ _ _ _ c.loop-left.invariant.extending _ _ c.in_err-end.ensures.refused in
-    handed-stays c.from_residual.result _ _ _ _ c.from_residual.ensures.1 breaks.grave
+    handed-stays c.from_residual.result _ _ _ _ c.from_residual.ensures.1 breaks.fatal
     (breaks-stays (sound-moment c.args.self.now c.args.tail.now c.args.n _ c.requires.is_for c.requires.last c.requires.may) (c.in_err-end.ensures.stays.home ∙ c.loop-left.invariant.extending.stays.home) c.requires.is_for breaks)
 
 pub loop-left-preserved : goal.loop-left-preserved

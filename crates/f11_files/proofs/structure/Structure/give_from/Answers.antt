@@ -6,7 +6,7 @@ use Rattle.f11_map.specs.MapArea.{runs_of}
 use Rattle.f11_image_store.specs.FileLaws.{pointers_in}
 use Rattle.f11_files.proofs.AnswerLemmas.{handed}
 use Rattle.f11_files.proofs.Removing.Freeing.{broken-stays, handed-stays}
-use Rattle.f11_files.proofs.Removing.Giving.{giving-none, giving-at, giving-end, next-spare, giving-breaks, giving-next, giving-done, giving-stays}
+use Rattle.f11_files.proofs.Removing.Giving.{giving-none, giving-at, giving-end, next-unreferenced, giving-breaks, giving-next, giving-done, giving-stays}
 use Rattle.f11_files.proofs.Confining.Parts.{parts-none, parts-then, stands-same, stands-then}
 use Rattle.f11_image_store.specs.Confines.{no_header}
 use Rattle.f11_files.proofs.structure.Structure.give_from.Goals as goal
@@ -21,7 +21,7 @@ counted area block n is count = count ∙ ap (λ (m : List ℕ). length (runs_of
 pub loop-i-init : goal.loop-i-init
 unfolding blocks_named
 loop-i-init g c = record {
-  giving = giving-none c.args.self.now _ _ c.requires.is_for c.requires.spare;
+  giving = giving-none c.args.self.now _ _ c.requires.is_for c.requires.unreferenced;
   confined = parts-none c.args.self.now no_header _;
   places = stands-same c.args.self.now;
 }
@@ -29,9 +29,9 @@ loop-i-init g c = record {
 pub give_run-requires-clause-is_for : goal.give_run-requires-clause-is_for
 give_run-requires-clause-is_for g c = c.loop-i.invariant.giving.is_for
 
-pub give_run-requires-clause-spare : goal.give_run-requires-clause-spare
-give_run-requires-clause-spare g c =
-    next-spare _ _ _ _ _ _ _ _ _
+pub give_run-requires-clause-unreferenced : goal.give_run-requires-clause-unreferenced
+give_run-requires-clause-unreferenced g c =
+    next-unreferenced _ _ _ _ _ _ _ _ _
     (giving-at _ _ _ _ c.run-lbn.result (run-at _ c.args.block.now _ _ c.map-map.ensures c.run-lbn.ensures.run) c.min-kept.ensures c.loop-i.invariant.giving)
 
 pub returns-in_err-give_run-clause-refused : goal.returns-in_err-give_run-clause-refused
@@ -46,7 +46,7 @@ returns-in_err-give_run-clause-stays g c =
     let breaks = c.in_err-give_run.ensures.refused in
     let count = counted _ c.args.block.now _ c.map-map.ensures c.runs-i-end.ensures.count in
     let more : c.loop-i.i < pointers_in c.args.block.now = omega (arith, count, c.loop-i-test.true) in
-    handed-stays c.from_residual.result _ _ _ _ c.from_residual.ensures.1 breaks.grave
+    handed-stays c.from_residual.result _ _ _ _ c.from_residual.ensures.1 breaks.fatal
     (broken-stays c.args.self.now _ _ _ _ (c.in_err-give_run.ensures.stays.home ∙ giving.home) c.requires.is_for (giving-breaks {lbns = drop c.args.keep (blocks_named c.args.block.now)} giving _ more breaks))
 
 pub loop-i-preserved : goal.loop-i-preserved

@@ -50,9 +50,9 @@ returns-in_err-grow_by-clause-refused g c =
 
 pub returns-in_err-grow_by-clause-stays : goal.returns-in_err-grow_by-clause-stays
 returns-in_err-grow_by-clause-stays g c =
-    let grave = c.in_err-grow_by.ensures.refused.grave in
-    handed-stays c.from_residual-in_err-grow_by.result _ _ _ _ c.from_residual-in_err-grow_by.ensures.1 grave
-    (stays-then refl (rw grave at c.in_err-grow_by.ensures.stays))
+    let fatal = c.in_err-grow_by.ensures.refused.fatal in
+    handed-stays c.from_residual-in_err-grow_by.result _ _ _ _ c.from_residual-in_err-grow_by.ensures.1 fatal
+    (stays-then refl (rw fatal at c.in_err-grow_by.ensures.stays))
 
 pub returns-clause-grown : goal.returns-clause-grown
 returns-clause-grown g c = (

@@ -3,7 +3,7 @@ use Rattle.f11_dev.specs.Image.{Image}
 use Rattle.f11_index.proofs.InUseLemmas.{in_use-some, in_use-slot}
 use Rattle.f11_files.specs.Structure.{index_in}
 use Rattle.f11_files.proofs.AnswerLemmas.{handed}
-use Rattle.f11_files.proofs.Removing.Cut.{fails-written, written-for, spare-now, fails-giving, behind-hangs, fails-behind, cuts-file}
+use Rattle.f11_files.proofs.Removing.Cut.{fails-written, written-for, unreferenced-now, fails-giving, behind-hangs, fails-behind, cuts-file}
 use Rattle.f11_files.proofs.Removing.Freeing.{stays-for, stays-then}
 use Rattle.f11_files.proofs.WriteLemmas.{failed-stays}
 use Rattle.f11_files.proofs.Finding.First.{place-within}
@@ -37,9 +37,9 @@ give_from-requires-clause-is_for g c =
     written-for c.args.self.now c.args.f c.args.to _ _ _ _ _ _ _ c.requires.is_for c.requires.own c.in_ok-n.ensures.found c.cut_off.ensures c.lbn_of_header.ensures
     (g.met.D.Device.is_image c.args.device.now) _ c.in-Ok.ensures.writes.ok
 
-pub give_from-requires-clause-spare : goal.give_from-requires-clause-spare
-give_from-requires-clause-spare g c =
-    spare-now c.args.self.now c.args.f c.args.to _ _ _ _ _ _ _ c.requires.is_for c.requires.own c.in_ok-n.ensures.found c.cut_off.ensures c.lbn_of_header.ensures
+pub give_from-requires-clause-unreferenced : goal.give_from-requires-clause-unreferenced
+give_from-requires-clause-unreferenced g c =
+    unreferenced-now c.args.self.now c.args.f c.args.to _ _ _ _ _ _ _ c.requires.is_for c.requires.own c.in_ok-n.ensures.found c.cut_off.ensures c.lbn_of_header.ensures
     (g.met.D.Device.is_image c.args.device.now) _ c.in-Ok.ensures.writes.ok
 
 pub returns-in_err-give_from-clause-refused : goal.returns-in_err-give_from-clause-refused

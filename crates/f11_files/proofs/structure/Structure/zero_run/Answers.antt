@@ -16,7 +16,7 @@ after s lbn count one two = to-then s s no_header no_header (range_with_len lbn 
 
 pub loop-k-init : goal.loop-k-init
 loop-k-init g c = record {
-  zeroes = zeroes-none (home_of c.args.self.now) c.args.lbn c.args.count (g.D.Device.disk c.args.device.now) c.requires.within c.requires.is_for.sound c.requires.spare;
+  zeroes = zeroes-none (home_of c.args.self.now) c.args.lbn c.args.count (g.D.Device.disk c.args.device.now) c.requires.within c.requires.is_for.sound c.requires.unreferenced;
   confined = to-parts c.args.self.now no_header no_header (range_with_len c.args.lbn c.args.count) (λ n is. is) (parts-none c.args.self.now no_header _);
 }
 
@@ -26,14 +26,14 @@ write-requires g c = omega (arith, c.loop-k.invariant.zeroes.went.size, c.loop-k
 pub returns-in_err-write-clause-failed : goal.returns-in_err-write-clause-failed
 returns-in_err-write-clause-failed g c =
     let now = g.D.Device.disk c.loop-k.device in
-    OnErr-given _ (fails-zero (home_of c.args.self.now) c.args.lbn c.args.count (g.D.Device.disk c.args.device.now) c.requires.within c.requires.is_for.sound c.requires.spare
+    OnErr-given _ (fails-zero (home_of c.args.self.now) c.args.lbn c.args.count (g.D.Device.disk c.args.device.now) c.requires.within c.requires.is_for.sound c.requires.unreferenced
     c.loop-k.k now _ c.loop-k-test.true c.loop-k.invariant.zeroes (rw c.zeros-zeros.ensures at c.in_err-write.ensures.writes.err))
 
 pub loop-k-preserved : goal.loop-k-preserved
 loop-k-preserved g c =
     let now = g.D.Device.disk c.loop-k.device in
     record {
-      zeroes = zeroes-more (home_of c.args.self.now) c.args.lbn c.args.count (g.D.Device.disk c.args.device.now) c.requires.within c.requires.is_for.sound c.requires.spare
+      zeroes = zeroes-more (home_of c.args.self.now) c.args.lbn c.args.count (g.D.Device.disk c.args.device.now) c.requires.within c.requires.is_for.sound c.requires.unreferenced
           c.loop-k.k now _ c.loop-k-test.true c.loop-k.invariant.zeroes (rw c.zeros-zeros.ensures at c.in_ok-write.ensures.writes.ok);
       confined = after c.args.self.now c.args.lbn c.args.count c.loop-k.invariant.confined
           (other-wrote c.args.self.now no_header (range_with_len c.args.lbn c.args.count) (c.args.lbn + c.loop-k.k) _ _ _ (in-run c.args.lbn c.args.count (c.args.lbn + c.loop-k.k) (omega arith) (omega (arith, c.loop-k-test.true))) c.in_ok-write.ensures.writes.ok);

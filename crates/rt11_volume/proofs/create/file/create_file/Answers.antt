@@ -9,7 +9,8 @@ use Rattle.rt11_volume.specs.Directory.{segment_of}
 use Rattle.rt11_volume.specs.Entry.{area_length}
 use Rattle.rt11_volume.specs.Files.{KeepsFiles}
 use Rattle.rt11_volume.specs.InHand.{KeepsOthers}
-use Rattle.rt11_volume.specs.Searching.Looking.{IsSoundDisk, FindsRoom, found_entry}
+use Rattle.rt11_volume.specs.Searching.Looking.{FindsRoom, found_entry}
+use Rattle.rt11_volume.specs.Verifying.Verdict.{IsSoundDisk}
 use Rattle.rt11_volume.specs.Searching.Search.{is_empty_for}
 use Rattle.rt11_volume.specs.Segment.{segment_words, segment_count, highest_segment}
 use Rattle.rt11_volume.specs.Rewriting.Split.{HasNext, HoldsFirst, KeepsSplit}

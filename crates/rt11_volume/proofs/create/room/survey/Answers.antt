@@ -3,7 +3,8 @@ use Rattle.f11_dev.specs.Image.{Image}
 use Rattle.f11_dev.proofs.LookedLemmas.{looked_none, looked_more, looked_within}
 use Rattle.rt11_volume.specs.Entry.{is_file_named}
 use Rattle.rt11_volume.specs.InHand.{ReadsSegment}
-use Rattle.rt11_volume.specs.Searching.Looking.{Visits, IsPlaceIn, IsFirstIn, IsSoundDisk, IsOnDevice}
+use Rattle.rt11_volume.specs.Searching.Looking.{Visits, IsPlaceIn, IsFirstIn, IsOnDevice}
+use Rattle.rt11_volume.specs.Verifying.Verdict.{IsSoundDisk}
 use Rattle.rt11_volume.specs.Searching.Search.{is_empty_for}
 use Rattle.rt11_volume.specs.Segment.{segment_words, entries, extra_bytes}
 use Rattle.rt11_volume.specs.declared.lookup.entry.Found.{Found}

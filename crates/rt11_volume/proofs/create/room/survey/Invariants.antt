@@ -1,7 +1,7 @@
 use Rattle.std.proofs.Common.{◌*◌}
 use Rattle.f11_dev.specs.Looked.{Looked}
 use Rattle.rt11_volume.specs.Entry.{is_file_named}
-use Rattle.rt11_volume.specs.Searching.Looking.{IsSoundDisk}
+use Rattle.rt11_volume.specs.Verifying.Verdict.{IsSoundDisk}
 use Rattle.rt11_volume.specs.Searching.Search.{is_empty_for}
 use Rattle.rt11_volume.proofs.Searching.Looking.{HasNoneBefore, IsFoundSoFar}
 use Rattle.rt11_volume.proofs.Walking.Walk.{IsNext}

@@ -4,7 +4,8 @@ use Rattle.f11_dev.specs.Image.{Image}
 use Rattle.f11_dev.specs.Looked.{Looked}
 use Rattle.f11_dev.proofs.LookedLemmas.{looked_none, looked_more, looked_within}
 use Rattle.rt11_volume.specs.InHand.{ReadsSegment}
-use Rattle.rt11_volume.specs.Searching.Looking.{is_wanted, Visits, IsPlaceIn, IsSoundDisk, IsOnDevice}
+use Rattle.rt11_volume.specs.Searching.Looking.{is_wanted, Visits, IsPlaceIn, IsOnDevice}
+use Rattle.rt11_volume.specs.Verifying.Verdict.{IsSoundDisk}
 use Rattle.rt11_volume.specs.Segment.{segment_words, entries, extra_bytes}
 use Rattle.rt11_volume.proofs.Verifying.Sound.{sound_from}
 use Rattle.rt11_volume.proofs.Walking.Walk.{IsNext, IsNext-first, visited-few}

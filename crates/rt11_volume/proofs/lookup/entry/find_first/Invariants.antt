@@ -2,7 +2,8 @@ use Rattle.std.proofs.Common.{◌≡◌, ◌<◌, ◌*◌, ℕ, Some, None}
 use Rattle.std.specs.List.{slice_get}
 use Rattle.f11_dev.specs.Looked.{Looked}
 use Rattle.rt11_volume.specs.Directory.{segment_of, visited}
-use Rattle.rt11_volume.specs.Searching.Looking.{is_wanted, IsSoundDisk, IsPlaceIn}
+use Rattle.rt11_volume.specs.Searching.Looking.{is_wanted, IsPlaceIn}
+use Rattle.rt11_volume.specs.Verifying.Verdict.{IsSoundDisk}
 use Rattle.rt11_volume.proofs.Walking.Walk.{IsNext}
 use Rattle.rt11_volume.proofs.lookup.entry.find_first.Given as goal
 

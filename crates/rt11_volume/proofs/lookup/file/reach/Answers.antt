@@ -4,7 +4,8 @@ use Rattle.f11_dev.specs.Disk.{Disk}
 use Rattle.f11_dev.specs.Image.{Image}
 use Rattle.rt11_volume.specs.Entry.{area_length, is_file_named}
 use Rattle.rt11_volume.specs.Files.{IsBlockAt, FailsToReach}
-use Rattle.rt11_volume.specs.Searching.Looking.{IsSoundDisk, IsFirstFound, IsPlaceOf, found_segment, found_entry}
+use Rattle.rt11_volume.specs.Searching.Looking.{IsFirstFound, IsPlaceOf, found_segment, found_entry}
+use Rattle.rt11_volume.specs.Verifying.Verdict.{IsSoundDisk}
 use Rattle.rt11_volume.specs.Segment.{area_start}
 use Rattle.rt11_volume.specs.Store.{rt_store_of}
 use Rattle.rt11_volume.specs.declared.lookup.entry.Found.{Found}

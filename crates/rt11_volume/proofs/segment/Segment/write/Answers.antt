@@ -6,7 +6,7 @@ use Rattle.f11_dev.specs.Image.{Image, image_block}
 use Rattle.f11_dev.proofs.ImageLemmas.{image_block-written, image_block-other}
 use Rattle.f11_dev.proofs.WentLemmas.{went_write, went_failed_write, went_more, went_within}
 use Rattle.rt11_volume.specs.InHand.{KeepsOthers}
-use Rattle.rt11_volume.specs.Segment.{segment_words, words_of}
+use Rattle.rt11_volume.specs.Segment.{segment_words, words_in}
 use Rattle.rt11_volume.proofs.FreshLemmas.{OnErr-given}
 use Rattle.rt11_volume.proofs.segment.Segment.write.Goals as goal
 
@@ -19,7 +19,7 @@ kept_second k lbn old now block is keeps = λ other apart behind. image_block-ot
 
 -- the words of both
 words_written : (k first : ℕ) (old mid new : Image) (low high : List ℕ) → first ≡ 4 + 2 * k → 4 + 2 * k + 1 < length old → mid ≡ slice_set old first low → new ≡ slice_set mid (first + 1) high
-    → segment_words new k ≡ words_of (low ++ high)
+    → segment_words new k ≡ words_in (low ++ high)
 unfolding segment_words
 words_written k first old mid new low high place within one two =
     let lower : image_block new (4 + 2 * k) ≡ low =
@@ -29,7 +29,7 @@ words_written k first old mid new low high place within one two =
     let higher : image_block new (4 + 2 * k + 1) ≡ high =
     ap (λ (i : Image). image_block i (4 + 2 * k + 1)) two ∙ ap (image_block (slice_set mid (first + 1) high)) (let p : 4 + 2 * k + 1 ≡ first + 1 = omega (arith, place) in p)
     ∙ image_block-written mid (first + 1) high (omega (arith, place, within, size)) in
-    λ i. words_of (lower i ++ higher i)
+    λ i. words_in (lower i ++ higher i)
 
 pub returns-in_err-write-clause-failed : goal.returns-in_err-write-clause-failed
 returns-in_err-write-clause-failed g c =

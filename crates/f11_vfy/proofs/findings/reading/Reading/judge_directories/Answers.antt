@@ -1,7 +1,7 @@
 use Rattle.std.proofs.Common.{◌+◌, sym, subst, length, arith}
 use Rattle.f11_chain.proofs.AlongLemmas.{handed-on}
 use Rattle.f11_dev.specs.Image.{Image}
-use Rattle.f11_index.specs.Kept.{index_kept, LiesWithin}
+use Rattle.f11_index.specs.Kept.{index_kept, IndexLiesWithin}
 use Rattle.f11_vfy.proofs.Directory.Judging.{judged-none, judged-more, looked-on, looked-all}
 use Rattle.f11_vfy.proofs.findings.reading.Reading.judge_directories.Goals as goal
 
@@ -9,7 +9,7 @@ pub loop-k-init : goal.loop-k-init
 loop-k-init g c = judged-none (index_kept c.args.index.now) c.args.self.now _ _ c.in_ok-later.ensures.new (omega (arith, c.in_ok-later.ensures.limit, c.len.ensures, c.args.self.now.survey.slots.ok.0))
 
 pub judge_slot-requires-clause-within : goal.judge_slot-requires-clause-within
-judge_slot-requires-clause-within g c = subst (λ (i : Image). LiesWithin (index_kept c.args.index.now) (length i)) (sym c.loop-k.invariant.looked.looked.image) c.requires.within
+judge_slot-requires-clause-within g c = subst (λ (i : Image). IndexLiesWithin (index_kept c.args.index.now) (length i)) (sym c.loop-k.invariant.looked.looked.image) c.requires.within
 
 pub judge_slot-requires-clause-limit : goal.judge_slot-requires-clause-limit
 judge_slot-requires-clause-limit g c = c.loop-k.invariant.limit

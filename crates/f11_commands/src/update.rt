@@ -1,0 +1,90 @@
+//! The command `vfy --update`.
+ghost use Rattle.std.specs.Prelude.{OnOk};
+ghost use Rattle.f11_commands.specs.Output.{Takes};
+ghost use Rattle.f11_commands.specs.UpdateCommand.{EndsUpdate, EndsReclaiming, EndsAgain, updated_line};
+ghost use Rattle.f11_vfy.specs.Accepted.{device_of};
+
+use crate::outcome::{Answer, Failure};
+use crate::report::{System, write_accepted, write_faulty};
+use crate::vfy::print_vfy;
+use f11_dev::Device;
+use f11_vfy::{Accepted, Report, VfyError, reclaim, verify};
+use std::alloc::Global;
+use std::io::{self, Write};
+
+/// Verifies the image of a device, and writes the lines of `vfy`; where they end in `accepted`, it reclaims what lies idle on the volume, as
+/// [`reclaim`] does, writes the line `updated`, and verifies the image again, with the lines of that. The device comes back; to one whose image has
+/// a fault nothing is written.
+///
+/// It answers [`Answer::Fault`] where there is a fault, which there can't be the second time where the device is honest.
+///
+/// # Errors
+///
+/// [`Failure::DeviceFault`] where a transfer failed, [`Failure::NoMemory`] where there was no memory, and
+/// [`Failure::CannotWrite`] where the writer takes no more: then it may hold a part of the lines.
+pub fn print_vfy_update<D: Device, W: Write>(
+    alloc: Global,
+    device: D,
+    writer: &mut W,
+) -> (D, Result<Answer, Failure>)
+    ensures ends { EndsUpdate result.1 (D.disk device) (D.disk result.0) W.contents
+        writer.old writer.new }
+{
+    match verify(alloc, device) {
+        Ok(Report::Accepted(accepted, notes)) => match write_accepted(
+            alloc,
+            writer,
+            System::Files11,
+            &notes,
+        ) {
+            Ok(_) => print_reclaimed(alloc, accepted, writer),
+            Err(failure) => (accepted.device(), Err(failure)),
+        },
+        Ok(Report::Faulty(device, faults, notes)) => {
+            (
+                device,
+                write_faulty(writer, System::Files11, &faults, &notes),
+            )
+        }
+        Err(VfyError::DeviceFault(device)) => (device, Err(Failure::DeviceFault)),
+        Err(VfyError::NoMemory(device)) => (device, Err(Failure::NoMemory)),
+    }
+}
+
+/// Reclaims what lies idle on an accepted volume, and tells of it.
+fn print_reclaimed<D: Device, W: Write>(
+    alloc: Global,
+    accepted: Accepted<D>,
+    writer: &mut W,
+) -> (D, Result<Answer, Failure>)
+    ensures ends { EndsReclaiming result.1 (D.disk (device_of accepted)) (D.disk result.0)
+        W.contents writer.old writer.new }
+{
+    match reclaim(alloc, accepted) {
+        Ok(accepted) => print_again(alloc, accepted.device(), writer),
+        Err(VfyError::DeviceFault(device)) => (device, Err(Failure::DeviceFault)),
+        Err(VfyError::NoMemory(device)) => (device, Err(Failure::NoMemory)),
+    }
+}
+
+/// Writes `updated`, and the lines of `vfy`.
+fn print_again<D: Device, W: Write>(
+    alloc: Global,
+    device: D,
+    writer: &mut W,
+) -> (D, Result<Answer, Failure>)
+    ensures ends { EndsAgain result.1 (D.disk device) (D.disk result.0) W.contents
+        writer.old writer.new }
+{
+    match write_updated(writer) {
+        Ok(()) => print_vfy(alloc, device, writer),
+        Err(_) => (device, Err(Failure::CannotWrite)),
+    }
+}
+
+/// Writes the line `updated`.
+fn write_updated<W: Write>(writer: &mut W) -> io::Result<()>
+    ensures { OnOk result (Takes W.contents writer.old writer.new updated_line) }
+{
+    writeln!(writer, "updated")
+}

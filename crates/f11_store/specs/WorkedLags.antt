@@ -1,0 +1,93 @@
+-- Worked examples of what no request may leave behind, on a small volume.
+use Rattle.std.specs.Prelude.{◌≡◌, ℕ, ◌==◌, ◌&&◌, ◌||◌, nat_lt, Bool, true, false, [], ◌∷◌, Option, Some, None, if◌then◌else◌}
+use Rattle.f11_store.specs.declared.files.Mode.TheVariants as mode
+use Rattle.f11_store.specs.declared.requests.Request.{Request}
+use Rattle.f11_store.specs.declared.requests.Request.TheVariants as request
+use Rattle.f11_store.specs.File.{File}
+use Rattle.f11_store.specs.Store.{Store}
+use Rattle.f11_store.specs.Changes.{new_file, with_delete_mark}
+use Rattle.f11_store.specs.Lags.{Lags, file_goes, work_of}
+use Rattle.f11_store.specs.Worked.{first_user, id, a_txt, corimg, indexf, ident_of, no_attr, empty_attr, full_attr}
+use Rattle.f11_store.specs.Worked.{own_file, own_files, small_volume, create}
+
+-- a file A.TXT;1 with protection 0 and no blocks
+abbrev pub a_file : File
+a_file = new_file 6 1 first_user 0 (ident_of a_txt) no_attr
+
+-- the files with this one under this number
+abbrev pub files_with : ℕ → Option File → (ℕ → Option File) → ℕ → Option File
+files_with k f files = λ n. if n == k then f else files n
+
+-- file 5 with a pointer more
+abbrev pub other_changed : Option File
+other_changed = Some (own_file 5 corimg empty_attr 1 [])
+
+-- the store with another file changed: file 5 has a pointer more
+abbrev pub with_other_changed : Store → Store
+with_other_changed s = record s { file = files_with 5 other_changed s.file }
+
+-- the small volume with A.TXT;1, whose header is slot 6
+abbrev pub volume_with_a : Store
+volume_with_a = record small_volume {
+  file = files_with 6 (Some a_file) own_files;
+  in_use = λ n. nat_lt 0 n && nat_lt n 7;
+  last = λ n. if n == 6 then 1 else small_volume.last n;
+}
+
+-- there is A.TXT;1, and slot 7 is taken besides
+abbrev pub two_headers_taken : Store
+two_headers_taken = record volume_with_a { in_use = λ n. nat_lt 0 n && nat_lt n 8 }
+
+-- the same with A.TXT;1 accessed by task 0 to write
+abbrev pub writing_a : Store
+writing_a = record volume_with_a {
+  access = λ task lun. if (task == 0) && (lun == 0) then Some (record { file = id 6 1; mode = mode.Write }) else None;
+}
+
+-- the small volume with a contiguous index file
+abbrev pub contiguous_index : Store
+contiguous_index = record small_volume {
+  file = files_with 1 (Some (record (own_file 1 indexf (full_attr 19) 1 []) { characteristics = 128 })) own_files;
+}
+
+-- A.TXT;1 marked for delete, which task 0 accesses by two luns, and task 1 by one or not at all
+abbrev pub marked_and_held : Bool → Store
+marked_and_held other = record volume_with_a {
+  file = files_with 6 (Some (with_delete_mark a_file)) own_files;
+  access = λ task lun.
+      if ((task == 0) && nat_lt lun 2) || (other && ((task == 1) && (lun == 0)))
+      then Some (record { file = id 6 1; mode = mode.Read })
+      else None;
+}
+
+-- the store without A.TXT;1
+abbrev pub without_a : Store → Store
+without_a s = record s { file = files_with 6 None s.file }
+
+-- t is none of what the first user's request, as task 0, may leave of s
+abbrev pub IsNoLag : Store → Store → Request → Type 0
+IsNoLag t s r = Lags t s 0 first_user r [] → ⊥
+
+-- Create takes one header and not two
+abbrev pub CreateTakesOneHeader : Type 0
+CreateTakesOneHeader = IsNoLag two_headers_taken small_volume create
+
+-- Extend of 1 takes one block and not two, and changes no other file
+pub record ExtendTakesWhatItAsks : Type 0 where
+  pub blocks : IsNoLag (record writing_a { free = 376 }) writing_a (request.Extend 0 1)
+  pub others : IsNoLag (with_other_changed writing_a) writing_a (request.Extend 0 1)
+
+-- GrowIndex adds no slot before the index file isn't contiguous any more, and changes no other file
+pub record GrowIndexClearsFirst : Type 0 where
+  pub mark : IsNoLag (record contiguous_index { slots = 17 }) contiguous_index (request.GrowIndex 1)
+  pub others : IsNoLag (with_other_changed contiguous_index) contiguous_index (request.GrowIndex 1)
+
+-- Delete changes no other file
+abbrev pub DeleteLeavesOthers : Type 0
+DeleteLeavesOthers = IsNoLag (without_a (with_other_changed volume_with_a)) volume_with_a (request.Delete (id 6 1))
+
+-- Release of a marked file that is held by two luns: it goes once; not where another task accesses it; no other file changes
+pub record ReleaseFreesOnce : Type 0 where
+  pub once : (work_of (marked_and_held false) 0 first_user request.Release []).parts ≡ file_goes 6 ∷ []
+  pub accessed : IsNoLag (without_a (marked_and_held true)) (marked_and_held true) request.Release
+  pub others : IsNoLag (without_a (with_other_changed (marked_and_held false))) (marked_and_held false) request.Release

@@ -1,0 +1,12 @@
+-- What reclaiming a volume does.
+pub mod Unreferenced
+pub mod Told
+pub mod Kill
+pub mod Files
+pub mod Places
+pub mod Orphans
+pub mod Idle
+pub mod Space
+pub mod Course
+pub mod Whole
+pub mod Behind

@@ -1,0 +1,212 @@
+-- Orphans that are killed one after another.
+use Rattle.std.proofs.Common.{◌≡◌, ◌+◌, ◌*◌, ◌≤◌, ℕ, IsTrue, [], List, inl, inr, set, refl, sym, ap, subst, ◌∙◌, arith}
+use Rattle.std.specs.Prelude.{Contains}
+use Rattle.std.proofs.lemmas.Bool.{cases_eq}
+use Rattle.f11_dev.specs.Disk.{Disk}
+use Rattle.f11_dev.specs.Image.{Image}
+use Rattle.f11_dev.specs.Went.{Went}
+use Rattle.f11_dev.proofs.LookedLemmas.{looked_none}
+use Rattle.f11_dev.proofs.WentLemmas.{went_looked, went_more, went_weaker, went_within}
+use Rattle.f11_header.specs.Header.{IsDead, IsHeader}
+use Rattle.f11_header.specs.Writing.{dead_header}
+use Rattle.f11_home.specs.Home.{HomeFields}
+use Rattle.f11_index.specs.Growth.{with_header}
+use Rattle.f11_index.specs.IndexFile.{Index, index_of, slots, header_lbn}
+use Rattle.f11_index.specs.Table.{Table, table_of, IsLive}
+use Rattle.f11_index.proofs.HeadersLemmas.{live-some}
+use Rattle.f11_image_store.specs.SlotLaws.{IsFileless}
+use Rattle.f11_image_store.proofs.ConfinesLemmas.{header-apart, spares-other}
+use Rattle.f11_image_store.proofs.FreeingLemmas.{dead-sequence, orphan-killed, wrote}
+use Rattle.f11_image_store.proofs.InstanceLemmas.{blocks-but}
+use Rattle.f11_map.specs.HeaderBlock.{blocks_named}
+use Rattle.f11_vfy.specs.Chain.{IsFit}
+use Rattle.f11_vfy.specs.Frames.Earlier.{Puts}
+use Rattle.f11_vfy.specs.Reclaiming.Moments.{any_header, IsReclaiming, KeepsPlaces, Moment}
+use Rattle.f11_vfy.specs.Reclaiming.Slots.{Counts, IsOrphan, IsOfOrphan, none, such, other}
+use Rattle.f11_vfy.specs.Reclaiming.Steps.{header_at, HasDead, HasKilled, KillsHeader, FailsToKill, IsShown, HasKilledUpTo, KillsOrphans, FailsToKillOrphans}
+use Rattle.f11_vfy.specs.Scanning.Reading.{ShowsVolume}
+use Rattle.f11_vfy.specs.declared.findings.reading.Reading.{Reading}
+use Rattle.f11_vfy.specs.declared.survey.bits.Bits.{Bits}
+use Rattle.f11_vfy.proofs.Frames.Earlier.{puts-none, puts-then, puts-same}
+use Rattle.f11_vfy.proofs.Reclaiming.Files.{killed-keeps, next-same, next-live, killed-other, killed-more, in-old}
+use Rattle.f11_vfy.proofs.Reclaiming.Places.{places-none, places-then, places-same, reclaiming-then}
+use Rattle.f11_vfy.proofs.Scanning.Reading.{table-slots}
+use Rattle.f11_volume.specs.Space.{storage_bitmap}
+use Rattle.f11_volume.specs.Volume.{Volume, volume_of}
+use Rattle.f11_writes.specs.Kept.{WritesHeader}
+
+-- what a reading tells of each volume that it is of
+shown-is : (P : Table → Type 0) (index : Index) (r : Reading) (home : HomeFields) (image : Image) → IsShown index r home image → ((v : Volume) → ShowsVolume v r → P v.table)
+    → P (table_of image home)
+unfolding volume_of
+shown-is P index r home image shown is = is (volume_of image home) shown.shows
+
+fit-is : (index : Index) (r : Reading) (home : HomeFields) (image : Image) → IsShown index r home image → IsFit (table_of image home)
+fit-is index r home image shown = shown-is IsFit index r home image shown (λ v shows. shows.fit)
+
+-- none so far
+pub orphans-none : (index : Index) (r : Reading) (unreferenced : Bits) (disk : Disk) → KillsOrphans index r 0 unreferenced unreferenced disk disk
+orphans-none index r unreferenced disk = record {
+  kills = λ honest home shown. record {
+    places = places-none home disk.image shown.sound;
+    index = refl;
+    table = record {
+      slots = refl;
+      in_use = refl;
+      killed = λ m within orphan. let some = live-some orphan.live in absurd (omega (arith, within, some));
+      others = λ m some few but. refl;
+    };
+    puts = puts-none (IsOfOrphan (table_of disk.image home) 0) unreferenced (λ lbn of. let some = live-some of.orphan.live in omega (arith, of.within, some));
+  };
+  count = 0;
+  counts = λ honest home shown. none;
+  went = went_within (Moment (IsShown index r) disk) (went_looked (Moment (IsShown index r) disk) (looked_none disk)) (omega arith);
+}
+
+module _ (index : Index) (r : Reading) (k : ℕ) (before mid : Bits) (old now : Disk) (so_far : KillsOrphans index r k before mid old now) (low : k + 1 ≤ slots index) where
+  -- the next header is no orphan
+  pub orphans-other : ((v : Volume) → ShowsVolume v r → ¬ IsOrphan v.table (k + 1)) → KillsOrphans index r (k + 1) before mid old now
+  orphans-other none_here = record {
+    kills = λ honest home shown.
+        let so = so_far.kills honest home shown in
+        let t : Table = table_of old.image home in
+        let here : ¬ IsOrphan t (k + 1) = shown-is (λ u. ¬ IsOrphan u (k + 1)) index r home old.image shown none_here in
+        record {
+          places = so.places;
+          index = so.index;
+          table = killed-other k t (table_of now.image home) (fit-is index r home old.image shown) so.table here;
+          puts = puts-same (IsOfOrphan t k) (IsOfOrphan t (k + 1)) before mid so.puts
+              (λ lbn of. record { header = of.header; within = omega (arith, of.within); orphan = of.orphan; names = of.names })
+              (λ lbn below of. record {
+                header = of.header;
+                within = elim (cases_eq of.header (k + 1)) [
+                  | inl same ↦ absurd (here (subst (IsOrphan t) same of.orphan))
+                  | inr apart ↦ omega (arith, of.within, apart)
+                ];
+                orphan = of.orphan;
+                names = of.names;
+              });
+        };
+    count = so_far.count;
+    counts = λ honest home shown. other k so_far.count (so_far.counts honest home shown) (shown-is (λ u. ¬ IsOrphan u (k + 1)) index r home old.image shown none_here);
+    went = so_far.went;
+  }
+
+  -- or it is one
+  module _ (is_orphan : (v : Volume) → ShowsVolume v r → IsOrphan v.table (k + 1)) where
+    module _ (honest : IsTrue old.honest) (home : HomeFields) (shown : IsShown index r home old.image) where
+      abbrev t : Table
+      t = table_of old.image home
+
+      abbrev u : Table
+      u = table_of now.image home
+
+      orphan : IsOrphan t (k + 1)
+      orphan = shown-is (λ x. IsOrphan x (k + 1)) index r home old.image shown is_orphan
+
+      so : HasKilledUpTo k before mid home old.image now.image
+      so = so_far.kills honest home shown
+
+      fit : IsFit t
+      fit = fit-is index r home old.image shown
+
+      few : k + 1 ≤ t.slots
+      few = let count = ap slots shown.index_is in let same = table-slots old.image (index_of old.image home) in omega (arith, low, count, same)
+
+      still : IsTrue now.honest
+      still = so_far.went.honest ∙ honest
+
+      index-is : index ≡ index_of now.image home
+      index-is = shown.index_is ∙ sym so.index
+
+      header-is : header_at index (k + 1) now.image ≡ u.header (k + 1)
+      header-is = ap (λ (x : Index). header_at x (k + 1) now.image) index-is
+
+      live : IsLive u (k + 1)
+      live = next-live k t u fit so.table few orphan
+
+      valid : IsHeader (header_at index (k + 1) now.image) (k + 1)
+      valid = subst (λ (b : List ℕ). IsHeader b (k + 1)) (sym header-is) live.valid
+
+      fileless : IsFileless u (k + 1)
+      fileless f of = orphan.of_none (in-old t u (killed-keeps k t u fit so.table) (k + 1) (record { file = f; of = of }))
+
+      abbrev block : List ℕ
+      block = dead_header (u.header (k + 1))
+
+      abbrev killed : Image
+      killed = with_header now.image home (k + 1) block
+
+      module _ (dead : IsDead block) where
+        writes : WritesHeader (k + 1) block home now.image killed
+        writes = wrote now.image home (k + 1) so.places.reclaiming.freeing.sound block live fileless dead (dead-sequence (u.header (k + 1)))
+
+        reclaiming : IsReclaiming home now.image killed
+        reclaiming = record {
+          freeing = orphan-killed now.image home (k + 1) so.places.reclaiming.freeing.sound block live fileless dead (dead-sequence (u.header (k + 1)));
+          spares = spares-other any_header (index_of now.image home) (storage_bitmap now.image home) [] now.image (header_lbn (index_of now.image home) (k + 1)) block
+              (λ l none out. header-apart any_header (index_of now.image home) (storage_bitmap now.image home) (k + 1) (header_lbn (index_of now.image home) (k + 1))
+              refl (omega arith) (let count = ap slots index-is in omega (arith, low, count)) refl l none);
+        }
+
+        places : KeepsPlaces home now.image killed
+        places = places-same home now.image killed reclaiming writes.index_file.index writes.slot.bitmap
+
+        more : (after : Bits) → Puts (Contains (blocks_named (header_at index (k + 1) now.image))) mid after → HasKilledUpTo (k + 1) before after home old.image killed
+        more after puts = record {
+          places = places-then home old.image now.image killed so.places places;
+          index = writes.index_file.index ∙ so.index;
+          table = killed-more k t u fit so.table (table_of killed home) block writes.in_use (blocks-but now.image killed home (k + 1) block writes) writes.index_file.header dead orphan;
+          puts =
+              let same : header_at index (k + 1) now.image ≡ t.header (k + 1) = header-is ∙ next-same k t u fit so.table few in
+              puts-then (IsOfOrphan t k) (Contains (blocks_named (header_at index (k + 1) now.image))) (IsOfOrphan t (k + 1)) before mid after so.puts puts
+              (λ lbn of. record { header = of.header; within = omega (arith, of.within); orphan = of.orphan; names = of.names })
+              (λ lbn has. record { header = k + 1; within = omega arith; orphan = orphan; names = subst (λ (b : List ℕ). Contains (blocks_named b) lbn) same has })
+              (λ lbn of. elim (cases_eq of.header (k + 1)) [
+                | inl here ↦ inr (subst (λ (b : List ℕ). Contains (blocks_named b) lbn) (ap t.header here ∙ sym same) of.names)
+                | inr apart ↦ inl (record { header = of.header; within = omega (arith, of.within, apart); orphan = of.orphan; names = of.names })
+              ]);
+        }
+
+      -- an image in which it is dead
+      dead-block : (image : Image) → HasDead index (k + 1) now.image image → IsDead block
+      dead-block image is = subst (λ (b : List ℕ). IsDead (dead_header b)) header-is is.dead
+
+      dead-image : (image : Image) → HasDead index (k + 1) now.image image → image ≡ killed
+      dead-image image is = is.image_is ∙ ap (λ (x : Index). set now.image (header_lbn x (k + 1)) (dead_header (header_at x (k + 1) now.image))) index-is
+
+      stands : (image : Image) → HasKilled index (k + 1) now image → IsReclaiming home old.image image
+      stands image has =
+          let is = has still valid in
+          reclaiming-then home old.image now.image image so.places
+          (subst (IsReclaiming home now.image) (sym (dead-image image is)) (reclaiming (dead-block image is)))
+
+    count-more : (honest : IsTrue old.honest) (home : HomeFields) (shown : IsShown index r home old.image) → Counts (IsOrphan (table_of old.image home)) (k + 1) (so_far.count + 1)
+    count-more honest home shown = such k so_far.count (so_far.counts honest home shown) (orphan honest home shown)
+
+    abbrev P : Image → Type 0
+    P = Moment (IsShown index r) old
+
+    went-on : (new : Disk) (faults : ℕ) → Went (HasKilled index (k + 1) now) now new 2 faults → Went P old new (2 * (so_far.count + 1)) faults
+    went-on new faults went =
+        went_within P (went_more P so_far.went (went_weaker (HasKilled index (k + 1) now) P (λ image has honest home shown. stands honest home shown image has) went)) (omega arith)
+
+    pub orphans-more : (after : Bits) (new : Disk) → KillsHeader index (k + 1) mid after now new → KillsOrphans index r (k + 1) before after old new
+    orphans-more after new did = record {
+      kills = λ honest home shown.
+          let is = did.killed (still honest home shown) (valid honest home shown) in
+          subst (HasKilledUpTo (k + 1) before after home old.image) (sym (dead-image honest home shown new.image is))
+          (more honest home shown (dead-block honest home shown new.image is) after (did.puts (still honest home shown) (valid honest home shown)));
+      count = so_far.count + 1;
+      counts = count-more;
+      went = went-on new 0 did.went;
+    }
+
+    pub orphans-fail : (new : Disk) → FailsToKill index (k + 1) now new → FailsToKillOrphans index r (slots index) old new
+    orphans-fail new fails = record {
+      upto = k + 1;
+      within = low;
+      count = so_far.count + 1;
+      counts = count-more;
+      went = went-on new 1 fails;
+    }

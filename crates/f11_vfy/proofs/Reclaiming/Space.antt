@@ -1,0 +1,151 @@
+-- Blocks that no header names, which become free, a block of the storage bitmap after another.
+use Rattle.std.proofs.Common.{◌≡◌, ◌≢◌, ◌⊎◌, ◌+◌, ◌*◌, ◌/◌, ◌%◌, ◌<◌, ℕ, Bool, true, IsTrue, [], List, length, inl, inr, refl, sym, ap, subst, ◌∙◌, arith}
+use Rattle.std.proofs.lemmas.Bool.{both_ways, cases_eq, cases_lt}
+use Rattle.f11_bits.specs.Bitmap.{Bitmap, is_free, KeepsOthers}
+use Rattle.f11_bits.specs.Replacing.{Replaces, Replacing, ReplacesOnDisk, FailsToReplace}
+use Rattle.f11_bits.proofs.BitmapLemmas.{is_free-past}
+use Rattle.f11_bytes.specs.Bits.{bit}
+use Rattle.f11_dev.specs.Disk.{Disk}
+use Rattle.f11_dev.specs.Image.{Image}
+use Rattle.f11_dev.specs.Went.{Went}
+use Rattle.f11_dev.proofs.LookedLemmas.{looked_none}
+use Rattle.f11_dev.proofs.WentLemmas.{went_looked, went_more, went_weaker, went_within}
+use Rattle.f11_home.specs.Home.{HomeFields}
+use Rattle.f11_index.specs.IndexFile.{index_of}
+use Rattle.f11_index.specs.Table.{Table, table_of}
+use Rattle.f11_image_store.proofs.ConfinesLemmas.{spares-bitmap}
+use Rattle.f11_image_store.proofs.FreeingLemmas.{unnamed-freed}
+use Rattle.f11_vfy.specs.Reclaiming.Moments.{any_header, IsReclaiming, KeepsPlaces, Moment}
+use Rattle.f11_vfy.specs.Reclaiming.Steps.{may_be_free, IsTold, HasFreedUpTo, FreesUnnamed, FailsToFree}
+use Rattle.f11_vfy.specs.declared.survey.bits.Bits.{Bits}
+use Rattle.f11_vfy.proofs.Reclaiming.Places.{places-none, places-then, places-same, reclaiming-then}
+use Rattle.f11_volume.specs.Sound.{HasSoundVolume}
+use Rattle.f11_volume.specs.Space.{storage_bitmap}
+use Rattle.f11_volume.specs.Volume.{volume_of, IsNamed}
+use Rattle.f11_writes.specs.Kept.{KeepsButFree}
+use Rattle.f11_writes.proofs.BitmapLemmas.{bitmap-keeps}
+
+-- the next bit
+pub bit-more : (named unreferenced : Bits) (size i k : ℕ) (before after : List ℕ) (value : Bool)
+    → ((j : ℕ) → j < k → 4096 * i + j < size → bit before j ≡ may_be_free named unreferenced (4096 * i + j))
+    → (4096 * i + k < size → value ≡ may_be_free named unreferenced (4096 * i + k)) → bit after k ≡ value → ((j : ℕ) → j ≢ k → bit after j ≡ bit before j)
+    → (j : ℕ) → j < k + 1 → 4096 * i + j < size → bit after j ≡ may_be_free named unreferenced (4096 * i + j)
+bit-more named unreferenced size i k before after value so_far is here others j below inside = elim (cases_eq j k) [
+  | inl same ↦
+      ap (bit after) same ∙ here ∙ is (omega (arith, inside, same)) ∙ ap (λ (x : ℕ). may_be_free named unreferenced (4096 * i + x)) (sym same)
+  | inr apart ↦ others j apart ∙ so_far j (omega (arith, below, apart)) inside
+]
+
+-- a free block is in the volume
+free-inside : (image : Image) (bitmap : Bitmap) (lbn : ℕ) → is_free image bitmap lbn ≡ true → lbn < bitmap.size
+free-inside image bitmap lbn free = elim (cases_lt lbn bitmap.size) [
+  | inl inside ↦ inside
+  | inr past ↦ absurd (both_ways _ (is_free-past image bitmap lbn past) free)
+]
+
+-- and no header names it
+pub free-unnamed : (image : Image) (home : HomeFields) (lbn : ℕ) → HasSoundVolume image home → is_free image (storage_bitmap image home) lbn ≡ true → ¬ IsNamed (table_of image home) lbn
+unfolding volume_of
+free-unnamed image home lbn sound free named = both_ways _ (sound.sound.taken named.header named.place lbn named.cell) free
+
+-- none so far
+pub space-none : (bitmap : Bitmap) (named unreferenced : Bits) (disk : Disk) → FreesUnnamed bitmap named unreferenced 0 disk disk
+space-none bitmap named unreferenced disk = record {
+  frees = λ honest home told. record { places = places-none home disk.image told.sound; table = refl; free = λ lbn below. absurd (omega (arith, below)) };
+  went = went_within (Moment (IsTold bitmap named unreferenced) disk) (went_looked (Moment (IsTold bitmap named unreferenced) disk) (looked_none disk)) (omega arith);
+}
+
+module _ (bitmap : Bitmap) (named unreferenced : Bits) (i : ℕ) (wanted : List ℕ) (old now : Disk) (so_far : FreesUnnamed bitmap named unreferenced i old now)
+    (wanted_is : (k : ℕ) → k < 4096 → 4096 * i + k < bitmap.size → bit wanted k ≡ may_be_free named unreferenced (4096 * i + k)) where
+  module _ (honest : IsTrue old.honest) (home : HomeFields) (told : IsTold bitmap named unreferenced home old.image) where
+    abbrev t : Table
+    t = table_of old.image home
+
+    so : HasFreedUpTo i bitmap home old.image now.image
+    so = so_far.frees honest home told
+
+    sound : HasSoundVolume now.image home
+    sound = so.places.reclaiming.freeing.sound
+
+    bitmap-is : bitmap ≡ storage_bitmap now.image home
+    bitmap-is = told.bitmap_is ∙ sym so.places.bitmap
+
+    -- whether a block may be free, by its bit
+    wanted-at : (lbn : ℕ) → lbn / 4096 ≡ i → lbn < bitmap.size → bit wanted (lbn % 4096) ≡ may_be_free named unreferenced lbn
+    wanted-at lbn here inside =
+        let number : 4096 * i + lbn % 4096 ≡ lbn = omega (arith, here) in
+        wanted_is (lbn % 4096) (omega arith) (omega (arith, number, inside)) ∙ ap (may_be_free named unreferenced) number
+
+    module _ (image : Image) (is : Replaces bitmap i wanted now.image image) where
+      only : (lbn : ℕ) → is_free image bitmap lbn ≡ true → (is_free now.image bitmap lbn ≡ true) ⊎ (¬ IsNamed (table_of now.image home) lbn)
+      only lbn free = elim (cases_eq (lbn / 4096) i) [
+        | inl here ↦
+            let inside = free-inside image bitmap lbn free in
+            inr (subst (λ (u : Table). ¬ IsNamed u lbn) (sym so.table) ((told.tells lbn inside).0 (sym (wanted-at lbn here inside) ∙ sym (is.here lbn here inside) ∙ free)))
+        | inr apart ↦ inl (sym (is.elsewhere lbn apart) ∙ free)
+      ]
+
+      -- one that no header names is free then
+      here-free : (lbn : ℕ) → lbn / 4096 ≡ i → lbn < bitmap.size → ¬ IsNamed t lbn → is_free image bitmap lbn ≡ true
+      here-free lbn here inside unnamed = is.here lbn here inside ∙ wanted-at lbn here inside ∙ (told.tells lbn inside).1 unnamed
+
+      stays : (lbn : ℕ) → is_free now.image bitmap lbn ≡ true → is_free image bitmap lbn ≡ true
+      stays lbn free = elim (cases_eq (lbn / 4096) i) [
+        | inl here ↦
+            here-free lbn here (free-inside now.image bitmap lbn free)
+            (subst (λ (u : Table). ¬ IsNamed u lbn) so.table (free-unnamed now.image home lbn sound (ap (λ (b : Bitmap). is_free now.image b lbn) (sym bitmap-is) ∙ free)))
+        | inr apart ↦ is.elsewhere lbn apart ∙ free
+      ]
+
+      keeps : KeepsOthers (storage_bitmap now.image home) now.image image
+      keeps = subst (λ (b : Bitmap). KeepsOthers b now.image image) bitmap-is is.keeps
+
+      abbrev Only : Bitmap → Type 0
+      Only b = (lbn : ℕ) → is_free image b lbn ≡ true → (is_free now.image b lbn ≡ true) ⊎ (¬ IsNamed (table_of now.image home) lbn)
+
+      abbrev Stays : Bitmap → Type 0
+      Stays b = (lbn : ℕ) → is_free now.image b lbn ≡ true → is_free image b lbn ≡ true
+
+      kept : KeepsButFree home now.image image
+      kept = bitmap-keeps now.image image home sound keeps (subst Only bitmap-is only)
+
+      reclaiming : IsReclaiming home now.image image
+      reclaiming = record {
+        freeing = unnamed-freed now.image image home sound keeps (subst Only bitmap-is only) (subst Stays bitmap-is stays);
+        spares = spares-bitmap any_header (index_of now.image home) (storage_bitmap now.image home) [] now.image image keeps;
+      }
+
+      places : KeepsPlaces home now.image image
+      places = places-same home now.image image reclaiming kept.index_file.index kept.bitmap
+
+      stands : IsReclaiming home old.image image
+      stands = reclaiming-then home old.image now.image image so.places reclaiming
+
+      more : HasFreedUpTo (i + 1) bitmap home old.image image
+      more = record {
+        places = places-then home old.image now.image image so.places places;
+        table = kept.index_file.table ∙ so.table;
+        free = λ lbn below inside unnamed. elim (cases_eq (lbn / 4096) i) [
+          | inl here ↦ here-free lbn here inside unnamed
+          | inr apart ↦ is.elsewhere lbn apart ∙ so.free lbn (omega (arith, below, apart)) inside unnamed
+        ];
+      }
+
+  abbrev P : Image → Type 0
+  P = Moment (IsTold bitmap named unreferenced) old
+
+  went-on : (new : Disk) (faults : ℕ) → Went (Replacing now.honest bitmap i wanted now.image) now new 2 faults → Went P old new (2 * (i + 1)) faults
+  went-on new faults went =
+      went_within P
+      (went_more P so_far.went
+      (went_weaker (Replacing now.honest bitmap i wanted now.image) P (λ image has honest home told. stands honest home told image (has.replaces (so_far.went.honest ∙ honest))) went))
+      (omega arith)
+
+  pub space-more : (new : Disk) → ReplacesOnDisk bitmap i wanted now new → FreesUnnamed bitmap named unreferenced (i + 1) old new
+  space-more new did = record {
+    frees = λ honest home told. more honest home told new.image (did.replaces (so_far.went.honest ∙ honest));
+    went = went-on new 0 did.went;
+  }
+
+  pub space-fail : i < length bitmap.places → (new : Disk) → FailsToReplace bitmap i wanted now new → FailsToFree bitmap named unreferenced old new
+  space-fail few new fails = went_within P (went-on new 1 fails) (omega (arith, few))

@@ -1,0 +1,18 @@
+use Rattle.std.proofs.Common.{arith}
+use Rattle.f11_bytes.proofs.ResultLemmas.{OnErr-given}
+use Rattle.f11_vfy.specs.Scanning.Reading.{bitmap_at}
+use Rattle.f11_vfy.proofs.Reclaiming.Space.{space-none, space-more, space-fail}
+use Rattle.f11_vfy.proofs.reclaimer.space.free_unnamed.Goals as goal
+
+pub loop-i-init : goal.loop-i-init
+loop-i-init g c = space-none (bitmap_at c.args.places.now c.args.size) _ _ _
+
+pub returns-in_err-replace_free-clause-failed : goal.returns-in_err-replace_free-clause-failed
+returns-in_err-replace_free-clause-failed g c =
+    OnErr-given _
+    (space-fail (bitmap_at c.args.places.now c.args.size) _ _ c.loop-i.i _ _ _ c.loop-i.invariant c.wanted_bits-wanted.ensures (omega (arith, c.loop-i-test.true, c.loop-i.auto.i-end)) _
+    c.in_err-replace_free.ensures.failed)
+
+pub loop-i-preserved : goal.loop-i-preserved
+loop-i-preserved g c =
+    space-more (bitmap_at c.args.places.now c.args.size) _ _ c.loop-i.i _ _ _ c.loop-i.invariant c.wanted_bits-wanted.ensures _ c.in_ok-replace_free.ensures.replaced

@@ -1,0 +1,139 @@
+-- The three parts of reclaiming (profile): orphans are killed, idle slots leave use, and blocks that no header names become free.
+use Rattle.std.specs.Prelude.{◌≡◌, ◌↔◌, ℕ, ◌*◌, ◌<◌, ◌≤◌, ◌||◌, Bool, true, not, IsTrue, List, Contains, length, slice_set}
+use Rattle.f11_bits.specs.Bitmap.{Bitmap, is_free}
+use Rattle.f11_dev.specs.Disk.{Disk}
+use Rattle.f11_dev.specs.Image.{Image}
+use Rattle.f11_dev.specs.Went.{Went}
+use Rattle.f11_header.specs.Header.{IsDead, IsHeader}
+use Rattle.f11_header.specs.Writing.{dead_header}
+use Rattle.f11_home.specs.Home.{HomeFields}
+use Rattle.f11_map.specs.HeaderBlock.{blocks_named}
+use Rattle.f11_index.specs.Headers.{IsInFile}
+use Rattle.f11_index.specs.IndexFile.{Index, index_of, header_lbn}
+use Rattle.f11_index.specs.Table.{table_in, table_of}
+use Rattle.f11_vfy.specs.Frames.Earlier.{Puts}
+use Rattle.f11_vfy.specs.Reclaiming.Moments.{KeepsPlaces, Where, Moment}
+use Rattle.f11_vfy.specs.Reclaiming.Slots.{Counts, IsOrphan, IsIdle, IsOfOrphan, KillsUpTo, ClearsUpTo}
+use Rattle.f11_vfy.specs.Scanning.Reading.{ShowsVolume}
+use Rattle.f11_vfy.specs.Surveying.Bits.{has}
+use Rattle.f11_vfy.specs.declared.findings.reading.Reading.{Reading}
+use Rattle.f11_vfy.specs.declared.survey.bits.Bits.{Bits}
+use Rattle.f11_volume.specs.Sound.{HasSoundVolume}
+use Rattle.f11_volume.specs.Space.{storage_bitmap}
+use Rattle.f11_volume.specs.Volume.{volume_of, IsNamed}
+
+-- header n of an image whose index file this is
+abbrev pub header_at : Index → ℕ → Image → List ℕ
+header_at index n image = (table_in image index).header n
+
+-- the image in which that one is dead
+abbrev pub with_dead : Index → ℕ → Image → Image
+with_dead index n image = slice_set image (header_lbn index n) (dead_header (header_at index n image))
+
+-- an image is that one
+pub record HasDead (index : Index) (n : ℕ) (old image : Image) : Type 0 where
+  pub dead : IsDead (dead_header (header_at index n old))
+  pub image_is : image ≡ with_dead index n old
+
+-- Header n was killed, where it is valid and the disk is honest.
+abbrev pub HasKilled : Index → ℕ → Disk → Image → Type 0
+HasKilled index n old image = IsTrue old.honest → IsHeader (header_at index n old.image) n → HasDead index n old.image image
+
+-- Header n was read and killed, and the blocks that it named were put into a set.
+pub record KillsHeader (index : Index) (n : ℕ) (before after : Bits) (old new : Disk) : Type 0 where
+  pub killed : HasKilled index n old new.image
+  pub puts : IsTrue old.honest → IsHeader (header_at index n old.image) n →
+      Puts (Contains (blocks_named (header_at index n old.image))) before after
+  pub went : Went (HasKilled index n old) old new 2 0
+
+-- A transfer failed.
+abbrev pub FailsToKill : Index → ℕ → Disk → Disk → Type 0
+FailsToKill index n old new = Went (HasKilled index n old) old new 2 1
+
+-- A volume is sound, and this is its index file and a reading of it.
+pub record IsShown (index : Index) (r : Reading) (home : HomeFields) (image : Image) : Type 0 where
+  pub sound : HasSoundVolume image home
+  pub index_is : index ≡ index_of image home
+  pub shows : ShowsVolume (volume_of image home) r
+
+-- the orphans among headers 1 to n were killed
+pub record HasKilledUpTo (n : ℕ) (before after : Bits) (home : HomeFields) (old new : Image) : Type 0 where
+  pub places : KeepsPlaces home old new
+  pub index : index_of new home ≡ index_of old home
+  pub table : KillsUpTo n (table_of old home) (table_of new home)
+  pub puts : Puts (IsOfOrphan (table_of old home) n) before after
+
+-- The orphans among headers 1 to n were killed, in order, each by a read and a write.
+pub record KillsOrphans (index : Index) (r : Reading) (n : ℕ) (before after : Bits) (old new : Disk) : Type 0 where
+  pub kills : Where (IsShown index r) old (λ home. HasKilledUpTo n before after home old.image new.image)
+  pub count : ℕ
+  pub counts : Where (IsShown index r) old (λ home. Counts (IsOrphan (table_of old.image home)) n count)
+  pub went : Went (Moment (IsShown index r) old) old new (2 * count) 0
+
+-- A transfer failed, at one among the first so many.
+pub record FailsToKillOrphans (index : Index) (r : Reading) (slots : ℕ) (old new : Disk) : Type 0 where
+  pub upto : ℕ
+  pub within : upto ≤ slots
+  pub count : ℕ
+  pub counts : Where (IsShown index r) old (λ home. Counts (IsOrphan (table_of old.image home)) upto count)
+  pub went : Went (Moment (IsShown index r) old) old new (2 * count) 1
+
+-- A volume without orphans is sound, this is its index file, and a reading tells which headers are those of files.
+pub record IsSwept (index : Index) (r : Reading) (home : HomeFields) (image : Image) : Type 0 where
+  pub sound : HasSoundVolume image home
+  pub index_is : index ≡ index_of image home
+  pub tells : (n : ℕ) → has r.chains.in_file n ≡ true ↔ IsInFile (table_of image home) n
+  pub no_orphan : (n : ℕ) → ¬ IsOrphan (table_of image home) n
+
+-- two index files are at the same places
+pub record SamePlaces (old new : Index) : Type 0 where
+  pub headers : new.headers ≡ old.headers
+  pub bitmap_lbn : new.bitmap_lbn ≡ old.bitmap_lbn
+  pub blocks : length new.bitmap ≡ length old.bitmap
+
+-- the idle ones of slots 1 to n left use, so that the index file says this
+pub record HasClearedUpTo (n : ℕ) (after : Index) (home : HomeFields) (old new : Image) : Type 0 where
+  pub places : KeepsPlaces home old new
+  pub index_is : after ≡ index_of new home
+  pub table : ClearsUpTo n (table_of old home) (table_of new home)
+
+-- The idle ones of slots 1 to n left use, in order, each by a write.
+pub record ClearsIdle (index : Index) (r : Reading) (n : ℕ) (after : Index) (old new : Disk) : Type 0 where
+  pub same : SamePlaces index after
+  pub clears : Where (IsSwept index r) old (λ home. HasClearedUpTo n after home old.image new.image)
+  pub count : ℕ
+  pub counts : Where (IsSwept index r) old (λ home. Counts (IsIdle (table_of old.image home)) n count)
+  pub went : Went (Moment (IsSwept index r) old) old new count 0
+
+-- A transfer failed, at one among the first so many.
+pub record FailsToClear (index : Index) (r : Reading) (slots : ℕ) (old new : Disk) : Type 0 where
+  pub upto : ℕ
+  pub within : upto ≤ slots
+  pub count : ℕ
+  pub counts : Where (IsSwept index r) old (λ home. Counts (IsIdle (table_of old.image home)) upto count)
+  pub went : Went (Moment (IsSwept index r) old) old new count 1
+
+-- block lbn may become free: it isn't among those named, or it is unreferenced
+abbrev pub may_be_free : Bits → Bits → ℕ → Bool
+may_be_free named unreferenced lbn = not (has named lbn) || has unreferenced lbn
+
+-- A volume is sound, this is its storage bitmap, and two sets tell which blocks no header names.
+pub record IsTold (bitmap : Bitmap) (named unreferenced : Bits) (home : HomeFields) (image : Image) : Type 0 where
+  pub sound : HasSoundVolume image home
+  pub bitmap_is : bitmap ≡ storage_bitmap image home
+  pub tells : (lbn : ℕ) → lbn < bitmap.size → may_be_free named unreferenced lbn ≡ true ↔ (¬ IsNamed (table_of image home) lbn)
+
+-- each block that no header names is free, of those whose bits are in the first so many bitmap blocks
+pub record HasFreedUpTo (n : ℕ) (bitmap : Bitmap) (home : HomeFields) (old new : Image) : Type 0 where
+  pub places : KeepsPlaces home old new
+  pub table : table_of new home ≡ table_of old home
+  pub free : (lbn : ℕ) → lbn < 4096 * n → lbn < bitmap.size → ¬ IsNamed (table_of old home) lbn → is_free new bitmap lbn ≡ true
+
+-- Each block that no header names became free, of those whose bits are in the first so many bitmap blocks, each read once and written at most once.
+pub record FreesUnnamed (bitmap : Bitmap) (named unreferenced : Bits) (n : ℕ) (old new : Disk) : Type 0 where
+  pub frees : Where (IsTold bitmap named unreferenced) old (λ home. HasFreedUpTo n bitmap home old.image new.image)
+  pub went : Went (Moment (IsTold bitmap named unreferenced) old) old new (2 * n) 0
+
+-- A transfer failed.
+abbrev pub FailsToFree : Bitmap → Bits → Bits → Disk → Disk → Type 0
+FailsToFree bitmap named unreferenced old new = Went (Moment (IsTold bitmap named unreferenced) old) old new (2 * length bitmap.places) 1

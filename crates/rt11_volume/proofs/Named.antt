@@ -1,0 +1,4 @@
+pub mod Placing
+pub mod Changing
+pub mod Ascending
+pub mod Laws

@@ -1,0 +1,66 @@
+-- Laws of what the calls make of a store's files, for whoever keeps files on an RT-11 volume (profile).
+use Rattle.std.specs.Prelude.{◌≡◌, ℕ, ◌<◌, false, List, [], ◌∷◌, length, slice_set}
+use Rattle.f11_dev.specs.Image.{Image}
+use Rattle.rt11_volume.specs.Entry.{is_same_name}
+use Rattle.rt11_volume.specs.Files.{HasFile, HasNoFile, file_area, CreatesFile, WritesBlock, DeletesFile}
+use Rattle.rt11_volume.specs.Named.{files_named}
+use Rattle.rt11_volume.specs.RtName.{IsRtName}
+use Rattle.rt11_volume.specs.Store.{RtStore, Area, rt_store_of}
+use Rattle.rt11_volume.specs.Verifying.Verdict.{IsRtAccepted}
+
+-- the files of every other name are as they were
+abbrev pub KeepsOtherNames : List ℕ → RtStore → RtStore → Type 0
+KeepsOtherNames name old new = (other : List ℕ) → is_same_name name other ≡ false → files_named other new ≡ files_named other old
+
+-- The first file of the name is this one.
+pub record IsFirstNamed (name : List ℕ) (store : RtStore) (file : Area) : Type 0 where
+  pub more : List Area
+  pub named : files_named name store ≡ file ∷ more
+
+-- A file was made of so many blocks, the only one of its name.
+pub record HasMade (name : List ℕ) (blocks day : ℕ) (old new : RtStore) : Type 0 where
+  pub file : Area
+  pub none : files_named name old ≡ []
+  pub one : files_named name new ≡ file ∷ []
+  pub blocks_are : length file.contents ≡ blocks
+  pub date_is : file.date ≡ day
+  pub unprotected : file.protected ≡ false
+  pub others : KeepsOtherNames name old new
+
+-- A block of the file was replaced, and nothing else.
+pub record HasReplaced (name : List ℕ) (place : ℕ) (block : List ℕ) (old new : RtStore) : Type 0 where
+  pub file : Area
+  pub more : List Area
+  pub was : files_named name old ≡ file ∷ more
+  pub inside : place < length file.contents
+  pub is : files_named name new ≡ record file { contents = slice_set file.contents place block } ∷ more
+  pub others : KeepsOtherNames name old new
+
+-- The file is gone, and nothing else.
+pub record HasGone (name : List ℕ) (old new : RtStore) : Type 0 where
+  pub file : Area
+  pub was : files_named name old ≡ file ∷ files_named name new
+  pub others : KeepsOtherNames name old new
+
+-- the file of a name is the first of those with it, and where there is none, there are none
+abbrev pub FileIsFirst : Type 0
+FileIsFirst = (name : List ℕ) (store : RtStore) (file : HasFile name store) → IsFirstNamed name store (file_area file)
+
+abbrev pub NoFileIsNone : Type 0
+NoFileIsNone = (name : List ℕ) (store : RtStore) → HasNoFile name store → files_named name store ≡ []
+
+-- what create makes
+abbrev pub CreatedIsMade : Type 0
+CreatedIsMade =
+    (name : List ℕ) (blocks day : ℕ) (old new : Image) → IsRtName name → CreatesFile name blocks day old new →
+    HasMade name blocks day (rt_store_of old) (rt_store_of new)
+
+-- what write replaces
+abbrev pub WrittenIsReplaced : Type 0
+WrittenIsReplaced =
+    (name : List ℕ) (place : ℕ) (block : List ℕ) (old new : Image) → IsRtAccepted old → WritesBlock name place block old new →
+    HasReplaced name place block (rt_store_of old) (rt_store_of new)
+
+-- what delete takes away
+abbrev pub DeletedIsGone : Type 0
+DeletedIsGone = (name : List ℕ) (old new : Image) → DeletesFile name old new → HasGone name (rt_store_of old) (rt_store_of new)
