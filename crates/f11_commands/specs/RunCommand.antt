@@ -18,8 +18,9 @@ use Rattle.f11_commands.specs.declared.run.RunFailure.TheVariants.{Command, Scri
 use Rattle.f11_volume.specs.Verdict.{IsAccepted}
 use Rattle.f11_vfy.specs.Verify.{Examines}
 
--- A script was served on an image. Where the disk is honest the image is accepted then; and where no transfer failed, it was served by steps of
--- the plain store, from that of the image, in which nobody holds an access, to that of the image then, with what tasks held at the end.
+-- A script was served on an image. Where the disk is honest the image is accepted then; and where no transfer failed, it was served by
+-- steps of the plain store, from that of the image, in which nobody holds an access, to that of the image then, with what tasks held at
+-- the end.
 pub record ServesImage {W : Type 0} (result : Result ℕ ScriptError) (remaining : Option (List ℕ)) (old new : Disk)
     (contents : W → Option (List ℕ)) (before after : W) : Type 0 where
   pub home : HomeFields
@@ -36,8 +37,8 @@ pub record WritesNothing {W : Type 0} (old new : Disk) (contents : W → Option 
   pub history : new.history ≡ old.history
   pub written : Keeps (contents before) (contents after)
 
--- what is told of an accepted image: the script was served, or it was to where it, or its answers, went no further, and no transfer failed; or one
--- failed on an honest disk, before the script was served or while it was; or there was no memory for the volume
+-- what is told of an accepted image: the script was served, or it was to where it, or its answers, went no further, and no transfer
+-- failed; or one failed on an honest disk, before the script was served or while it was; or there was no memory for the volume
 abbrev pub EndsServing : {W : Type 0} → Result Answer RunFailure → Option (List ℕ) → Disk → Disk → (W → Option (List ℕ)) → W → W → Type 0
 EndsServing (Ok Done) remaining old new contents before after =
     (count : ℕ) × ServesImage (Ok count) remaining old new contents before after × (new.failures ≡ old.failures)

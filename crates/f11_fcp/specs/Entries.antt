@@ -89,8 +89,8 @@ pub record IsTailOf (tail : Tail) (s : Store) (d : FileId) : Type 0 where
 abbrev pub move_at : Tail → FileId → Store → File → File
 move_at tail d s = end_put (file_named s d) (place_of tail.spot)
 
--- What stands while a record is put behind the last one: the volume is sound, and the store lags the one before by the write of the block, or
--- the one with the record by the write of the header.
+-- What stands while a record is put behind the last one: the volume is sound, and the store lags the one before by the write of the
+-- block, or the one with the record by the write of the header.
 pub data IsAppending (home : HomeFields) (d : FileId) (tail : Tail) (r : List ℕ) (old image : Image) : Type 0 where
   putting : HasSoundVolume image home → LagsBy (put_work d tail.spot r) (store_of image home) (store_of old home) →
       IsAppending home d tail r old image

@@ -61,8 +61,8 @@ is_failed e = refusal_number e == 1
 abbrev pub is_damage : Refusal → Bool
 is_damage e = refusal_number e == 20
 
--- what may be answered for a cause: the request's own causes, for Enter those against one block more of the directory too, and want of memory where the
--- index file grows
+-- what may be answered for a cause: the request's own causes, for Enter those against one block more of the directory too, and want of
+-- memory where the index file grows
 abbrev pub own_causes : Store → ℕ → Uic → Request → List Cause
 own_causes s task caller (request.Enter d name id) = causes_of s task caller (request.Enter d name id) ++ growth_causes s (file_named s d) 1
 own_causes s task caller (request.GrowIndex n) = causes_of s task caller (request.GrowIndex n) ++ (NoMemory ⇐ true) ∷ []
@@ -75,9 +75,9 @@ pub record IsLeft (old : State) (block : List ℕ) (new : State) (block' : List 
   pub counts : new.counts ≡ old.counts
   pub lent : block' ≡ block
 
--- A request was handled. On an honest disk it was a step of the plain store, and no structural fault was met; each image that stood meanwhile is
--- sound, and lags. Its transfers are within its cost, and of them none failed but where that is the answer. A refusal for a cause is for one of the
--- request's own, and leaves all.
+-- A request was handled. On an honest disk it was a step of the plain store, and no structural fault was met; each image that stood
+-- meanwhile is sound, and lags. Its transfers are within its cost, and of them none failed but where that is the answer. A refusal for
+-- a cause is for one of the request's own, and leaves all.
 pub record Handles (task : ℕ) (caller : Uic) (r : Request) (result : Result Reply Refusal) (old : State)
     (block : List ℕ) (new : State) (block' : List ℕ) : Type 0 where
   pub step : IsTrue old.disk.honest → is_refused is_fatal result ≡ false →

@@ -36,8 +36,8 @@ pub record Measures (task lun : ℕ) (result : Result ℕ Refusal) (old new : St
   pub counts : new.counts ≡ old.counts
   pub home : new.home ≡ old.home
 
--- A volume was asked. Once a request has failed it the answer is VolumeFailed, and nothing is done; else the blocks are counted. It fails the volume
--- where it is answered DeviceFault or Damaged, and no other way.
+-- A volume was asked. Once a request has failed it the answer is VolumeFailed, and nothing is done; else the blocks are counted. It
+-- fails the volume where it is answered DeviceFault or Damaged, and no other way.
 pub record AnswersLength {D : Type 0} {met : Ghosts D} (task lun : ℕ) (result : Result ℕ Refusal) (old new : Volume D met) : Type 0 where
   pub refused : is_spent old ≡ true → IsErrOf result VolumeFailed
   pub untouched : is_spent old ≡ true → state_in new ≡ state_in old

@@ -18,7 +18,7 @@ use Rattle.f11_volume.specs.Sound.{HasSoundVolume}
 use Rattle.f11_volume.specs.Volume.{Volume}
 use Rattle.f11_writes.specs.Kept.{KeepsVolume}
 use Rattle.f11_files.specs.Answers.{ReadsAtMost, WritesAtMost, FailsToRead, FailsToWrite, IsRight, IsUnderWay, Meanwhile, is_fatal, faults_of}
-use Rattle.f11_files.specs.Structure.{home_of, Lies, IsStructureOf, IsStructureFor, StaysFor}
+use Rattle.f11_files.specs.Structure.{home_of, FitsOn, IsStructureOf, IsStructureFor, StaysFor}
 use Rattle.f11_files.specs.declared.structure.Structure.{Structure}
 use Rattle.f11_image_store.proofs.StoreLemmas.{free-count}
 
@@ -52,7 +52,7 @@ pub served-stays : (s : Structure) (work : Work) (old new : Disk) {most faults :
     → (IsTrue old.honest → IsStructureOf s new.image) → StaysFor failed s s new
 served-stays s work old new failed for went keeps = record {
   home = refl;
-  lies = λ _. subst (λ (n : ℕ). Lies s n) (sym went.size) for.lies;
+  lies = λ _. subst (λ (n : ℕ). FitsOn s n) (sym went.size) for.lies;
   sound = sound-went work (home_of s) old new for.sound went;
   keeps = λ _ honest. keeps (sym went.honest ∙ honest);
 }
@@ -61,7 +61,7 @@ served-stays s work old new failed for went keeps = record {
 pub looked-stays : (s : Structure) (failed : Bool) (old new : Disk) {most faults : ℕ} → IsStructureFor s old → Looked old new most faults → StaysFor failed s s new
 looked-stays s failed old new for looked = record {
   home = refl;
-  lies = λ _. subst (λ (i : Image). Lies s (length i)) (sym looked.image) for.lies;
+  lies = λ _. subst (λ (i : Image). FitsOn s (length i)) (sym looked.image) for.lies;
   sound = λ honest. subst (λ (i : Image). HasSoundVolume i (home_of s)) (sym looked.image) (for.sound (sym looked.honest ∙ honest));
   keeps = λ _ honest. subst (IsStructureOf s) (sym looked.image) (for.keeps (sym looked.honest ∙ honest));
 }

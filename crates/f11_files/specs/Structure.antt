@@ -34,7 +34,7 @@ abbrev pub counts_of : Structure → ℕ × ℕ × ℕ
 counts_of s = (count_of s.storage, length (free_slots_in (index_in s)), slots (index_in s))
 
 -- They are on a device of so many blocks.
-pub record Lies (s : Structure) (blocks : ℕ) : Type 0 where
+pub record FitsOn (s : Structure) (blocks : ℕ) : Type 0 where
   pub index : IndexLiesWithin (index_in s) blocks
   pub bitmap : BitmapLiesWithin (bitmap_in s) blocks
   pub volume : (bitmap_in s).size ≤ blocks
@@ -51,7 +51,7 @@ HasNoOtherHome image home = (other : HomeFields) → IsHomeOf image other → ot
 
 -- It is for this disk: it lies there, and where the disk is honest the volume is sound, and this is its structure.
 pub record IsStructureFor (s : Structure) (disk : Disk) : Type 0 where
-  pub lies : Lies s (length disk.image)
+  pub lies : FitsOn s (length disk.image)
   pub sound : IsTrue disk.honest → HasSoundVolume disk.image (home_of s)
   pub keeps : IsTrue disk.honest → IsStructureOf s disk.image
 
@@ -59,7 +59,7 @@ pub record IsStructureFor (s : Structure) (disk : Disk) : Type 0 where
 -- is sound even so. Of what is kept nothing more is known once a call has failed.
 pub record StaysFor (failed : Bool) (old new : Structure) (disk : Disk) : Type 0 where
   pub home : home_of new ≡ home_of old
-  pub lies : failed ≡ false → Lies new (length disk.image)
+  pub lies : failed ≡ false → FitsOn new (length disk.image)
   pub sound : IsTrue disk.honest → HasSoundVolume disk.image (home_of new)
   pub keeps : failed ≡ false → IsTrue disk.honest → IsStructureOf new disk.image
 

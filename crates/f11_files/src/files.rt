@@ -1,6 +1,6 @@
 //! The files of a volume.
 ghost use Rattle.std.specs.Prelude.{◌≡◌, false, length, IsTrue};
-ghost use Rattle.f11_files.specs.Structure.{home_of, Lies, IsStructureOf, HasNoOtherHome};
+ghost use Rattle.f11_files.specs.Structure.{home_of, FitsOn, IsStructureOf, HasNoOtherHome};
 ghost use Rattle.f11_volume.specs.Verdict.{IsAccepted};
 
 use crate::structure::Structure;
@@ -17,7 +17,7 @@ pub struct Files<D: Device> {
     /// Whether a call has answered `DeviceFault` or `Damaged`.
     pub(crate) failed: bool,
     /// While no call has failed, what is kept lies on the device.
-    pub ghost lies: { failed ≡ false → Lies structure (length (D.disk device).image) },
+    pub ghost lies: { failed ≡ false → FitsOn structure (length (D.disk device).image) },
     /// The image has no fault where the device is honest,
     pub ghost accepted: { IsTrue (D.disk device).honest → IsAccepted (D.disk device).image },
     /// and its home block is the one that is kept.

@@ -8,8 +8,8 @@ use Rattle.f11_flx.specs.Spelled.{image_attributes, image_of, longest_of, text_a
 use Rattle.f11_flx.specs.declared.mode.CopyMode.{CopyMode}
 use Rattle.f11_flx.specs.declared.mode.CopyMode.TheVariants.{Image, Text}
 
--- the content of a copy on an RT-11 volume: the file's blocks up to its end, or the text of its records with zeros to the end of a block; none where
--- the records can't be read
+-- the content of a copy on an RT-11 volume: the file's blocks up to its end, or the text of its records with zeros to the end of a
+-- block; none where the records can't be read
 abbrev pub copied_to_rt : CopyMode → File → Option (List ℕ)
 copied_to_rt Image file = Some (concat (image_of file))
 copied_to_rt Text file = option_map (λ records. in_whole_blocks (text_of records)) (records_of file)

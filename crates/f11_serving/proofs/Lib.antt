@@ -1,5 +1,6 @@
 -- Lemmas of scripts that are served.
 pub mod ServedLemmas
+pub mod PartLemmas
 pub mod RunLemmas
 pub mod ScriptLemmas
 pub mod VolumeLemmas

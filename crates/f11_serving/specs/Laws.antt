@@ -14,6 +14,26 @@ PartsAreServed {V = V} S =
     ServesLines S front old block text count between b → ServesLines S rest between b more others new block' →
     ServesLines S (front ++ rest) old block (text ++ more) (count + others) new block'
 
+-- Lines are served in two parts: the front, and then the rest.
+pub record ServesInParts {V : Type 0} (S : Service V) (front rest : List (List ℕ)) (old : V) (block text : List ℕ) (count : ℕ)
+    (new : V) (block' : List ℕ) : Type 0 where
+  pub between : V
+  pub lent : List ℕ
+  pub text_before : List ℕ
+  pub text_behind : List ℕ
+  pub asked_before : ℕ
+  pub asked_behind : ℕ
+  pub before : ServesLines S front old block text_before asked_before between lent
+  pub behind : ServesLines S rest between lent text_behind asked_behind new block'
+  pub text_is : text ≡ text_before ++ text_behind
+  pub count_is : count ≡ asked_before + asked_behind
+
+-- lines that are served are served in two parts, wherever they are parted
+abbrev pub ServedIsInParts : {V : Type 0} → Service V → Type 0
+ServedIsInParts {V = V} S =
+    (front rest : List (List ℕ)) (old new : V) (block block' text : List ℕ) (count : ℕ) →
+    ServesLines S (front ++ rest) old block text count new block' → ServesInParts S front rest old block text count new block'
+
 -- as many requests were served as the lines have, whatever they were answered
 abbrev pub CountIsOfRequests : {V : Type 0} → Service V → Type 0
 CountIsOfRequests {V = V} S =

@@ -5,9 +5,11 @@ ghost use Rattle.f11_serving.specs.Laws as laws;
 
 use crate::serves::Serves;
 
-/// A script is served as its front is and then what is behind it: so one of a line more is that of the front and that line.
+/// A script is served as its front is and then what is behind it, wherever it is parted: so one of a line more is that of the
+/// front and that line.
 pub fn parts<S: Serves>()
-    ensures { laws.PartsAreServed S.served }
+    ensures joined { laws.PartsAreServed S.served }
+    ensures parted { laws.ServedIsInParts S.served }
 {}
 
 /// The number that a served script gives is the number of its requests.

@@ -45,7 +45,8 @@ pub record ExaminesVolume (index : Index) (bitmap : Bitmap) (faults notes : List
   pub notes_are : IsTrue old.honest → IsExactly (IsVolumeNote old.image (volume_in old.image index bitmap)) notes
   pub looked : LooksOverVolume index bitmap old new 0
 
--- An image was looked over. Of one with a fault of its frame no more was read than the frame, of any other no more than that and its volume.
+-- An image was looked over. Of one with a fault of its frame no more was read than the frame, of any other no more than that and its
+-- volume.
 pub record LooksOver (old new : Disk) (faults : ℕ) : Type 0 where
   pub reads : ℕ
   pub looked : Looked old new reads faults

@@ -1,4 +1,5 @@
--- The files of an RT-11 volume by their names (RT-11 Volume and File Formats Manual, "Directory Structure"; profile: a name means the first).
+-- The files of an RT-11 volume by their names (RT-11 Volume and File Formats Manual, "Directory Structure"; profile: a name means the
+-- first).
 use Rattle.std.specs.Prelude.{ℕ, ◌+◌, List, [], ◌∷◌, map, filter, flat_map}
 use Rattle.std.specs.List.{range_with_len}
 use Rattle.rt11_volume.specs.Entry.{kind, name_words, area_length, date, is_protected, is_file_named}

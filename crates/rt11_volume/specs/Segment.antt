@@ -5,7 +5,8 @@ use Rattle.f11_bytes.specs.Words.{word}
 use Rattle.f11_dev.specs.Image.{Image, image_block}
 use Rattle.rt11_volume.specs.Entry.{entry_size, status, area_length, is_end}
 
--- the first of the two blocks of segment k, from 1: segment 1 is in blocks 6 and 7 (profile: it always is), and each other one in the next two
+-- the first of the two blocks of segment k, from 1: segment 1 is in blocks 6 and 7 (profile: it always is), and each other one in the
+-- next two
 abbrev pub segment_lbn : ℕ → ℕ
 segment_lbn k = 4 + 2 * k
 

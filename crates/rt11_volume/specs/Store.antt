@@ -1,5 +1,5 @@
--- What an RT-11 volume keeps: its segments in link order, each a list of areas, and the contents of the areas (RT-11 Volume and File Formats
--- Manual, "Directory Structure").
+-- What an RT-11 volume keeps: its segments in link order, each a list of areas, and the contents of the areas (RT-11 Volume and File
+-- Formats Manual, "Directory Structure").
 use Rattle.std.specs.Prelude.{ℕ, Bool, if◌then◌else◌, nat_le, List, [], length, map, slice_index_or}
 use Rattle.std.specs.List.{flat_map, range_with_len}
 use Rattle.f11_dev.specs.Image.{Image, image_block}

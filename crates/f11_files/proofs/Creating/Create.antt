@@ -35,7 +35,7 @@ use Rattle.f11_image_store.specs.NewFileLaws.{IsNewFirst, WritesNewFirst, Enters
 use Rattle.f11_files.specs.Operations.{create_causes}
 use Rattle.f11_image_store.specs.SlotLaws.{with_last}
 use Rattle.f11_image_store.specs.StoreOf.{store_of}
-use Rattle.f11_files.specs.Structure.{index_in, bitmap_in, home_of, store_on, Lies, IsStructureOf, IsStructureFor, StaysFor}
+use Rattle.f11_files.specs.Structure.{index_in, bitmap_in, home_of, store_on, FitsOn, IsStructureOf, IsStructureFor, StaysFor}
 use Rattle.f11_files.specs.declared.structure.Structure.{Structure}
 use Rattle.f11_files.proofs.Changing.Alter.{free-slot, keeps-header}
 use Rattle.f11_files.proofs.AnswerLemmas.{right-fault, reads-looked}
@@ -61,7 +61,7 @@ numbered s owner protection ident attr n sequence next = taken_lags (new_work s 
     last m (inr other) = inl (ap (λ (b : Bool). cond b sequence (s.last m)) (ne_eqb m n other))
 
 -- where a bit was set, what is kept lies where it lay
-pub lies-bit : (s t : Structure) (value : Bool) (n blocks : ℕ) → bitmap_in t ≡ bitmap_in s → SetsBit value n (index_in s) (index_in t) → Lies s blocks → Lies t blocks
+pub lies-bit : (s t : Structure) (value : Bool) (n blocks : ℕ) → bitmap_in t ≡ bitmap_in s → SetsBit value n (index_in s) (index_in t) → FitsOn s blocks → FitsOn t blocks
 lies-bit s t value n blocks bitmap bit lies =
     let same = bit.one_block in
     let count = ap (λ (x : Index). length x.bitmap) same ∙ length-set (index_in s).bitmap (bitmap_place n) (bitmap_block (index_in t) n) in
@@ -197,7 +197,7 @@ module _ (s : Structure) (owner : Uic) (protection : ℕ) (ident attr : List ℕ
             let writes = (creates (index_in t) new wrote_bit).does.writes in
             record {
               home = same;
-              lies = λ _. subst (Lies t) (sym writes.went.size) (lies-bit s t true n (length old.image) bitmap wrote_bit.bit for.lies);
+              lies = λ _. subst (FitsOn t) (sym writes.went.size) (lies-bit s t true n (length old.image) bitmap wrote_bit.bit for.lies);
               sound = λ honest. subst (HasSoundVolume new.image) (sym same) (sound-went work home old new for.sound writes.went honest);
               keeps = λ _ honest. keeps (sym writes.went.honest ∙ honest);
             }

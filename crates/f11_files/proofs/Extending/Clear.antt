@@ -35,7 +35,7 @@ use Rattle.f11_files.specs.Extending.Mark.{Clearing, ClearsMark}
 use Rattle.f11_image_store.specs.FieldLaws.{SaysBut, ChangesFile}
 use Rattle.f11_files.specs.Finding.First.{HoldsFile, IsFirstOf}
 use Rattle.f11_image_store.specs.StoreOf.{as_seen}
-use Rattle.f11_files.specs.Structure.{index_in, home_of, store_on, Lies, IsStructureOf, IsStructureFor}
+use Rattle.f11_files.specs.Structure.{index_in, home_of, store_on, FitsOn, IsStructureOf, IsStructureFor}
 use Rattle.f11_files.specs.Extending.Tail.{HasStore}
 use Rattle.f11_files.specs.declared.structure.Structure.{Structure}
 use Rattle.f11_image_store.proofs.AllocationLemmas.{gains-nothing}
@@ -169,7 +169,7 @@ module _ (s : Structure) (f : FileId) (was : List ℕ) (old : Disk) (for : IsStr
 
       for-new : IsStructureFor s new
       for-new = record {
-        lies = subst (λ (k : ℕ). Lies s k) (sym went.size) for.lies;
+        lies = subst (λ (k : ℕ). FitsOn s k) (sym went.size) for.lies;
         sound = λ honest. let before = was-honest honest in subst (λ (i : Image). HasSoundVolume i home) (sym (image before)) (store-next before).sound;
         keeps = λ honest. let before = was-honest honest in subst (IsStructureOf s) (sym (image before)) (keeps-header s f.number block old.image next (changes before).header (for.keeps before));
       }

@@ -44,7 +44,7 @@ use Rattle.f11_files.specs.Extending.Link.{MayFollow}
 use Rattle.f11_store.specs.Pieces.{TakesSome}
 use Rattle.f11_image_store.specs.SlotLaws.{with_last, with_use}
 use Rattle.f11_image_store.specs.StoreOf.{store_of}
-use Rattle.f11_files.specs.Structure.{index_in, home_of, store_on, Lies, IsStructureOf, IsStructureFor, StaysFor}
+use Rattle.f11_files.specs.Structure.{index_in, home_of, store_on, FitsOn, IsStructureOf, IsStructureFor, StaysFor}
 use Rattle.f11_files.specs.Extending.Tail.{HoldsLast, MayBeGiven, ownership_of}
 use Rattle.f11_files.specs.Extending.Zeros.{HoldsZeros}
 use Rattle.f11_files.specs.declared.structure.Structure.{Structure}
@@ -273,7 +273,7 @@ module _ (s : Structure) (tail : Tail) (lbn count : ℕ) (old : Disk) (for : IsS
             pub entered-stays : StaysFor false s t done
             entered-stays = record {
               home = refl;
-              lies = λ _. subst (Lies t) (sym writes.went.size) (lies-bit s t true n (length old.image) refl bit.bit for.lies);
+              lies = λ _. subst (FitsOn t) (sym writes.went.size) (lies-bit s t true n (length old.image) refl bit.bit for.lies);
               sound = λ honest. (made (was-honest honest)).bit.slot.sound;
               keeps = λ _ honest. keeps (was-honest honest);
             }

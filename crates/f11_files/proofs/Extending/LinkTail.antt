@@ -30,7 +30,7 @@ use Rattle.f11_image_store.specs.Allocation.{LinksFileless}
 use Rattle.f11_image_store.specs.FileLaws.{SaysAlike, HasPointersMore, LinksOnTo, with_header_more}
 use Rattle.f11_files.specs.Extending.Growing.{SameFree}
 use Rattle.f11_files.specs.Extending.Link.{MayFollow, Linking, LinksTail}
-use Rattle.f11_files.specs.Structure.{index_in, home_of, store_on, Lies, IsStructureOf, IsStructureFor}
+use Rattle.f11_files.specs.Structure.{index_in, home_of, store_on, FitsOn, IsStructureOf, IsStructureFor}
 use Rattle.f11_files.specs.Extending.Tail.{HoldsLast, HasStore}
 use Rattle.f11_files.specs.declared.structure.Structure.{Structure}
 use Rattle.f11_files.specs.declared.extend.tail.Tail.{Tail}
@@ -193,7 +193,7 @@ module _ (s : Structure) (tail : Tail) (block : List ℕ) (id : FileId) (old : D
         pub links-tail : LinksTail s tail id old new
         links-tail = record {
           is_for = record {
-            lies = subst (λ (k : ℕ). Lies s k) (sym went.size) for.lies;
+            lies = subst (λ (k : ℕ). FitsOn s k) (sym went.size) for.lies;
             sound = λ honest. let before = was-honest honest in subst (λ (i : Image). HasSoundVolume i home) (sym (image before)) (store-linked before).sound;
             keeps = λ honest. let before = was-honest honest in subst (IsStructureOf s) (sym (image before)) (keeps-header s n block old.image next (wrote-link before) (for.keeps before));
           };

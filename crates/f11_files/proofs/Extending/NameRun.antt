@@ -33,7 +33,7 @@ use Rattle.f11_image_store.specs.Allocation.{NamesMore}
 use Rattle.f11_image_store.specs.FileLaws.{SaysAlike, HasPointersMore, NamesMoreOf, held_from, room_in}
 use Rattle.f11_store.specs.Pieces.{with_more_blocks, with_zeros_more}
 use Rattle.f11_files.specs.Extending.Growing.{SameFree}
-use Rattle.f11_files.specs.Structure.{index_in, home_of, store_on, Lies, IsStructureOf, IsStructureFor}
+use Rattle.f11_files.specs.Structure.{index_in, home_of, store_on, FitsOn, IsStructureOf, IsStructureFor}
 use Rattle.f11_files.specs.Extending.Tail.{HoldsLast, MayBeGiven, HasStore, pointers_more, Naming, NamesRun, FailsToName, ownership_of}
 use Rattle.f11_files.specs.Extending.Zeros.{HoldsZeros}
 use Rattle.f11_files.specs.declared.structure.Structure.{Structure}
@@ -225,7 +225,7 @@ module _ (s : Structure) (tail : Tail) (block : List ℕ) (lbn count : ℕ) (old
 
         for-new : IsStructureFor s new
         for-new = record {
-          lies = subst (λ (k : ℕ). Lies s k) (sym went.size) for.lies;
+          lies = subst (λ (k : ℕ). FitsOn s k) (sym went.size) for.lies;
           sound = λ honest. let before = was-honest honest in subst (λ (i : Image). HasSoundVolume i home) (sym (image before)) (store-named before).sound;
           keeps = λ honest. let before = was-honest honest in subst (IsStructureOf s) (sym (image before)) (keeps-header s n block old.image next (wrote-tail before) (for.keeps before));
         }

@@ -10,7 +10,7 @@ use Rattle.f11_writes.specs.NameLaws.{AreUnreferenced}
 use Rattle.f11_writes.proofs.NameLemmas.{unreferenced-stay}
 use Rattle.f11_image_store.specs.FileLaws.{room_in}
 use Rattle.f11_files.specs.Extending.Growing.{SameFree}
-use Rattle.f11_files.specs.Structure.{bitmap_in, home_of, Lies, IsStructureFor}
+use Rattle.f11_files.specs.Structure.{bitmap_in, home_of, FitsOn, IsStructureFor}
 use Rattle.f11_files.specs.Extending.Tail.{HoldsLast, MayBeGiven, HasNoPlace}
 use Rattle.f11_files.specs.Extending.Zeros.{Zeroes}
 use Rattle.f11_files.specs.declared.structure.Structure.{Structure}
@@ -34,7 +34,7 @@ module _ (s : Structure) (tail : Tail) (lbn count : ℕ) (old mid : Disk) (for :
 
   pub mid-for : IsStructureFor s mid
   mid-for = record {
-    lies = subst (λ (n : ℕ). Lies s n) (sym zeroed.went.size) for.lies;
+    lies = subst (λ (n : ℕ). FitsOn s n) (sym zeroed.went.size) for.lies;
     sound = λ honest. (zeroed.keeps (was-honest honest)).volume.sound;
     keeps = λ honest. keeps-volume s old.image mid.image (zeroed.keeps (was-honest honest)).volume (for.keeps (was-honest honest));
   }

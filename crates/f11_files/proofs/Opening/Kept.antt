@@ -9,7 +9,7 @@ use Rattle.f11_home.proofs.HomeLemmas.{home-unique}
 use Rattle.f11_volume.specs.Sound.{HasSoundVolume}
 use Rattle.f11_volume.specs.Verdict.{IsAccepted}
 use Rattle.f11_volume.proofs.AcceptedLemmas.{accepted-sound, accepted-volume}
-use Rattle.f11_files.specs.Structure.{home_of, Lies, IsStructureOf, HasNoOtherHome, IsStructureFor, StaysFor}
+use Rattle.f11_files.specs.Structure.{home_of, FitsOn, IsStructureOf, HasNoOtherHome, IsStructureFor, StaysFor}
 use Rattle.f11_files.specs.declared.structure.Structure.{Structure}
 
 -- an accepted image has a sound volume, with the only home block that it has
@@ -26,7 +26,7 @@ pub opened-home : (image : Image) (home : HomeFields) → HasSoundVolume image h
 opened-home image home sound other is = home-unique image other home is sound.framed.home_is
 
 -- so what is kept is for the disk
-pub kept-for : (s : Structure) (disk : Disk) → IsImage disk.image → Lies s (length disk.image) → (IsTrue disk.honest → IsAccepted disk.image) → (IsTrue disk.honest → HasNoOtherHome disk.image (home_of s))
+pub kept-for : (s : Structure) (disk : Disk) → IsImage disk.image → FitsOn s (length disk.image) → (IsTrue disk.honest → IsAccepted disk.image) → (IsTrue disk.honest → HasNoOtherHome disk.image (home_of s))
     → (IsTrue disk.honest → IsStructureOf s disk.image) → IsStructureFor s disk
 kept-for s disk image_is lies accepted home keeps = record {
   lies = lies;
@@ -37,7 +37,7 @@ kept-for s disk image_is lies accepted home keeps = record {
 -- a disk that was only read has what it had
 pub looked-for : (s : Structure) (old new : Disk) (most faults : ℕ) → IsStructureFor s old → Looked old new most faults → IsStructureFor s new
 looked-for s old new most faults for looked = record {
-  lies = subst (λ (i : Image). Lies s (length i)) (sym looked.image) for.lies;
+  lies = subst (λ (i : Image). FitsOn s (length i)) (sym looked.image) for.lies;
   sound = λ honest. subst (λ (i : Image). HasSoundVolume i (home_of s)) (sym looked.image) (for.sound (sym looked.honest ∙ honest));
   keeps = λ honest. subst (IsStructureOf s) (sym looked.image) (for.keeps (sym looked.honest ∙ honest));
 }
@@ -49,7 +49,7 @@ answered (Err y) P Q ok err done refused = refused y err
 
 -- what every value of the type says, where what is kept is for the disk
 pub record IsOpened (s : Structure) (failed : Bool) (disk : Disk) : Type 0 where
-  pub lies : failed ≡ false → Lies s (length disk.image)
+  pub lies : failed ≡ false → FitsOn s (length disk.image)
   pub accepted : IsTrue disk.honest → IsAccepted disk.image
   pub home : IsTrue disk.honest → HasNoOtherHome disk.image (home_of s)
   pub keeps : IsTrue disk.honest → failed ≡ false → IsStructureOf s disk.image

@@ -53,7 +53,7 @@ use Rattle.f11_image_store.specs.FileLaws.{SaysAlike, MayStand, EndsThere, with_
 use Rattle.f11_files.specs.Extending.Growing.{SameFree}
 use Rattle.f11_files.specs.Operations.{length_causes}
 use Rattle.f11_image_store.specs.StoreOf.{store_of}
-use Rattle.f11_files.specs.Structure.{index_in, home_of, store_on, Lies, IsStructureOf, IsStructureFor}
+use Rattle.f11_files.specs.Structure.{index_in, home_of, store_on, FitsOn, IsStructureOf, IsStructureFor}
 use Rattle.f11_files.specs.declared.structure.Structure.{Structure}
 use Rattle.f11_files.proofs.Changing.Alter.{keeps-header}
 use Rattle.f11_image_store.proofs.FileLemmas.{as-header, file-ends, of-now}
@@ -297,7 +297,7 @@ module _ (s : Structure) (f : FileId) (to n keep lbn : ℕ) (block cut : List �
 
     pub written-for : IsStructureFor s now
     written-for = record {
-      lies = subst (Lies s) (sym first-writes.went.size) for.lies;
+      lies = subst (FitsOn s) (sym first-writes.went.size) for.lies;
       sound = λ honest. subst (λ (i : Image). HasSoundVolume i h) (sym image-now) (one (sym honest-now ∙ honest)).slot.sound;
       keeps = λ honest. subst (IsStructureOf s) (sym image-now) (keeps-header s n cut old.image written (one (sym honest-now ∙ honest)) (for.keeps (sym honest-now ∙ honest)));
     }

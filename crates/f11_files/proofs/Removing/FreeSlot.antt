@@ -35,7 +35,7 @@ use Rattle.f11_image_store.specs.Freeing.{FreesMore, IsFreeing, Freeing}
 use Rattle.f11_files.specs.Extending.Growing.{SameFree}
 use Rattle.f11_image_store.specs.SlotLaws.{with_use, IsFileless, KeepsOtherBlocks}
 use Rattle.f11_image_store.specs.StoreOf.{is_first, store_of}
-use Rattle.f11_files.specs.Structure.{index_in, home_of, store_on, Lies, IsStructureOf, IsStructureFor, StaysFor}
+use Rattle.f11_files.specs.Structure.{index_in, home_of, store_on, FitsOn, IsStructureOf, IsStructureFor, StaysFor}
 use Rattle.f11_files.specs.declared.structure.Structure.{Structure}
 use Rattle.f11_files.proofs.Creating.Create.{lies-bit}
 use Rattle.f11_files.proofs.Changing.Alter.{free-slot, keeps-header}
@@ -251,7 +251,7 @@ module _ (s : Structure) (n lbn : ℕ) (block dead : List ℕ) (old : Disk) (for
       pub freed-stays : StaysFor false s (record s { index = after }) new
       freed-stays = record {
         home = refl;
-        lies = λ _. subst (Lies (record s { index = after })) (sym frees_slot.writes.went.size) (lies-bit s (record s { index = after }) false n (length old.image) refl cleared_is.bit for.lies);
+        lies = λ _. subst (FitsOn (record s { index = after })) (sym frees_slot.writes.went.size) (lies-bit s (record s { index = after }) false n (length old.image) refl cleared_is.bit for.lies);
         sound = sound-freed home gone old new for.sound frees_slot.writes;
         keeps = λ _ honest. subst (IsStructureOf (record s { index = after })) (sym image-new) (kept-now (sym frees_slot.writes.went.honest ∙ honest));
       }
