@@ -91,7 +91,7 @@ served-is-in-parts S [] rest old new block block' text count h = record {
 }
 served-is-in-parts S (line ∷ front) rest old new block block' text count h =
     let r = line-parted S (line_of line block) front rest old new block block' text count
-        (λ v b t k p. served-is-in-parts S front rest v new b block' t k p) h in
+    (λ v b t k p. served-is-in-parts S front rest v new b block' t k p) h in
     record {
       between = r.between;
       lent = r.lent;
