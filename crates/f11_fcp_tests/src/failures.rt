@@ -8,6 +8,7 @@ use f11_fixtures::{SYSTEM, are_found, volumes};
 use f11_store::{Attr, FileId, Mode, Refusal, Reply};
 use f11_vfy::{Report, verify};
 use std::alloc::Global;
+use std::ops::Range;
 use std::test::Fail;
 
 /// The file that is made.
@@ -181,8 +182,10 @@ fn thirty_three() -> Attr {
     }
 }
 
-/// A volume on a device that stops while a record is entered: whether it is accepted then with these notes, or else with none, and these rows are
-/// right on it.
+/// Behind so many transfers of that a block is marked used, and no header names it.
+const LOST: Range<u64> = 7..9;
+
+/// A volume on a device that stops while a record is entered: whether it is accepted then with exactly these notes, and these rows are right on it.
 fn stops(
     alloc: Global,
     device: Fuse<Memory>,
@@ -198,7 +201,7 @@ fn stops(
     let Ok(Report::Accepted(accepted, found)) = verify(alloc, device) else {
         return Ok(false);
     };
-    if !are_found(&found, notes) && !are_found(&found, &[]) {
+    if !are_found(&found, notes) {
         return Ok(false);
     }
     let mut volume = mounted(alloc, accepted.device())?;
@@ -212,8 +215,13 @@ fn interrupted_enter(rt: HostRuntime) -> Result<(), Fail> {
     assert!(rt; entered >= begun.saturating_add(5));
     for transfer in begun..entered {
         let device = Fuse::new(full_directory(rt.alloc())?, transfer);
-        let is_right = stops(rt.alloc(), device, &[(1, 22, 22)], &ABSENT)?;
-        assert!(rt; is_right, "{transfer}");
+        // the block is lost from when the bitmap is written on, until the header names it
+        let notes: &[(u8, u32, u32)] = if LOST.contains(&transfer.saturating_sub(begun)) {
+            &[(1, 22, 22)]
+        } else {
+            &[]
+        };
+        assert!(rt; stops(rt.alloc(), device, notes, &ABSENT)?, "{transfer}");
     }
     let space = Reply::Space {
         free: 377,
