@@ -60,7 +60,7 @@ const COMMANDS: [Synopsis; 10] = [
     Synopsis {
         name: "vfy",
         words: "f11_pip vfy [--update] IMAGE",
-        does: "verifies a Files-11 volume: each fault and note, and whether it is accepted; then gives back what is lost",
+        does: "verifies a Files-11 volume: each fault and note, and whether it is accepted; with --update what is lost is given back",
     },
 ];
 
