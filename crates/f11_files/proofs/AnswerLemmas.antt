@@ -1,6 +1,7 @@
 -- What is right to answer.
 use Rattle.std.proofs.Common.{true, ◌≡◌, ◌≢◌, ◌≤◌, ◌+◌, ℕ, Bool, false, IsTrue, List, Some, Result, Ok, Err, sym, ap, subst, ◌∙◌, arith}
 use Rattle.std.specs.Prelude.{IsErrAnd, IfErr}
+use Rattle.std.proofs.lemmas.Bool.{ltb-true}
 use Rattle.f11_dev.specs.Disk.{Disk}
 use Rattle.f11_dev.specs.Looked.{Looked}
 use Rattle.f11_dev.proofs.LookedLemmas.{looked_more}
@@ -8,12 +9,20 @@ use Rattle.f11_store.specs.Causes.{Cause, first_of}
 use Rattle.f11_store.specs.Refusal.{refusal_number}
 use Rattle.f11_store.specs.declared.refusals.Refusal.{Refusal}
 use Rattle.f11_store.specs.declared.refusals.Refusal.TheVariants.{VolumeFailed, DeviceFault, Damaged}
-use Rattle.f11_files.specs.Answers.{FailsToRead, is_among, IsRight, ReadsAtMost}
+use Rattle.f11_files.specs.Answers.{FailsToRead, is_among, is_clean, is_fatal, is_refused, IsRight, ReadsAtMost}
 
 -- an error that is handed on
 pub handed : {T E : Type 0} (P : E → Type 0) (r : Result T E) (x : E) → IsErrAnd r (λ y. y ≡ x) → P x → IfErr r P
 handed P (Ok y) x is here = absurd is
 handed P (Err y) x is here = subst P (sym is) here
+
+-- a refusal that fails the volume is not a clean one
+pub not-clean : {T P : Type 0} (r : Result T Refusal) (x : Refusal) → IsErrAnd r (λ y. y ≡ x) → is_fatal x ≡ true → is_refused is_clean r ≡ true → P
+not-clean (Ok y) x is fatal clean = absurd is
+not-clean (Err y) x is fatal clean =
+    let more = ltb-true 18 (refusal_number x) fatal in
+    let less = ltb-true (refusal_number x) 19 (subst (λ (z : Refusal). is_clean z ≡ true) is clean) in
+    absurd (omega (arith, more, less))
 
 -- another refusal is not that one
 apart : (r s : Refusal) → refusal_number r ≢ refusal_number s → r ≢ s

@@ -2,7 +2,7 @@ use Rattle.std.proofs.Common.{length, refl, ap}
 use Rattle.f11_dev.specs.Image.{Image}
 use Rattle.f11_index.proofs.InUseLemmas.{in_use-some, in_use-slot}
 use Rattle.f11_files.specs.Structure.{index_in}
-use Rattle.f11_files.proofs.AnswerLemmas.{handed}
+use Rattle.f11_files.proofs.AnswerLemmas.{handed, not-clean}
 use Rattle.f11_files.proofs.Removing.Cut.{fails-written, written-for, unreferenced-now, fails-giving, behind-hangs, fails-behind, cuts-file}
 use Rattle.f11_files.proofs.Removing.Freeing.{stays-for, stays-then}
 use Rattle.f11_files.proofs.WriteLemmas.{failed-stays}
@@ -96,3 +96,7 @@ returns-clause-confined g c = λ honest.
     cut-dropped c.args.self.now c.args.f c.args.to _ _ _ _ _ _ _ c.requires.is_for c.requires.own c.in_ok-n.ensures.found c.cut_off.ensures c.lbn_of_header.ensures
     (g.met.D.Device.is_image c.args.device.now) honest _ c.in-Ok.ensures.writes.ok c.give_from.new.self _ _ c.in_ok-give_from.ensures.given c.in_ok-give_from.ensures.stays.home
     (g.met.D.Device.is_image c.give_from.new.device) c.in_ok-give_from.ensures.places c.give_from.ensures.confined c.drop_behind.ensures.confined
+
+pub returns-in_err-drop_behind-clause-counts : goal.returns-in_err-drop_behind-clause-counts
+returns-in_err-drop_behind-clause-counts g c =
+    not-clean c.from_residual-in_err-drop_behind.result _ c.from_residual-in_err-drop_behind.ensures.1 c.in_err-drop_behind.ensures.refused.fatal
