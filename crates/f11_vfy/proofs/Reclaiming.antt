@@ -3,6 +3,7 @@ pub mod Unreferenced
 pub mod Told
 pub mod Kill
 pub mod Files
+pub mod Dead
 pub mod Places
 pub mod Orphans
 pub mod Idle

@@ -1,9 +1,12 @@
--- Laws of what the verifier reads and of what `init` leaves, which show that the words for it say what is meant (profile).
+-- Laws of what the verifier reads, of what `init` leaves and of what reclaiming does, which show that the words for it say what is meant
+-- (profile).
 use Rattle.std.specs.Prelude.{◌≡◌, ◌⊎◌, ℕ, ◌≤◌, length}
 use Rattle.f11_dev.specs.Image.{Image, IsImage}
+use Rattle.f11_header.specs.Writing.{dead_header}
 use Rattle.f11_home.specs.Home.{HomeFields, HasNoHome}
+use Rattle.f11_index.specs.Headers.{IsInFile}
 use Rattle.f11_index.specs.IndexFile.{index_of}
-use Rattle.f11_index.specs.Table.{Table}
+use Rattle.f11_index.specs.Table.{Table, table_of}
 use Rattle.f11_layout.specs.declared.layout.Layout.{Layout}
 use Rattle.f11_store.specs.Directory.{is_directory}
 use Rattle.f11_volume.specs.Contents.{file_of}
@@ -11,6 +14,9 @@ use Rattle.f11_volume.specs.Fresh.{MayStand}
 use Rattle.f11_volume.specs.Space.{storage_bitmap}
 use Rattle.f11_volume.specs.Verdict.{IsAccepted}
 use Rattle.f11_volume.specs.Volume.{volume_of}
+use Rattle.f11_vfy.specs.Reclaiming.Moments.{IsReclaiming}
+use Rattle.f11_vfy.specs.Reclaiming.Slots.{IsOrphan}
+use Rattle.f11_vfy.specs.Reclaiming.Whole.{HasReclaimed}
 use Rattle.f11_vfy.specs.Scanning.Reading.{volume_in}
 use Rattle.f11_vfy.specs.Surveying.Slot.{says_directory}
 
@@ -28,3 +34,18 @@ DirectoryIsSaid = (image : Image) (t : Table) (n : ℕ) → is_directory (file_o
 abbrev pub VolumeIsRead : Type 0
 VolumeIsRead = (image : Image) (home : HomeFields) →
     volume_of image home ≡ volume_in image (index_of image home) (storage_bitmap image home)
+
+-- at each moment of reclaiming each header of a file still is one, and is as it was
+abbrev pub FilesKeepHeaders : Type 0
+FilesKeepHeaders = (home : HomeFields) (old image : Image) → IsReclaiming home old image → (n : ℕ) → IsInFile (table_of old home) n →
+    IsInFile (table_of image home) n × ((table_of image home).header n ≡ (table_of old home).header n)
+
+-- and no other header is one
+abbrev pub FilesGainNone : Type 0
+FilesGainNone = (home : HomeFields) (old image : Image) → IsReclaiming home old image → (n : ℕ) → IsInFile (table_of image home) n →
+    IsInFile (table_of old home) n
+
+-- where a volume was reclaimed, each orphan was killed
+abbrev pub OrphansAreKilled : Type 0
+OrphansAreKilled = (home : HomeFields) (old new : Image) → HasReclaimed home old new → (n : ℕ) → IsOrphan (table_of old home) n →
+    (table_of new home).header n ≡ dead_header ((table_of old home).header n)

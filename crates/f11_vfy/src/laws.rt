@@ -1,4 +1,4 @@
-//! Laws of what the verifier reads and of what `init` leaves, each the contract of a function that does nothing.
+//! Laws of what the verifier reads, of what `init` leaves and of what reclaiming does, each the contract of a function that does nothing.
 ghost use Rattle.f11_vfy.specs.Laws as laws;
 
 /// Where making a fresh volume is stopped, the image has no home block, if it had none, or is accepted.
@@ -10,4 +10,11 @@ pub fn stopped()
 pub fn readings()
     ensures directory { laws.DirectoryIsSaid }
     ensures volume { laws.VolumeIsRead }
+{}
+
+/// Reclaiming keeps the headers of files at each moment, and kills the orphans.
+pub fn reclaiming()
+    ensures files { laws.FilesKeepHeaders }
+    ensures no_more { laws.FilesGainNone }
+    ensures orphans { laws.OrphansAreKilled }
 {}

@@ -57,6 +57,10 @@ module _ (t u : Table) (keeps : KeepsFiles t u) where
   pub in-new : (m : ℕ) → IsInFile t m → IsInFile u m
   in-new m within = record { file = within.file; of = of-new within.of }
 
+  -- an orphan was one
+  pub orphan-was : (m : ℕ) → IsOrphan u m → IsOrphan t m
+  orphan-was m orphan = record { live = (keeps.was m orphan.live).0; of_none = λ within. orphan.of_none (in-new m within) }
+
 -- the orphans so far were killed
 module _ (n : ℕ) (t u : Table) (fit : IsFit t) (kills : KillsUpTo n t u) where
   used-alike : (m : ℕ) → u.in_use m ≡ t.in_use m

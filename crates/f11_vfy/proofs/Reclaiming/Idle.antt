@@ -1,6 +1,6 @@
 -- Idle slots that leave use one after another.
 use Rattle.std.proofs.Common.{◌≡◌, ◌+◌, ◌*◌, ◌<◌, ◌≤◌, ℕ, true, false, IsTrue, [], List, length, inl, inr, refl, sym, ap, subst, ◌∙◌, arith}
-use Rattle.std.proofs.lemmas.Bool.{both_ways}
+use Rattle.std.proofs.lemmas.Bool.{both_ways, cases_eq}
 use Rattle.std.proofs.lemmas.List.{length-set}
 use Rattle.std.specs.Prelude.{All}
 use Rattle.f11_dev.specs.Disk.{Disk}
@@ -8,6 +8,7 @@ use Rattle.f11_dev.specs.Image.{Image}
 use Rattle.f11_dev.specs.Went.{Went}
 use Rattle.f11_dev.proofs.LookedLemmas.{looked_none}
 use Rattle.f11_dev.proofs.WentLemmas.{went_looked, went_more, went_weaker}
+use Rattle.f11_header.specs.Header.{IsDead}
 use Rattle.f11_home.specs.Home.{HomeFields}
 use Rattle.f11_chain.proofs.StepLemmas.{table-in_use}
 use Rattle.f11_index.specs.Calls.{SetsBit, HasBitWritten, WritesBit, FailsToWriteBit, bitmap_place, bitmap_block, with_bitmap_block}
@@ -18,7 +19,7 @@ use Rattle.f11_index.proofs.BitLemmas.{SetsBit-in_use}
 use Rattle.f11_image_store.proofs.ConfinesLemmas.{spares-other}
 use Rattle.f11_image_store.proofs.FreeingLemmas.{dead-freed, bit-wrote}
 use Rattle.f11_vfy.specs.Reclaiming.Moments.{any_header, IsReclaiming, KeepsPlaces, Moment}
-use Rattle.f11_vfy.specs.Reclaiming.Slots.{Counts, IsIdle, none, such, other}
+use Rattle.f11_vfy.specs.Reclaiming.Slots.{Counts, IsIdle, as_it_was, none, such, other}
 use Rattle.f11_vfy.specs.Reclaiming.Steps.{IsSwept, SamePlaces, HasClearedUpTo, ClearsIdle, FailsToClear}
 use Rattle.f11_vfy.specs.Surveying.Bits.{has}
 use Rattle.f11_vfy.specs.declared.findings.reading.Reading.{Reading}
@@ -139,6 +140,11 @@ module _ (index : Index) (r : Reading) (k : ℕ) (mid : Index) (old now : Disk) 
               (λ l no out_of is.
               let size = ap (λ (x : Index). length x.bitmap) here.index_is in
               no.index_bitmap (bitmap_place (k + 1)) (omega (arith, few, fits, size)) (let lbn = same.bitmap_lbn in omega (arith, lbn, is)));
+          headers = λ m some within. as_it_was (ap (λ (v : Table). v.header m) writes.index_file.table);
+          left = λ m before gone. elim (cases_eq m (k + 1)) [
+            | inl it ↦ subst IsDead (ap (λ (v : Table). v.header (k + 1)) (sym writes.index_file.table) ∙ ap (table_of cleared home).header (sym it)) dead.dead
+            | inr apart ↦ absurd (both_ways _ gone (writes.slot.others.in_use m apart ∙ before))
+          ];
         }
 
         places : KeepsPlaces home now.image cleared

@@ -1,7 +1,7 @@
 -- Orphans that are killed one after another.
-use Rattle.std.proofs.Common.{◌≡◌, ◌+◌, ◌*◌, ◌≤◌, ℕ, IsTrue, [], List, inl, inr, set, refl, sym, ap, subst, ◌∙◌, arith}
+use Rattle.std.proofs.Common.{◌≡◌, ◌+◌, ◌*◌, ◌≤◌, ℕ, Bool, IsTrue, [], List, inl, inr, set, refl, sym, ap, subst, ◌∙◌, arith}
 use Rattle.std.specs.Prelude.{Contains}
-use Rattle.std.proofs.lemmas.Bool.{cases_eq}
+use Rattle.std.proofs.lemmas.Bool.{both_ways, cases_eq}
 use Rattle.f11_dev.specs.Disk.{Disk}
 use Rattle.f11_dev.specs.Image.{Image}
 use Rattle.f11_dev.specs.Went.{Went}
@@ -22,7 +22,7 @@ use Rattle.f11_map.specs.HeaderBlock.{blocks_named}
 use Rattle.f11_vfy.specs.Chain.{IsFit}
 use Rattle.f11_vfy.specs.Frames.Earlier.{Puts}
 use Rattle.f11_vfy.specs.Reclaiming.Moments.{any_header, IsReclaiming, KeepsPlaces, Moment}
-use Rattle.f11_vfy.specs.Reclaiming.Slots.{Counts, IsOrphan, IsOfOrphan, none, such, other}
+use Rattle.f11_vfy.specs.Reclaiming.Slots.{Counts, IsOrphan, IsOfOrphan, as_it_was, killed_orphan, none, such, other}
 use Rattle.f11_vfy.specs.Reclaiming.Steps.{header_at, HasDead, HasKilled, KillsHeader, FailsToKill, IsShown, HasKilledUpTo, KillsOrphans, FailsToKillOrphans}
 use Rattle.f11_vfy.specs.Scanning.Reading.{ShowsVolume}
 use Rattle.f11_vfy.specs.declared.findings.reading.Reading.{Reading}
@@ -147,6 +147,13 @@ module _ (index : Index) (r : Reading) (k : ℕ) (before mid : Bits) (old now : 
           spares = spares-other any_header (index_of now.image home) (storage_bitmap now.image home) [] now.image (header_lbn (index_of now.image home) (k + 1)) block
               (λ l none out. header-apart any_header (index_of now.image home) (storage_bitmap now.image home) (k + 1) (header_lbn (index_of now.image home) (k + 1))
               refl (omega arith) (let count = ap slots index-is in omega (arith, low, count)) refl l none);
+          headers = λ m some within. elim (cases_eq m (k + 1)) [
+            | inl here ↦
+                killed_orphan (subst (IsOrphan u) (sym here) (record { live = live; of_none = λ within. fileless within.file within.of }))
+                (ap (table_of killed home).header here ∙ writes.index_file.header ∙ ap (λ (x : ℕ). dead_header (u.header x)) (sym here))
+            | inr apart ↦ as_it_was ((blocks-but now.image killed home (k + 1) block writes).header m some within apart)
+          ];
+          left = λ m used gone. absurd (both_ways _ gone (ap (λ (f : ℕ → Bool). f m) writes.in_use ∙ used));
         }
 
         places : KeepsPlaces home now.image killed

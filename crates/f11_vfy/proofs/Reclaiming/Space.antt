@@ -18,6 +18,7 @@ use Rattle.f11_image_store.proofs.FreeingLemmas.{unnamed-freed}
 use Rattle.f11_vfy.specs.Reclaiming.Moments.{any_header, IsReclaiming, KeepsPlaces, Moment}
 use Rattle.f11_vfy.specs.Reclaiming.Steps.{may_be_free, IsTold, HasFreedUpTo, FreesUnnamed, FailsToFree}
 use Rattle.f11_vfy.specs.declared.survey.bits.Bits.{Bits}
+use Rattle.f11_vfy.proofs.Reclaiming.Dead.{same-kept, same-left}
 use Rattle.f11_vfy.proofs.Reclaiming.Places.{places-none, places-then, places-same, reclaiming-then}
 use Rattle.f11_volume.specs.Sound.{HasSoundVolume}
 use Rattle.f11_volume.specs.Space.{storage_bitmap}
@@ -113,6 +114,8 @@ module _ (bitmap : Bitmap) (named unreferenced : Bits) (i : ℕ) (wanted : List 
       reclaiming = record {
         freeing = unnamed-freed now.image image home sound keeps (subst Only bitmap-is only) (subst Stays bitmap-is stays);
         spares = spares-bitmap any_header (index_of now.image home) (storage_bitmap now.image home) [] now.image image keeps;
+        headers = same-kept (table_of now.image home) (table_of image home) kept.index_file.table;
+        left = same-left (table_of now.image home) (table_of image home) kept.index_file.table;
       }
 
       places : KeepsPlaces home now.image image

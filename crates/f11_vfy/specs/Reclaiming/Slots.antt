@@ -1,5 +1,7 @@
 -- Which headers and slots of a volume go when it is reclaimed (profile).
 use Rattle.std.specs.Prelude.{◌≡◌, ℕ, ◌+◌, ◌<◌, ◌≤◌, true, false, Contains}
+use Rattle.f11_header.specs.Header.{IsDead}
+use Rattle.f11_header.specs.Writing.{dead_header}
 use Rattle.f11_map.specs.HeaderBlock.{blocks_named}
 use Rattle.f11_index.specs.Headers.{IsInFile}
 use Rattle.f11_index.specs.Table.{Table, IsLive}
@@ -19,6 +21,19 @@ pub record IsOrphan (t : Table) (n : ℕ) : Type 0 where
 pub record IsIdle (t : Table) (n : ℕ) : Type 0 where
   pub in_use : t.in_use n ≡ true
   pub of_none : ¬ IsInFile t n
+
+-- The block of header n is as it was; or it was an orphan and is killed: file number and check word are 0 now, and the rest is as it was.
+pub data IsKeptOrKilled (old new : Table) (n : ℕ) : Type 0 where
+  as_it_was : new.header n ≡ old.header n → IsKeptOrKilled old new n
+  killed_orphan : IsOrphan old n → new.header n ≡ dead_header (old.header n) → IsKeptOrKilled old new n
+
+-- each slot's header is kept, or was an orphan and is killed
+abbrev pub KeepsOrKills : Table → Table → Type 0
+KeepsOrKills old new = (n : ℕ) → 0 < n → n ≤ old.slots → IsKeptOrKilled old new n
+
+-- the header of a slot that has left use is dead
+abbrev pub LeavesDead : Table → Table → Type 0
+LeavesDead old new = (n : ℕ) → old.in_use n ≡ true → new.in_use n ≡ false → IsDead (new.header n)
 
 -- block lbn is named by an orphan among headers 1 to n
 pub record IsOfOrphan (t : Table) (n lbn : ℕ) : Type 0 where

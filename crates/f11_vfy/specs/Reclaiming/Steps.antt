@@ -129,7 +129,8 @@ pub record HasFreedUpTo (n : ℕ) (bitmap : Bitmap) (home : HomeFields) (old new
   pub table : table_of new home ≡ table_of old home
   pub free : (lbn : ℕ) → lbn < 4096 * n → lbn < bitmap.size → ¬ IsNamed (table_of old home) lbn → is_free new bitmap lbn ≡ true
 
--- Each block that no header names became free, of those whose bits are in the first so many bitmap blocks, each read once and written at most once.
+-- Each block that no header names became free, of those whose bits are in the first so many bitmap blocks, each read once and written at
+-- most once.
 pub record FreesUnnamed (bitmap : Bitmap) (named unreferenced : Bits) (n : ℕ) (old new : Disk) : Type 0 where
   pub frees : Where (IsTold bitmap named unreferenced) old (λ home. HasFreedUpTo n bitmap home old.image new.image)
   pub went : Went (Moment (IsTold bitmap named unreferenced) old) old new (2 * n) 0

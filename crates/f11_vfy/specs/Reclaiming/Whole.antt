@@ -35,16 +35,16 @@ UnnamedAreFree home image =
 abbrev pub UsedAreOfFiles : Table → Type 0
 UsedAreOfFiles t = (n : ℕ) → t.in_use n ≡ true ↔ IsInFile t n
 
--- A volume was reclaimed: it is sound and has the files that it had, a block of it is free exactly where no header names it, a slot is in use
--- exactly where its header is one of a file, and no note is of lost blocks, dead headers or orphans.
+-- A volume was reclaimed: it is sound and has the files that it had, their headers as they were; a block of it is free exactly where no
+-- header names it, a slot is in use exactly where its header is one of a file, and no note is of lost blocks, dead headers or orphans.
 pub record HasReclaimed (home : HomeFields) (old new : Image) : Type 0 where
   pub reclaiming : IsReclaiming home old new
   pub blocks : UnnamedAreFree home new
   pub slots : UsedAreOfFiles (table_of new home)
   pub no_note : (code a b : ℕ) → code ≤ 3 → ¬ IsNote new code a b
 
--- At most so many transfers were made besides so many reads: an orphan is read and written, a slot that leaves use costs a write, and a block of the
--- storage bitmap a read and a write.
+-- At most so many transfers were made besides so many reads: an orphan is read and written, a slot that leaves use costs a write, and a
+-- block of the storage bitmap a read and a write.
 pub record Costs (home : HomeFields) (image : Image) (reads most : ℕ) : Type 0 where
   pub orphan_slots : ℕ
   pub orphans : ℕ
