@@ -1,9 +1,9 @@
 -- A fresh volume's blocks, written one after another, the home block last.
-use Rattle.std.proofs.Common.{◌≡◌, ◌≢◌, ◌<◌, ◌≤◌, ◌+◌, ◌-◌, ◌⊎◌, inl, inr, ℕ, zero, suc, true, false, List, refl, sym, ap, subst, ◌∙◌, arith, length, slice_set}
+use Rattle.std.proofs.Common.{◌≡◌, ◌≢◌, ◌<◌, ◌≤◌, ◌+◌, ◌-◌, inl, inr, ℕ, zero, suc, List, refl, sym, ap, subst, ◌∙◌, arith, length, slice_set}
 use Rattle.std.proofs.lemmas.Bool.{cases_eq}
 use Rattle.std.proofs.lemmas.List.{length-set}
-use Rattle.f11_dev.specs.Disk.{Disk, with_transfer, with_block_at}
-use Rattle.f11_dev.specs.Image.{Image, IsImage, image_block}
+use Rattle.f11_dev.specs.Disk.{Disk}
+use Rattle.f11_dev.specs.Image.{Image, image_block}
 use Rattle.f11_dev.specs.Went.{Went}
 use Rattle.f11_dev.proofs.WentLemmas.{went_looked, went_write, went_failed_write, went_more, went_within}
 use Rattle.f11_dev.proofs.LookedLemmas.{looked_none}
