@@ -87,7 +87,7 @@ served-is-in-parts S [] rest old new block block' text count h = record {
   before = (refl, refl, refl, refl);
   behind = h;
   text_is = refl;
-  count_is = refl;
+  count_is = omega arith;
 }
 served-is-in-parts S (line ∷ front) rest old new block block' text count h =
     let r = line-parted S (line_of line block) front rest old new block block' text count
