@@ -1,5 +1,5 @@
 -- The lines of a verifier's report (profile).
-use Rattle.std.specs.Prelude.{Bool, true, false, List, [], ◌∷◌, ◌++◌, codes}
+use Rattle.std.specs.Prelude.{ℕ, Bool, true, false, List, [], ◌∷◌, ◌++◌, codes}
 use Rattle.std.specs.List.{flat_map}
 use Rattle.f11_findings.specs.declared.finding.Finding.{Finding}
 use Rattle.f11_commands.specs.Report.{fault_text, note_text}

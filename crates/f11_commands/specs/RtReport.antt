@@ -1,5 +1,5 @@
 -- What the verifier of RT-11 volumes says (profile: the codes and their texts).
-use Rattle.std.specs.Prelude.{ℕ, ◌==◌, if◌then◌else◌, List, [], ◌++◌, codes}
+use Rattle.std.specs.Prelude.{ℕ, ◌==◌, if◌then◌else◌, List, ◌++◌, codes}
 use Rattle.std.specs.Fmt.{decimal}
 use Rattle.f11_findings.specs.declared.finding.Finding.{Finding}
 
