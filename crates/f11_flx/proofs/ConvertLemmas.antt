@@ -5,7 +5,7 @@ use Rattle.f11_flx.specs.ToText.{rest_of, text_left, Converts, Steps}
 use Rattle.f11_flx.specs.declared.to_text.ToText.{ToText}
 
 -- two pieces of text before what is to come
-option_map-append : (a b : List ℕ) (o : Option (List ℕ)) → option_map (λ (text : List ℕ). a ++ text) (option_map (λ (text : List ℕ). b ++ text) o) ≡ option_map (λ (text : List ℕ). (a ++ b) ++ text) o
+pub option_map-append : (a b : List ℕ) (o : Option (List ℕ)) → option_map (λ (text : List ℕ). a ++ text) (option_map (λ (text : List ℕ). b ++ text) o) ≡ option_map (λ (text : List ℕ). (a ++ b) ++ text) o
 option_map-append a b None = refl
 option_map-append a b (Some text) = ap Some (sym (append_assoc a b text))
 

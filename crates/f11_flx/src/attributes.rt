@@ -48,7 +48,7 @@ pub fn layout(attr: &[u8; 32]) -> Option<Layout>
 /// The end in bytes of a file of so many blocks.
 #[tactic(auto, unfolding(f11_store::specs::File::stated_end))]
 pub fn end(attr: &[u8; 32], allocation: u32) -> u32
-    requires { allocation ≤ 516096 }
+    requires { allocation ≤ 8323072 }
     ensures { result ≡ min (stated_end attr.now) (512 * allocation) }
 {
     let most = 512 * allocation;
@@ -63,7 +63,7 @@ pub fn end(attr: &[u8; 32], allocation: u32) -> u32
 
 /// How many blocks a copy of such a file as it is takes: those up to its end, rounded up.
 pub fn image_blocks(attr: &[u8; 32], allocation: u32) -> u32
-    requires { allocation ≤ 516096 }
+    requires { allocation ≤ 8323072 }
     ensures count { result ≡ (min (stated_end attr.now) (512 * allocation) + 511) / 512 }
     ensures image { (file : File) → file.attr ≡ attr.now → length_of file ≡ allocation
         → result ≡ length (image_of file) }

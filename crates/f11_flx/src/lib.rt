@@ -1,29 +1,57 @@
 //! Copies between a Files-11 volume and an RT-11 one: how the records of a file become the lines of a text, and the lines
 //! of a text records again (RSX-11M Utilities manual, FLX).
 //!
-//! [`Records`] walks over the records of a file, told the word at each. [`ToText`] converts a file's bytes into the text of
-//! its records, and [`ToRecords`] a text's bytes into the variable records of its lines; both take the bytes in whatever
-//! pieces they come, fill blocks, and take no memory. [`text_attributes`] and [`image_attributes`] are the attributes of a
-//! copy, and [`image_blocks`] is how many blocks a copy of a file as it is takes.
+//! [`copy_to_rt`] and [`copy_from_rt`] are the copies, as they are or as text. [`Records`] walks over the records of a file,
+//! told the word at each. [`ToText`] converts a file's bytes into the text of its records, and [`ToRecords`] a text's bytes
+//! into the variable records of its lines; both take the bytes in whatever pieces they come, and fill blocks.
+//! [`text_attributes`] and [`image_attributes`] are the attributes of a copy, and [`image_blocks`] is how many blocks a copy
+//! of a file as it is takes. None of them takes memory.
 //!
-//! The crate knows no disk. It stands on [`f11_bytes`], for words and blocks, and on [`f11_store`], for the end of a file.
+//! A copy asks requests of a volume, or of whatever else answers them ([`Asked`]).
 #![tactic(auto)]
 
+mod asked;
 mod attributes;
+mod copies;
+pub mod copy_laws;
+mod dry;
+mod filling;
+mod from_rt;
+mod into_rt;
 pub mod laws;
 mod layout;
+mod lines;
+mod making;
+pub mod making_laws;
 mod mode;
+mod pass;
 mod place;
+mod plan;
+mod pour;
 mod put;
 mod records;
+mod refusal;
+mod rt_source;
+mod source;
 mod stage;
+mod takes;
+mod target;
 mod to_records;
+mod to_rt;
 mod to_text;
+mod transfer;
+mod undo;
+mod volume;
 pub mod worked;
+mod writing;
 
+pub use asked::Asked;
 pub use attributes::{MOST_BLOCKS, image_attributes, image_blocks, text_attributes};
+pub use from_rt::copy_from_rt;
+pub use into_rt::copy_to_rt;
 pub use layout::Layout;
 pub use mode::CopyMode;
 pub use records::{BadRecord, Records};
+pub use refusal::FlxRefusal;
 pub use to_records::{LONGEST_LINE, LineTooLong, ToRecords};
 pub use to_text::ToText;

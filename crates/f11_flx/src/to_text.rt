@@ -30,18 +30,19 @@ impl ToText {
     ghost use Rattle.f11_store.specs.File.{File, stated_end, length_of};
     ghost use Rattle.f11_flx.specs.ToText.{converted_text, ends_record, rest_of, text_left, Converts, HasNoText, StopsAt, Stops, EndsRecord, ReadsOn, RefusesOn, Steps};
 
-    /// The conversion of a file with these attributes (H.UFAT) and so many blocks, of which it may have 516,096.
+    /// The conversion of a file with these attributes (H.UFAT) and so many blocks, of which it may have 8,323,072.
     ///
     /// # Errors
     ///
     /// `BadRecord` where the attributes don't say how the records lie.
     pub fn new(attr: &[u8; 32], allocation: u32) -> Result<ToText, BadRecord>
-        requires { allocation ≤ 516096 }
+        requires { allocation ≤ 8323072 }
         ensures starts { IfOk result (λ text. (file : File) → file.attr ≡ attr.now
             → length_of file ≡ allocation
             → text_left text (concat file.blocks) ≡ converted_text file) }
         ensures rest { IfOk result (λ text.
             rest_of text ≡ min (stated_end attr.now) (512 * allocation)) }
+        ensures begins { IfOk result (λ text. ends_record text ≡ false) }
         ensures bad { IsErr result ↔ (layout_of attr.now ≡ None) }
     {
         let Some(layout) = layout(attr) else {

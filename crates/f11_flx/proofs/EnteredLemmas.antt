@@ -1,0 +1,130 @@
+-- A file that is made is the same file when a name was entered.
+use Rattle.std.proofs.Common.{◌≡◌, ◌⊎◌, inl, inr, ℕ, suc, ◌+◌, ◌<◌, ◌≤◌, ◌==◌, ◌&&◌, ◌||◌, not, Bool, true, false, nat_lt, if◌then◌else◌, List, [], ◌∷◌, ◌++◌, take, Option, Some, None, is_none, option_map, refl, sym, ap, ◌∙◌, subst, arith}
+use Rattle.std.specs.Prelude.{unwrap_or}
+use Rattle.std.proofs.lemmas.Bool.{eq-eqb, eqb-true, ltb-true, lt-ltb}
+use Rattle.f11_store.specs.Causes.{Cause, ◌⇐◌, first_of, first_refusal, is_bad, is_missing, lacks_change}
+use Rattle.f11_store.specs.Changes.{EntersAt, EntersAtEnd, Grows, grown_file, with_change, with_end_after, with_entry, with_grown_file}
+use Rattle.f11_store.specs.Directory.{entry_count, index_of_empty, needs_block, record_bytes}
+use Rattle.f11_store.specs.File.{File, is_marked, no_file, zero_blocks}
+use Rattle.f11_store.specs.Rights.{is_of}
+use Rattle.f11_store.specs.Step.{MayRefuse}
+use Rattle.f11_store.specs.Store.{Access, Store, file_named, file_of}
+use Rattle.f11_store.specs.declared.callers.Uic.{Uic}
+use Rattle.f11_store.specs.declared.files.Change.TheVariants as change
+use Rattle.f11_store.specs.declared.files.FileId.{FileId}
+use Rattle.f11_store.specs.declared.protection.Class.TheVariants as class
+use Rattle.f11_store.specs.declared.refusals.Refusal.{Refusal}
+use Rattle.f11_store.specs.declared.refusals.Refusal.TheVariants.{BadArgument, Marked, NoPrivilege, NoSuchFile, SystemFile}
+use Rattle.f11_store.specs.declared.requests.Request.TheVariants as request
+use Rattle.f11_store.proofs.FateLaws.{mark-of-cleared}
+use Rattle.f11_store.proofs.StoreLemmas.{same_number}
+use Rattle.f11_runs.proofs.AccessLemmas.{there-file, true-false}
+use Rattle.f11_flx.specs.Asking.{Asking, BreaksOff, Denies, Grants, Who, asks, plain}
+use Rattle.f11_flx.specs.CopyFromRt.{Making, entry}
+use Rattle.f11_flx.proofs.NewLemmas.{IsNewIn, none-of}
+
+-- A file is there, and is who's it was.
+record StaysOwn (f : File) (t : Store) (k : ℕ) : Type 0 where
+  pub now : File
+  pub there : t.file k ≡ Some now
+  pub sequence : now.sequence ≡ f.sequence
+  pub owner : now.owner ≡ f.owner
+  pub mark : is_marked now ≡ is_marked f
+
+own-changed : (f : File) (t : Store) (k d : ℕ) (change : File → File) → ((g : File) → (change g).sequence ≡ g.sequence) → ((g : File) → (change g).owner ≡ g.owner) → ((g : File) → is_marked (change g) ≡ is_marked g) →
+    StaysOwn f t k → StaysOwn f (with_change t d change) k
+own-changed f t k d change a b c h = by (k == d) refl
+  where
+    by : (x : Bool) → (k == d) ≡ x → StaysOwn f (with_change t d change) k
+    by true is = record {
+      now = change h.now;
+      there = ap (λ x. if x then option_map change (t.file d) else t.file k) is ∙ ap (option_map change) (ap t.file (sym (eqb-true k d is)) ∙ h.there);
+      sequence = a h.now ∙ h.sequence;
+      owner = b h.now ∙ h.owner;
+      mark = c h.now ∙ h.mark;
+    }
+    by false is = record { now = h.now; there = ap (λ x. if x then option_map change (t.file d) else t.file k) is ∙ h.there; sequence = h.sequence; owner = h.owner; mark = h.mark }
+
+own-grown : (f : File) (t u : Store) (k d n : ℕ) (blocks : List (List ℕ)) → Grows t d n blocks u → StaysOwn f t k → StaysOwn f u k
+own-grown f t u k d n blocks g h = subst (λ x. StaysOwn f x k) (sym g.store_is) (by (k == d) refl)
+  where
+    grown : File
+    grown = grown_file t g.before blocks g.added g.pointers g.room
+
+    by : (x : Bool) → (k == d) ≡ x → StaysOwn f (with_grown_file t d g.before n blocks g.added g.pointers g.room) k
+    by true is =
+        let files : Some g.before ≡ Some h.now = sym g.was ∙ ap t.file (sym (eqb-true k d is)) ∙ h.there in
+        let same : g.before ≡ h.now = cc in
+        record {
+          now = grown_file t g.before blocks g.added g.pointers g.room;
+          there = ap (λ x. if x then Some (grown_file t g.before blocks g.added g.pointers g.room) else t.file k) is;
+          sequence = ap (λ (x : File). x.sequence) same ∙ h.sequence;
+          owner = ap (λ (x : File). x.owner) same ∙ h.owner;
+          mark = ap (λ b. b == 1) (mark-of-cleared g.before.characteristics) ∙ ap (λ (x : File). is_marked x) same ∙ h.mark;
+        }
+    by false is = record { now = h.now; there = ap (λ x. if x then Some (grown_file t g.before blocks g.added g.pointers g.room) else t.file k) is ∙ h.there; sequence = h.sequence; owner = h.owner; mark = h.mark }
+
+own-entered-at-end : (b : Bool) (f : File) (t u : Store) (k d i : ℕ) (r : List ℕ) → EntersAtEnd b t d i r u → StaysOwn f t k → StaysOwn f u k
+own-entered-at-end false f t u k d i r e h = subst (λ x. StaysOwn f x k) (sym e) (own-changed f t k d (λ g. with_end_after i (with_entry i r g)) (λ g. refl) (λ g. refl) (λ g. refl) h)
+own-entered-at-end true f t u k d i r e h =
+    subst (λ x. StaysOwn f x k) (sym e.2) (own-changed f e.0 k d (λ g. with_end_after i (with_entry i r g)) (λ g. refl) (λ g. refl) (λ g. refl) (own-grown f t e.0 k d 1 (zero_blocks 1) e.1 h))
+
+own-entered : (o : Option ℕ) (f : File) (t u : Store) (k : ℕ) (d : FileId) (r : List ℕ) → EntersAt o t d r u → StaysOwn f t k → StaysOwn f u k
+own-entered (Some i) f t u k d r e h = subst (λ x. StaysOwn f x k) (sym e) (own-changed f t k d.number (with_entry i r) (λ g. refl) (λ g. refl) (λ g. refl) h)
+own-entered None f t u k d r e h = own-entered-at-end (needs_block (file_named t d)) f t u k d.number (entry_count (file_named t d)) r e h
+
+-- so its owner may protect it
+protectable : (id : FileId) (f : File) (word : ℕ) (who : Who) (t : Store) → 6 ≤ id.number → id.volume ≡ 0 → f.sequence ≡ id.sequence → f.owner ≡ who.caller → is_marked f ≡ false → StaysOwn f t id.number →
+    first_refusal t who.task who.caller (request.WriteAttr id (change.Protect word)) ≡ None
+protectable id f word who t low volume sequence owner unmarked h =
+    let named : file_of t id ≡ Some h.now = there-file t id (record { file = h.now; is = h.there; sequence = h.sequence ∙ sequence }) in
+    let file : file_named t id ≡ h.now = ap (λ o. unwrap_or o no_file) named in
+    let bad : is_bad id ≡ false = bad-not (id.number == 0) (id.volume == 0) zero-not (eq-eqb id.volume 0 volume) in
+    let missing : is_missing t id ≡ false = ap (λ o. is_none o) named in
+    let marked : is_marked (file_named t id) ≡ false = ap (λ x. is_marked x) file ∙ h.mark ∙ unmarked in
+    let barred : lacks_change (change.Protect word) who.caller (file_named t id) ≡ false =
+    ap (λ (x : File). not (is_of who.caller x.owner class.System || is_of who.caller x.owner class.Owner)) file
+    ∙ ap (λ o. not (is_of who.caller o class.System || is_of who.caller o class.Owner)) (h.owner ∙ owner)
+    ∙ ap (λ b. not b) (or-right (is_of who.caller who.caller class.System) (is_of who.caller who.caller class.Owner) (and-both (who.caller.group == who.caller.group) (who.caller.member == who.caller.member) (same_number who.caller.group) (same_number who.caller.member))) in
+    let five : List Cause = (NoPrivilege ⇐ lacks_change (change.Protect word) who.caller (file_named t id)) ∷ [] in
+    let four : List Cause = (Marked ⇐ is_marked (file_named t id)) ∷ five in
+    let three : List Cause = (NoSuchFile ⇐ is_missing t id) ∷ four in
+    let two : List Cause = (SystemFile ⇐ nat_lt id.number 4) ∷ three in
+    none-of (BadArgument ⇐ is_bad id) two bad (none-of (SystemFile ⇐ nat_lt id.number 4) three less-not (none-of (NoSuchFile ⇐ is_missing t id) four missing
+    (none-of (Marked ⇐ is_marked (file_named t id)) five marked (none-of (NoPrivilege ⇐ lacks_change (change.Protect word) who.caller (file_named t id)) [] barred refl))))
+  where
+    and-both : (a b : Bool) → a ≡ true → b ≡ true → (a && b) ≡ true
+    and-both true b h k = k
+    and-both false b h k = absurd (true-false (sym h))
+
+    or-right : (a b : Bool) → b ≡ true → (a || b) ≡ true
+    or-right true b h = refl
+    or-right false b h = h
+
+    zero-not : (id.number == 0) ≡ false
+    zero-not = by (id.number == 0) refl
+      where
+        by : (b : Bool) → (id.number == 0) ≡ b → b ≡ false
+        by true is = absurd (omega (arith, eqb-true id.number 0 is, low))
+        by false is = refl
+
+    less-not : nat_lt id.number 4 ≡ false
+    less-not = by (nat_lt id.number 4) refl
+      where
+        by : (b : Bool) → nat_lt id.number 4 ≡ b → b ≡ false
+        by true is = absurd (omega (arith, ltb-true id.number 4 is, low))
+        by false is = refl
+
+    bad-not : (a b : Bool) → a ≡ false → b ≡ true → (a || not b) ≡ false
+    bad-not false true h k = refl
+    bad-not true b h k = absurd (true-false h)
+    bad-not false false h k = absurd (true-false (sym k))
+
+-- of entering and protecting a new file nothing is refused but the entry: then all is as it was
+pub entry-refused : (making : Making) (who : Who) (id : FileId) (e : Refusal) (s t u : Store) → IsNewIn who.caller id s.access s t → BreaksOff plain who (entry making id) e t u → u ≡ t
+entry-refused making who id e s t u h (inl d) = d.2.store_stays
+entry-refused making who id e s t u h (inr (v, g, inl d)) =
+    let own : StaysOwn h.file t id.number = record { now = h.file; there = h.there; sequence = refl; owner = refl; mark = refl } in
+    let here = own-entered (index_of_empty (file_named t making.directory)) h.file t v id.number making.directory (record_bytes id making.name) g.3.changes own in
+    absurd (subst (λ o. MayRefuse o (request.WriteAttr id (change.Protect making.protection)) e) (protectable id h.file making.protection who v h.low h.volume h.sequence h.owner h.unmarked here) d.2.may_refuse)
+entry-refused making who id e s t u h (inr (v, g, inr (w, k, none))) = absurd none

@@ -1,0 +1,218 @@
+-- What a making that is granted makes.
+use Rattle.std.proofs.Common.{◌≡◌, ◌⊎◌, inl, inr, ℕ, zero, suc, ◌+◌, ◌-◌, ◌==◌, ◌&&◌, Bool, true, false, if◌then◌else◌, List, [], ◌∷◌, ◌++◌, All, length, Option, Some, None, option_map, refl, sym, ap, ◌∙◌, subst, append_assoc, append-nil, length-append, arith}
+use Rattle.std.specs.Prelude.{slice_set}
+use Rattle.std.specs.List.{concat}
+use Rattle.std.proofs.Math.Seq.{set-append_seam}
+use Rattle.std.proofs.lemmas.Bool.{eqb-true}
+use Rattle.f11_store.specs.Accesses.{FreeIsEmpty}
+use Rattle.f11_store.specs.Changes.{EntersAt, EntersAtEnd, Grows, file_created, grown_file, with_block, with_change, with_end_after, with_entry, with_replacement}
+use Rattle.f11_store.specs.Directory.{entry_count, index_of_empty, needs_block, record_bytes}
+use Rattle.f11_store.specs.File.{File, zero_blocks}
+use Rattle.f11_store.specs.Ident.{ident_with}
+use Rattle.f11_store.specs.Step.{next_id}
+use Rattle.f11_store.specs.Store.{Access, Store, file_named, id_held, id_in, least_free}
+use Rattle.f11_store.specs.declared.callers.Uic.{Uic}
+use Rattle.f11_store.specs.declared.files.Change.TheVariants as change
+use Rattle.f11_store.specs.declared.files.FileId.{FileId}
+use Rattle.f11_store.specs.declared.files.Mode.TheVariants as mode
+use Rattle.f11_store.specs.declared.requests.Request.TheVariants as request
+use Rattle.f11_store.proofs.StoreLemmas.{same_number}
+use Rattle.f11_flx.specs.Asking.{Asking, Granted, Grants, Who, asks, plain, writes, writes_of}
+use Rattle.f11_flx.specs.CopyFromRt.{Making, as_file, creation, entry, filling, giving_up, opening}
+use Rattle.f11_flx.specs.Making.{extension}
+use Rattle.f11_flx.specs.MakingLaws.{CopiedHolds, GrantedIsMade, HasMadeFile, IsEntered}
+use Rattle.f11_flx.proofs.AskingLemmas.{granted-parts}
+use Rattle.f11_flx.proofs.NewLemmas.{IsNewIn, IsOpenIn, closed, given-back, holds, length-zeros, new-made, written}
+use Rattle.f11_flx.proofs.UndoneLemmas.{extension-stays, writes-stay}
+
+-- A file is there, with these blocks, and else as it was created.
+record IsSuch (making : Making) (caller : Uic) (blocks : List (List ℕ)) (k : ℕ) (t : Store) : Type 0 where
+  pub file : File
+  pub there : t.file k ≡ Some file
+  pub blocks_are : file.blocks ≡ blocks
+  pub attr_is : file.attr ≡ making.attr
+  pub ident_is : file.ident ≡ ident_with making.name
+  pub owner_is : file.owner ≡ caller
+
+such-stays : (making : Making) (caller : Uic) (blocks : List (List ℕ)) (k : ℕ) (t u : Store) → u.file k ≡ t.file k → IsSuch making caller blocks k t → IsSuch making caller blocks k u
+such-stays making caller blocks k t u same h = record { file = h.file; there = same ∙ h.there; blocks_are = h.blocks_are; attr_is = h.attr_is; ident_is = h.ident_is; owner_is = h.owner_is }
+
+such-created : (making : Making) (who : Who) (s t : Store) → Granted plain who (creation making (next_id s)) s t → IsSuch making who.caller [] (next_id s).number t
+such-created making who s t h =
+    let file : File = file_created s (least_free s) who.caller 0 (ident_with making.name) making.attr in
+    record {
+      file = file;
+      there = ap (λ (x : Store). x.file (least_free s)) (h.2 ∙ h.1.2.changes) ∙ ap (λ b. if b then Some file else s.file (least_free s)) (same_number (least_free s));
+      blocks_are = refl;
+      attr_is = refl;
+      ident_is = refl;
+      owner_is = refl;
+    }
+
+module _ (making : Making) (who : Who) (lun : ℕ) (id : FileId) (s : Store) where
+  Such : List (List ℕ) → Store → Type 0
+  Such blocks t = IsSuch making who.caller blocks id.number t
+
+  -- blocks are allocated
+  such-extended : (n : ℕ) (t u : Store) → IsOpenIn who.caller id s who lun t → IsSuch making who.caller [] id.number t → Granted plain who (extension lun n) t u → IsSuch making who.caller (zero_blocks n) id.number u
+  such-extended n t u o h = by (n == 0) refl
+    where
+      none : (k : ℕ) → k ≡ 0 → [] ≡ zero_blocks k
+      none k is = no-blocks (zero_blocks k) (length-zeros k ∙ is)
+        where
+          no-blocks : (xs : List (List ℕ)) → length xs ≡ 0 → [] ≡ xs
+          no-blocks [] is = refl
+          no-blocks (x ∷ xs) is = absurd (omega (arith, is))
+
+      by : (b : Bool) → (n == 0) ≡ b → Granted plain who (if b then [] else asks (request.Extend lun n) ∷ []) t u → IsSuch making who.caller (zero_blocks n) id.number u
+      by true is g =
+          let k = such-stays making who.caller [] id.number t u (ap (λ (x : Store). x.file id.number) g) h in
+          subst (λ l. IsSuch making who.caller l id.number u) (none n (eqb-true n 0 is)) k
+      by false is g =
+          let at : id_held t who.task lun ≡ id = ap id_in (holds who.caller id s who lun t o) in
+          let grows : Grows t id.number n (zero_blocks n) g.0 = subst (λ (i : FileId). Grows t i.number n (zero_blocks n) g.0) at g.1.3.changes in
+          let before : Some grows.before ≡ Some h.file = sym grows.was ∙ h.there in
+          let same : grows.before ≡ h.file = cc in
+          let grown : File = grown_file t grows.before (zero_blocks n) grows.added grows.pointers grows.room in
+          record {
+            file = grown;
+            there = ap (λ (x : Store). x.file id.number) (g.2 ∙ grows.store_is) ∙ ap (λ b. if b then Some grown else t.file id.number) (same_number id.number);
+            blocks_are = ap (λ (f : File). f.blocks ++ zero_blocks n) same ∙ ap (λ l. l ++ zero_blocks n) h.blocks_are;
+            attr_is = ap (λ (f : File). f.attr) same ∙ h.attr_is;
+            ident_is = ap (λ (f : File). f.ident) same ∙ h.ident_is;
+            owner_is = ap (λ (f : File). f.owner) same ∙ h.owner_is;
+          }
+
+  -- one is written
+  such-written : (vbn : ℕ) (block : List ℕ) (blocks : List (List ℕ)) (t u : Store) → IsOpenIn who.caller id s who lun t → IsSuch making who.caller blocks id.number t → Grants plain who (writes lun vbn block) t u →
+      IsSuch making who.caller (slice_set blocks (vbn - 1) block) id.number u
+  such-written vbn block blocks t u o h g =
+      let at : id_held t who.task lun ≡ id = ap id_in (holds who.caller id s who lun t o) in
+      let changed : u ≡ with_change t id.number (with_block vbn block) = g.2.changes ∙ ap (λ (i : FileId). with_change t i.number (with_block vbn block)) at in
+      record {
+        file = with_block vbn block h.file;
+        there = ap (λ (x : Store). x.file id.number) changed ∙ ap (λ b. if b then option_map (with_block vbn block) (t.file id.number) else t.file id.number) (same_number id.number) ∙ ap (option_map (with_block vbn block)) h.there;
+        blocks_are = ap (λ l. slice_set l (vbn - 1) block) h.blocks_are;
+        attr_is = h.attr_is;
+        ident_is = h.ident_is;
+        owner_is = h.owner_is;
+      }
+
+  -- all are, one after another
+  such-filled : (front pieces zs : List (List ℕ)) (t u : Store) → length zs ≡ length pieces → IsOpenIn who.caller id s who lun t → IsSuch making who.caller (front ++ zs) id.number t →
+      Granted plain who (writes_of lun (length front) pieces) t u → IsSuch making who.caller (front ++ pieces) id.number u
+  such-filled front [] [] t u size o h g = such-stays making who.caller (front ++ []) id.number t u (ap (λ (x : Store). x.file id.number) g) h
+  such-filled front [] (z ∷ zs) t u size o h g = absurd (omega (arith, size))
+  such-filled front (x ∷ more) [] t u size o h g = absurd (omega (arith, size))
+  such-filled front (x ∷ more) (z ∷ zs) t u size o h g =
+      let one = such-written (suc (length front)) x (front ++ z ∷ zs) t g.0 o h g.1 in
+      let place : suc (length front) - 1 ≡ length front = omega arith in
+      let set : slice_set (front ++ z ∷ zs) (suc (length front) - 1) x ≡ (front ++ x ∷ []) ++ zs =
+      ap (λ n. slice_set (front ++ z ∷ zs) n x) place ∙ set-append_seam front z zs x ∙ sym (append_assoc front (x ∷ []) zs) in
+      let next : length (front ++ x ∷ []) ≡ suc (length front) = omega (arith, length-append front (x ∷ [])) in
+      let rest = such-filled (front ++ x ∷ []) more zs g.0 u (omega (arith, size)) (written who.caller id s who lun (suc (length front)) x t g.0 o g.1) (subst (λ l. IsSuch making who.caller l id.number g.0) set one)
+      (subst (λ n. Granted plain who (writes_of lun n more) g.0 u) (sym next) g.2) in
+      subst (λ l. IsSuch making who.caller l id.number u) (append_assoc front (x ∷ []) more) rest
+
+-- all but the directory stays where a name is entered
+entered-other : (o : Option ℕ) (t u : Store) (d : FileId) (r : List ℕ) (k : ℕ) → (k == d.number) ≡ false → EntersAt o t d r u → u.file k ≡ t.file k
+entered-other (Some i) t u d r k apart e = ap (λ (x : Store). x.file k) e ∙ ap (λ b. if b then option_map (with_entry i r) (t.file d.number) else t.file k) apart
+entered-other None t u d r k apart e = by (needs_block (file_named t d)) e
+  where
+    by : (b : Bool) → EntersAtEnd b t d.number (entry_count (file_named t d)) r u → u.file k ≡ t.file k
+    by false e = ap (λ (x : Store). x.file k) e ∙ ap (λ b. if b then option_map (λ g. with_end_after (entry_count (file_named t d)) (with_entry (entry_count (file_named t d)) r g)) (t.file d.number) else t.file k) apart
+    by true e =
+        let grown : e.0.file k ≡ t.file k = ap (λ (x : Store). x.file k) e.1.store_is ∙ ap (λ b. if b then Some (grown_file t e.1.before (zero_blocks 1) e.1.added e.1.pointers e.1.room) else t.file k) apart in
+        ap (λ (x : Store). x.file k) e.2 ∙ ap (λ b. if b then option_map (λ g. with_end_after (entry_count (file_named t d)) (with_entry (entry_count (file_named t d)) r g)) (e.0.file d.number) else e.0.file k) apart ∙ grown
+
+entered-access : (o : Option ℕ) (t u : Store) (d : FileId) (r : List ℕ) (task lun : ℕ) → EntersAt o t d r u → u.access task lun ≡ t.access task lun
+entered-access (Some i) t u d r task lun e = ap (λ (x : Store). x.access task lun) e
+entered-access None t u d r task lun e = by (needs_block (file_named t d)) e
+  where
+    by : (b : Bool) → EntersAtEnd b t d.number (entry_count (file_named t d)) r u → u.access task lun ≡ t.access task lun
+    by false e = ap (λ (x : Store). x.access task lun) e
+    by true e = ap (λ (x : Store). x.access task lun) e.2 ∙ ap (λ (x : Store). x.access task lun) e.1.store_is
+
+-- a file that is filled and closed, and then entered and protected
+made-of : (making : Making) (who : Who) (id : FileId) (s t s' : Store) → (id.number == making.directory.number) ≡ false → IsNewIn who.caller id s.access s t → IsSuch making who.caller making.blocks id.number t →
+    Granted plain who (entry making id) t s' → HasMadeFile making who.caller id s s'
+made-of making who id s t s' apart h k g =
+    let v = g.0 in
+    let enters = g.1.3.changes in
+    let o = index_of_empty (file_named t making.directory) in
+    let r = record_bytes id making.name in
+    let protect = with_replacement (change.Protect making.protection) in
+    let last : s' ≡ with_change v id.number protect = g.2.2 ∙ g.2.1.3.changes in
+    let here : v.file id.number ≡ Some k.file = entered-other o t v making.directory r id.number apart enters ∙ k.there in
+    record {
+      file = protect k.file;
+      there = ap (λ (x : Store). x.file id.number) last ∙ ap (λ b. if b then option_map protect (v.file id.number) else v.file id.number) (same_number id.number) ∙ ap (option_map protect) here;
+      blocks_are = k.blocks_are;
+      attr_is = k.attr_is;
+      ident_is = k.ident_is;
+      owner_is = k.owner_is;
+      protection_is = refl;
+      entered = record {
+        before = t;
+        after = v;
+        as_before = h.others making.directory.number (other-way id.number making.directory.number apart);
+        enters = enters;
+        as_after = ap (λ (x : Store). x.file making.directory.number) last ∙ ap (λ b. if b then option_map protect (v.file id.number) else v.file making.directory.number) (other-way id.number making.directory.number apart);
+      };
+      others = λ n a b.
+          ap (λ (x : Store). x.file n) last ∙ ap (λ c. if c then option_map protect (v.file id.number) else v.file n) a ∙ entered-other o t v making.directory r n b enters ∙ h.others n a;
+      access = λ task lun. ap (λ (x : Store). x.access task lun) last ∙ entered-access o t v making.directory r task lun enters ∙ h.access task lun;
+    }
+  where
+    other-way : (a b : ℕ) → (a == b) ≡ false → (b == a) ≡ false
+    other-way a b is = by (b == a) refl
+      where
+        never : (a b : ℕ) → a ≡ b → (a == b) ≡ false → ⊥
+        never a b same is = Rattle.f11_runs.proofs.AccessLemmas.true-false (sym (same_number a) ∙ ap (λ n. a == n) same ∙ is)
+
+        by : (c : Bool) → (b == a) ≡ c → c ≡ false
+        by true same = absurd (never a b (sym (eqb-true b a same)) is)
+        by false same = refl
+
+pub granted-is-made : GrantedIsMade
+granted-is-made making who lun s s' tidy apart g =
+    let id : FileId = next_id s in
+    let one = granted-parts plain who (creation making id) (opening lun id ++ (filling lun making.blocks ++ entry making id)) s s' g in
+    let two = granted-parts plain who (opening lun id) (filling lun making.blocks ++ entry making id) one.0 s' one.2 in
+    let three = granted-parts plain who (filling lun making.blocks) (entry making id) two.0 s' two.2 in
+    let four = granted-parts plain who (extension lun (length making.blocks)) (writes_of lun 0 making.blocks ++ giving_up lun) two.0 three.0 three.1 in
+    let five = granted-parts plain who (writes_of lun 0 making.blocks) (giving_up lun) four.0 three.0 four.2 in
+    let made = new-made making id who s one.0 tidy one.1 in
+    let o = opened-at id one.0 two.0 made two.1 in
+    let same : two.0.file id.number ≡ one.0.file id.number = ap (λ (x : Store). x.file id.number) (two.1.2 ∙ two.1.1.3.changes) in
+    let begun = such-stays making who.caller [] id.number one.0 two.0 same (such-created making who s one.0 one.1) in
+    let open2 = extension-stays who lun id s (length making.blocks) two.0 four.0 o.0 four.1 in
+    let zeros = such-extended making who lun id s (length making.blocks) two.0 four.0 o.0 begun four.1 in
+    let open3 = writes-stay who lun id s 0 making.blocks four.0 five.0 open2 five.1 in
+    let full = such-filled making who lun id s [] making.blocks (zero_blocks (length making.blocks)) four.0 five.0 (length-zeros (length making.blocks)) open2 zeros five.1 in
+    let back : three.0 ≡ five.2.0 = five.2.2 in
+    let shut = subst (λ x. IsNewIn who.caller id s.access s x) (sym back) (closed who.caller id s who lun five.0 five.2.0 o.1 open3 five.2.1) in
+    let kept : three.0.file id.number ≡ five.0.file id.number = ap (λ (x : Store). x.file id.number) (back ∙ given-back who.caller id s who lun five.0 five.2.0 open3 five.2.1) in
+    made-of making who id s three.0 s' apart shut (such-stays making who.caller making.blocks id.number five.0 three.0 kept full) three.2
+  where
+    opened-at : (id : FileId) (t u : Store) → IsNewIn who.caller id s.access s t → Granted plain who (opening lun id) t u → IsOpenIn who.caller id s who lun u × (s.access who.task lun ≡ None)
+    opened-at id t u h g = (
+      subst (λ x. IsOpenIn who.caller id s who lun x) (sym g.2) (Rattle.f11_flx.proofs.NewLemmas.opened who.caller id s who lun t g.0 h g.1),
+      Rattle.f11_flx.proofs.NewLemmas.lun-was-free who.caller id s who lun t g.0 h g.1,
+    )
+
+pub copied-holds : CopiedHolds
+copied-holds m name who lun dir to protection blocks t s s' tidy apart h =
+    let made = granted-is-made (as_file to dir protection h.attr h.pieces) who lun s s' tidy apart h.asked in (
+      h.attr,
+      h.pieces,
+      record {
+        source = h.has.file;
+        copy = h.has.copy;
+        converted = h.has.converted;
+        made = made;
+        holds = record { content = ap concat made.blocks_are ∙ h.has.content_is; attr = made.attr_is ∙ h.has.attr_is };
+        blocks_are = ap (λ (l : List (List ℕ)). length l) made.blocks_are ∙ h.blocks_are;
+        whole = subst (All (λ b. length b ≡ 512)) (sym made.blocks_are) h.has.whole;
+      },
+    )

@@ -1,0 +1,356 @@
+-- A file that is made, and undone, over the plain store.
+use Rattle.std.proofs.Common.{◌≡◌, ◌⊎◌, inl, inr, ℕ, suc, ◌+◌, ◌-◌, ◌*◌, ◌<◌, ◌≤◌, ◌==◌, ◌&&◌, ◌||◌, not, Bool, true, false, nat_le, nat_lt, if◌then◌else◌, List, [], ◌∷◌, ◌++◌, length, take, Option, Some, None, Result, Ok, Err, is_none, is_some, option_map, refl, sym, ap, ◌∙◌, subst, arith, length-append}
+use Rattle.std.specs.Prelude.{replicate, slice_set, unwrap_or}
+use Rattle.std.proofs.lemmas.Bool.{eq-eqb, eqb-true, leb-false, leb-true, lt-ltb, ltb-true, and_parts}
+use Rattle.std.proofs.lemmas.List.{length-replicate, length-set}
+use Rattle.f11_bytes.specs.Block.{zero_block}
+use Rattle.f11_store.specs.Accesses.{FreeIsEmpty}
+use Rattle.f11_store.specs.Causes.{Cause, ◌⇐◌, causes_of, first_of, first_refusal, cannot_write, holds_none, is_bad, is_missing, lacks}
+use Rattle.f11_store.specs.Changes.{Changes, Grows, after_deaccess, after_delete, after_giving_up, file_created, grown_file, is_due, is_in, next_sequence, with_access, with_block, with_change, with_grown_file, with_marked_file, with_new_file, without_due_file, without_file, without_file_at}
+use Rattle.f11_store.specs.File.{File, is_marked, length_of, need, no_file, without_contiguous, zero_blocks}
+use Rattle.f11_store.specs.Ident.{ident_with}
+use Rattle.f11_store.specs.Rights.{is_of, may}
+use Rattle.f11_store.specs.Step.{MayRefuse, next_id}
+use Rattle.f11_store.specs.Store.{Access, Store, file_named, file_of, free_headers, free_slots, file_held, id_held, id_in, is_accessed, is_held, is_same, is_to, least_free}
+use Rattle.f11_store.specs.declared.callers.Uic.{Uic}
+use Rattle.f11_store.specs.declared.files.FileId.{FileId}
+use Rattle.f11_store.specs.declared.files.Mode.{Mode}
+use Rattle.f11_store.specs.declared.files.Mode.TheVariants as mode
+use Rattle.f11_store.specs.declared.protection.Class.TheVariants as class
+use Rattle.f11_store.specs.declared.protection.Right.{Right}
+use Rattle.f11_store.specs.declared.protection.Right.TheVariants as right
+use Rattle.f11_store.specs.declared.refusals.Refusal.{Refusal}
+use Rattle.f11_store.specs.declared.refusals.Refusal.TheVariants.{BadArgument, DeviceFull, LunInUse, Marked, NoHeader, NoPrivilege, NoSuchAccess, NoSuchFile, SystemFile, TooManySegments}
+use Rattle.f11_store.specs.declared.requests.Request.{Request}
+use Rattle.f11_store.specs.declared.requests.Request.TheVariants as request
+use Rattle.f11_store.proofs.FateLaws.{mark-of-cleared}
+use Rattle.f11_store.proofs.FileLaws.{least_free_is_free}
+use Rattle.f11_store.proofs.StoreLemmas.{none_first, none_rest, same_number}
+use Rattle.f11_runs.specs.Standing.{AccessesStand, is_lost}
+use Rattle.f11_runs.proofs.AccessLemmas.{IsThere, held-none, there-file, there-is, true-false}
+use Rattle.f11_runs.proofs.SlotLists.{in-one, in-two, taken-free}
+use Rattle.f11_flx.specs.Asking.{Asking, Denies, Granted, Grants, Who, asks, plain, told, writes, writes_of}
+use Rattle.f11_flx.specs.CopyFromRt.{IsAsBefore, Making, creation}
+use Rattle.f11_flx.proofs.FromRtLemmas.{created-next}
+
+-- A store is s with one file more, which is the caller's and bars nobody; accesses are these.
+pub record IsNewIn (caller : Uic) (id : FileId) (accesses : ℕ → ℕ → Option Access) (s t : Store) : Type 0 where
+  pub file : File
+  pub there : t.file id.number ≡ Some file
+  pub sequence : file.sequence ≡ id.sequence
+  pub owner : file.owner ≡ caller
+  pub open-to : file.protection ≡ 0
+  pub unmarked : is_marked file ≡ false
+  pub nowhere : s.file id.number ≡ None
+  pub others : (n : ℕ) → (n == id.number) ≡ false → t.file n ≡ s.file n
+  pub free : t.free + length_of file ≡ s.free
+  pub slots : t.slots ≡ s.slots
+  pub in-use : (n : ℕ) → (not (is_in file.held n) && t.in_use n) ≡ s.in_use n
+  pub last : (n : ℕ) → s.in_use n ≡ true → t.last n ≡ s.last n
+  pub low : 6 ≤ id.number
+  pub volume : id.volume ≡ 0
+  pub access : (task lun : ℕ) → t.access task lun ≡ accesses task lun
+
+-- the accesses with that of a task by a lun
+abbrev pub with-held : (ℕ → ℕ → Option Access) → ℕ → ℕ → Option Access → ℕ → ℕ → Option Access
+with-held accesses task lun a = λ t l. if (t == task) && (l == lun) then a else accesses t l
+
+or-right : (a b : Bool) → b ≡ true → (a || b) ≡ true
+or-right true b h = refl
+or-right false b h = h
+
+-- a word of 0 denies nothing
+open-to-all : (caller owner : Uic) → may caller owner 0 right.Delete ≡ true
+open-to-all caller owner =
+    or-right (is_of caller owner class.System && true) _ (or-right (is_of caller owner class.Owner && true) _ (or-right (is_of caller owner class.Group && true) _ refl))
+
+-- none of the causes holds
+pub none-of : (c : Cause) (cs : List Cause) → c.holds ≡ false → first_of cs ≡ None → first_of (c ∷ cs) ≡ None
+none-of c cs h k = ap (λ b. if b then Some c.refusal else first_of cs) h ∙ k
+
+-- nobody accesses a file that isn't there
+unheld : (test : Mode → Bool) (s : Store) (id : FileId) → AccessesStand s → s.file id.number ≡ None → (t l : ℕ) → t < 8 → l < 4 → is_to test id (s.access t l) ≡ false
+unheld test s id stand none t l low small = by (s.access t l) (stand t l low small)
+  where
+    apart : (a : Access) → is_missing s a.file ≡ false → (a.file.number == id.number) ≡ true → ⊥
+    apart a there same =
+        let here = there-is s a.file there in
+        let is : None ≡ Some here.file = sym none ∙ ap s.file (sym (eqb-true a.file.number id.number same)) ∙ here.is in
+        cc
+
+    by_same : (a : Access) (b : Bool) → is_missing s a.file ≡ false → (a.file.number == id.number) ≡ b → is_to test id (Some a) ≡ false
+    by_same a true there same = absurd (apart a there same)
+    by_same a false there same = ap (λ c. (c && (a.file.sequence == id.sequence)) && test a.mode) same
+
+    by : (o : Option Access) → is_lost s o ≡ false → is_to test id o ≡ false
+    by None h = refl
+    by (Some a) h = by_same a (a.file.number == id.number) h refl
+
+pub unaccessed : (test : Mode → Bool) (s t : Store) (id : FileId) → AccessesStand s → s.file id.number ≡ None → ((task lun : ℕ) → t.access task lun ≡ s.access task lun) → is_held test t id ≡ false
+unaccessed test s t id stand none same =
+    held-none test t id (λ task lun low small. ap (λ o. is_to test id o) (same task lun) ∙ unheld test s id stand none task lun low small)
+
+-- the file that was created
+pub new-made : (making : Making) (id : FileId) (who : Who) (s t : Store) → FreeIsEmpty s → Granted plain who (creation making id) s t → IsNewIn who.caller id s.access s t
+new-made making id who s t tidy h =
+    let step = h.1.2 in
+    let is : id ≡ next_id s = created-next making id who s t h in
+    let free = least_free_is_free s (none_first (free_headers s == 0) NoHeader None step.no_cause) in
+    let same : t ≡ with_new_file s (least_free s) (file_created s (least_free s) who.caller 0 (ident_with making.name) making.attr) = h.2 ∙ step.changes in
+    subst (λ i. IsNewIn who.caller i s.access s t) (sym is) (subst (λ x. IsNewIn who.caller (next_id s) s.access s x) (sym same) (record {
+      file = file_created s (least_free s) who.caller 0 (ident_with making.name) making.attr;
+      there = ap (λ b. if b then Some (file_created s (least_free s) who.caller 0 (ident_with making.name) making.attr) else s.file (least_free s)) (same_number (least_free s));
+      sequence = refl;
+      owner = refl;
+      open-to = refl;
+      unmarked = refl;
+      nowhere = tidy (least_free s) free.unused;
+      others = λ n apart. ap (λ b. if b then Some (file_created s (least_free s) who.caller 0 (ident_with making.name) making.attr) else s.file n) apart;
+      free = omega arith;
+      slots = refl;
+      in-use = λ n. used n (is_in (least_free s ∷ []) n) refl free.unused;
+      last = λ n used. kept n (is_in (least_free s ∷ []) n) refl used free.unused;
+      low = free.low;
+      volume = refl;
+      access = λ task lun. refl;
+    }))
+  where
+    used : (n : ℕ) (b : Bool) → is_in (least_free s ∷ []) n ≡ b → s.in_use (least_free s) ≡ false → (not b && (b || s.in_use n)) ≡ s.in_use n
+    used n true in-it free = sym (ap s.in_use (sym (in-one (least_free s) n in-it)) ∙ free)
+    used n false in-it free = refl
+
+    kept : (n : ℕ) (b : Bool) → is_in (least_free s ∷ []) n ≡ b → s.in_use n ≡ true → s.in_use (least_free s) ≡ false → (if b then next_sequence (s.last n) else s.last n) ≡ s.last n
+    kept n true in-it used free = absurd (true-false (sym used ∙ ap s.in_use (sym (in-one (least_free s) n in-it)) ∙ free))
+    kept n false in-it used free = refl
+
+-- so many blocks are free as are asked for
+enough-free : (t : Store) (who : Who) (lun n : ℕ) → first_refusal t who.task who.caller (request.Extend lun n) ≡ None → n ≤ t.free
+enough-free t who lun n none =
+    let growth = none_rest (lacks right.Extend who.caller (file_held t who.task lun)) NoPrivilege _ (none_rest (cannot_write t who.task lun) NoSuchAccess _ (none_rest (n == 0) BadArgument _ none)) in
+    let free = none_first (nat_lt t.free n) DeviceFull _ (none_rest (nat_lt 256 (length (file_held t who.task lun).held + need (file_held t who.task lun).room n)) TooManySegments _ growth) in
+    not-less t.free n free
+  where
+    not-less : (a b : ℕ) → nat_lt a b ≡ false → b ≤ a
+    not-less a b is = by (nat_le b a) refl
+      where
+        by : (c : Bool) → nat_le b a ≡ c → b ≤ a
+        by true h = leb-true b a h
+        by false h = absurd (true-false (sym (lt-ltb a b (omega (arith, leb-false b a h))) ∙ is))
+
+pub length-zeros : (n : ℕ) → length (zero_blocks n) ≡ n
+unfolding zero_blocks
+length-zeros n = length-replicate n zero_block
+
+-- slots that were free come into use
+used-more : (held taken used before : Bool) → (taken ≡ true → used ≡ false) → (not held && used) ≡ before → (not (held || taken) && (taken || used)) ≡ before
+used-more true taken used before free is = is
+used-more false false used before free is = is
+used-more false true used before free is = sym (free refl) ∙ is
+
+kept-last : (taken held used : Bool) (now before : ℕ) → (taken ≡ true → used ≡ false) → (not held && used) ≡ true → now ≡ before → (if taken then next_sequence now else now) ≡ before
+kept-last true held used now before free is same = absurd (no held used (free refl) is)
+  where
+    no : (a b : Bool) → b ≡ false → (not a && b) ≡ true → ⊥
+    no true b h k = true-false (sym k)
+    no false b h k = true-false (sym k ∙ h)
+kept-last false held used now before free is same = same
+
+module _ (caller : Uic) (id : FileId) (s : Store) where
+  named : (accesses : ℕ → ℕ → Option Access) (t : Store) → (h : IsNewIn caller id accesses s t) → file_of t id ≡ Some h.file
+  named accesses t h = there-file t id (record { file = h.file; is = h.there; sequence = h.sequence })
+
+  -- it is deleted, and all is as before
+  deletable : (t : Store) (task : ℕ) → AccessesStand s → IsNewIn caller id s.access s t → first_refusal t task caller (request.Delete id) ≡ None
+  deletable t task stand h =
+      let file : file_named t id ≡ h.file = ap (λ o. unwrap_or o no_file) (named s.access t h) in
+      let bad : is_bad id ≡ false = bad-not (id.number == 0) (id.volume == 0) (zero-not id.number h.low) (eq-eqb id.volume 0 h.volume) in
+      let system : nat_lt id.number 6 ≡ false = less-not id.number h.low in
+      let missing : is_missing t id ≡ false = ap (λ o. is_none o) (named s.access t h) in
+      let marked : (is_marked (file_named t id) && is_accessed t id) ≡ false = ap (λ f. is_marked f && is_accessed t id) file ∙ ap (λ b. b && is_accessed t id) h.unmarked in
+      let barred : lacks right.Delete caller (file_named t id) ≡ false =
+      ap (λ f. not (may caller f.owner f.protection right.Delete)) file ∙ ap (λ w. not (may caller h.file.owner w right.Delete)) h.open-to ∙ ap (λ b. not b) (open-to-all caller h.file.owner) in
+      let five : List Cause = (NoPrivilege ⇐ lacks right.Delete caller (file_named t id)) ∷ [] in
+      let four : List Cause = (Marked ⇐ (is_marked (file_named t id) && is_accessed t id)) ∷ five in
+      let three : List Cause = (NoSuchFile ⇐ is_missing t id) ∷ four in
+      let two : List Cause = (SystemFile ⇐ nat_lt id.number 6) ∷ three in
+      none-of (BadArgument ⇐ is_bad id) two bad (none-of (SystemFile ⇐ nat_lt id.number 6) three system (none-of (NoSuchFile ⇐ is_missing t id) four missing
+      (none-of (Marked ⇐ (is_marked (file_named t id) && is_accessed t id)) five marked (none-of (NoPrivilege ⇐ lacks right.Delete caller (file_named t id)) [] barred refl))))
+    where
+      zero-not : (n : ℕ) → 6 ≤ n → (n == 0) ≡ false
+      zero-not n low = by (n == 0) refl
+        where
+          by : (b : Bool) → (n == 0) ≡ b → b ≡ false
+          by true is = absurd (omega (arith, eqb-true n 0 is, low))
+          by false is = refl
+
+      less-not : (n : ℕ) → 6 ≤ n → nat_lt n 6 ≡ false
+      less-not n low = by (nat_lt n 6) refl
+        where
+          by : (b : Bool) → nat_lt n 6 ≡ b → b ≡ false
+          by true is = absurd (omega (arith, ltb-true n 6 is, low))
+          by false is = refl
+
+      bad-not : (a b : Bool) → a ≡ false → b ≡ true → (a || not b) ≡ false
+      bad-not false true h k = refl
+      bad-not true b h k = absurd (true-false h)
+      bad-not false false h k = absurd (true-false (sym k))
+
+  -- so it isn't refused
+  pub undenied-delete : (who : Who) (t u : Store) (e : Refusal) → who.caller ≡ caller → AccessesStand s → IsNewIn caller id s.access s t → Denies plain who (asks (request.Delete id)) e t u → ⊥
+  undenied-delete who t u e is stand h d =
+      subst (λ o. MayRefuse o (request.Delete id) e) (subst (λ c. first_refusal t who.task c (request.Delete id) ≡ None) (sym is) (deletable t who.task stand h)) d.2.may_refuse
+
+  pub deleted : (who : Who) (t u : Store) → AccessesStand s → IsNewIn caller id s.access s t → Grants plain who (asks (request.Delete id)) t u → IsAsBefore s u
+  deleted who t u stand h g =
+      let nobody : is_accessed t id ≡ false = unaccessed (λ _. true) s t id stand h.nowhere h.access in
+      let gone : u ≡ without_file_at t id.number = g.3.changes ∙ ap (λ b. if b then with_marked_file t id.number else without_file_at t id.number) nobody in
+      let same : u ≡ without_file t id.number h.file = gone ∙ ap (λ o. without_file t id.number (unwrap_or o no_file)) h.there in
+      subst (λ x. IsAsBefore s x) (sym same) (record {
+        file = λ n. at n (n == id.number) refl;
+        free = h.free;
+        slots = h.slots;
+        in_use = h.in-use;
+        last = h.last;
+        access = h.access;
+      })
+    where
+      at : (n : ℕ) (b : Bool) → (n == id.number) ≡ b → (if b then None else t.file n) ≡ s.file n
+      at n true is = sym (ap s.file (eqb-true n id.number is) ∙ h.nowhere)
+      at n false is = h.others n is
+
+  -- it is accessed to be written, by a lun that held nothing
+  pub opened : (who : Who) (lun : ℕ) (t u : Store) → IsNewIn caller id s.access s t → Grants plain who (asks (request.Access id mode.Write lun)) t u →
+      IsNewIn caller id (with-held s.access who.task lun (Some (record { file = id; mode = mode.Write }))) s u
+  opened who lun t u h g =
+      let same : u ≡ with_access t who.task lun (Some (record { file = id; mode = mode.Write })) = g.3.changes in
+      subst (λ x. IsNewIn caller id (with-held s.access who.task lun (Some (record { file = id; mode = mode.Write }))) s x) (sym same) (record {
+        file = h.file;
+        there = h.there;
+        sequence = h.sequence;
+        owner = h.owner;
+        open-to = h.open-to;
+        unmarked = h.unmarked;
+        nowhere = h.nowhere;
+        others = h.others;
+        free = h.free;
+        slots = h.slots;
+        in-use = h.in-use;
+        last = h.last;
+        low = h.low;
+        volume = h.volume;
+        access = λ task l. ap (λ o. if (task == who.task) && (l == lun) then Some (record { file = id; mode = mode.Write }) else o) (h.access task l);
+      })
+
+  pub lun-was-free : (who : Who) (lun : ℕ) (t u : Store) → IsNewIn caller id s.access s t → Grants plain who (asks (request.Access id mode.Write lun)) t u → s.access who.task lun ≡ None
+  lun-was-free who lun t u h g =
+      none-held (s.access who.task lun) (ap (λ o. is_some o) (sym (h.access who.task lun)) ∙ none_first (is_some (t.access who.task lun)) LunInUse _ (none_rest (is_bad id) BadArgument _ g.3.no_cause))
+    where
+      none-held : (o : Option Access) → is_some o ≡ false → o ≡ None
+      none-held None e = refl
+      none-held (Some a) e = absurd (true-false e)
+
+  module _ (who : Who) (lun : ℕ) where
+    abbrev held-now : ℕ → ℕ → Option Access
+    held-now task l = with-held s.access who.task lun (Some (record { file = id; mode = mode.Write })) task l
+
+    abbrev pub IsOpenIn : Store → Type 0
+    IsOpenIn t = IsNewIn caller id (with-held s.access who.task lun (Some (record { file = id; mode = mode.Write }))) s t
+
+    pub holds : (t : Store) → IsOpenIn t → t.access who.task lun ≡ Some (record { file = id; mode = mode.Write })
+    holds t h =
+        h.access who.task lun
+        ∙ ap (λ b. if b && (lun == lun) then Some (record { file = id; mode = mode.Write }) else s.access who.task lun) (same_number who.task)
+        ∙ ap (λ b. if b then Some (record { file = id; mode = mode.Write }) else s.access who.task lun) (same_number lun)
+
+    -- it gets blocks
+    pub extended : (n : ℕ) (t u : Store) → IsOpenIn t → Grants plain who (asks (request.Extend lun n)) t u → IsOpenIn u
+    extended n t u h g =
+        let at : id_held t who.task lun ≡ id = ap id_in (holds t h) in
+        let grows : Grows t id.number n (zero_blocks n) u = subst (λ (i : FileId). Grows t i.number n (zero_blocks n) u) at g.3.changes in
+        let before : Some grows.before ≡ Some h.file = sym grows.was ∙ h.there in
+        let same : grows.before ≡ h.file = cc in
+        let grown : u ≡ with_grown_file t id.number h.file n (zero_blocks n) grows.added grows.pointers grows.room =
+        grows.store_is ∙ ap (λ f. with_grown_file t id.number f n (zero_blocks n) grows.added grows.pointers grows.room) same in
+        let fits : n ≤ t.free = enough-free t who lun n g.3.no_cause in
+        let file : File = grown_file t h.file (zero_blocks n) grows.added grows.pointers grows.room in
+        let taken : List ℕ = take grows.added (free_slots t) in
+        subst IsOpenIn (sym grown) (record {
+          file = file;
+          there = ap (λ b. if b then Some file else t.file id.number) (same_number id.number);
+          sequence = h.sequence;
+          owner = h.owner;
+          open-to = h.open-to;
+          unmarked = ap (λ b. b == 1) (mark-of-cleared h.file.characteristics) ∙ h.unmarked;
+          nowhere = h.nowhere;
+          others = λ m apart. ap (λ b. if b then Some file else t.file m) apart ∙ h.others m apart;
+          free = omega (arith, h.free, fits, length-append h.file.blocks (zero_blocks n), length-zeros n);
+          slots = h.slots;
+          in-use = λ m. ap (λ b. not b && (is_in taken m || t.in_use m)) (in-two h.file.held taken m) ∙ used-more (is_in h.file.held m) (is_in taken m) (t.in_use m) (s.in_use m) (taken-free t grows.added m) (h.in-use m);
+          last = λ m used. kept-last (is_in taken m) (is_in h.file.held m) (t.in_use m) (t.last m) (s.last m) (taken-free t grows.added m) (h.in-use m ∙ used) (h.last m used);
+          low = h.low;
+          volume = h.volume;
+          access = h.access;
+        })
+
+    -- one of its blocks is written
+    pub written : (vbn : ℕ) (block : List ℕ) (t u : Store) → IsOpenIn t → Grants plain who (writes lun vbn block) t u → IsOpenIn u
+    written vbn block t u h g =
+        let at : id_held t who.task lun ≡ id = ap id_in (holds t h) in
+        let changed : u ≡ with_change t id.number (with_block vbn block) = g.2.changes ∙ ap (λ (i : FileId). with_change t i.number (with_block vbn block)) at in
+        let file : File = with_block vbn block h.file in
+        subst IsOpenIn (sym changed) (record {
+          file = file;
+          there = ap (λ b. if b then option_map (with_block vbn block) (t.file id.number) else t.file id.number) (same_number id.number) ∙ ap (option_map (with_block vbn block)) h.there;
+          sequence = h.sequence;
+          owner = h.owner;
+          open-to = h.open-to;
+          unmarked = h.unmarked;
+          nowhere = h.nowhere;
+          others = λ m apart. ap (λ b. if b then option_map (with_block vbn block) (t.file id.number) else t.file m) apart ∙ h.others m apart;
+          free = omega (arith, h.free, length-set h.file.blocks (vbn - 1) block);
+          slots = h.slots;
+          in-use = h.in-use;
+          last = h.last;
+          low = h.low;
+          volume = h.volume;
+          access = h.access;
+        })
+
+    -- it is given up, which isn't refused
+    pub undenied-deaccess : (t u : Store) (e : Refusal) → IsOpenIn t → Denies plain who (asks (request.Deaccess lun)) e t u → ⊥
+    undenied-deaccess t u e h d =
+        let held : holds_none t who.task lun ≡ false = ap (λ o. is_none o) (holds t h) in
+        subst (λ o. MayRefuse o (request.Deaccess lun) e) (none-of (NoSuchAccess ⇐ holds_none t who.task lun) [] held refl) d.2.may_refuse
+
+    pub given-back : (t u : Store) → IsOpenIn t → Grants plain who (asks (request.Deaccess lun)) t u → u ≡ with_access t who.task lun None
+    given-back t u h g =
+        let w : Store = with_access t who.task lun None in
+        let due : is_due w id ≡ false = ap (λ o. is_marked (unwrap_or o no_file) && not (is_accessed w id)) (named held-now t h) ∙ ap (λ b. b && not (is_accessed w id)) h.unmarked in
+        g.3.changes ∙ ap (λ o. after_giving_up t who.task lun o) (holds t h) ∙ ap (λ b. if b then without_file_at w id.number else w) due
+
+    pub closed : (t u : Store) → s.access who.task lun ≡ None → IsOpenIn t → Grants plain who (asks (request.Deaccess lun)) t u → IsNewIn caller id s.access s u
+    closed t u free h g =
+        let same : u ≡ with_access t who.task lun None = given-back t u h g in
+        subst (λ x. IsNewIn caller id s.access s x) (sym same) (record {
+          file = h.file;
+          there = h.there;
+          sequence = h.sequence;
+          owner = h.owner;
+          open-to = h.open-to;
+          unmarked = h.unmarked;
+          nowhere = h.nowhere;
+          others = h.others;
+          free = h.free;
+          slots = h.slots;
+          in-use = h.in-use;
+          last = h.last;
+          low = h.low;
+          volume = h.volume;
+          access = λ task l. back task l ((task == who.task) && (l == lun)) refl (h.access task l);
+        })
+      where
+        back : (task l : ℕ) (b : Bool) → ((task == who.task) && (l == lun)) ≡ b → t.access task l ≡ (if b then Some (record { file = id; mode = mode.Write }) else s.access task l) → (if b then None else t.access task l) ≡ s.access task l
+        back task l true is k =
+            let parts = and_parts (task == who.task) (l == lun) is in
+            sym (ap (λ n. s.access n l) (eqb-true task who.task parts.0) ∙ ap (λ n. s.access who.task n) (eqb-true l lun parts.1) ∙ free)
+        back task l false is k = k

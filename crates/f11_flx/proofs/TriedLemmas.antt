@@ -1,0 +1,158 @@
+-- Lists of what was asked, granted or refused.
+use Rattle.std.proofs.Common.{◌≡◌, ◌⊎◌, inl, inr, ℕ, suc, ◌==◌, Bool, true, false, if◌then◌else◌, List, [], ◌∷◌, ◌++◌, All, refl, sym, ap, subst}
+use Rattle.std.proofs.lemmas.List.Elements.{All-append, All-cons, All-nil}
+use Rattle.f11_dev.specs.Disk.{Disk}
+use Rattle.f11_dev.specs.declared.device.Device.{Ghosts}
+use Rattle.f11_store.specs.Ident.{ident_with}
+use Rattle.f11_store.specs.declared.files.FileId.{FileId}
+use Rattle.f11_store.specs.declared.files.Mode.TheVariants as access
+use Rattle.f11_store.specs.declared.files.Change.TheVariants as change
+use Rattle.f11_store.specs.declared.refusals.Refusal.{Refusal}
+use Rattle.f11_store.specs.declared.requests.Reply.{Reply}
+use Rattle.f11_store.specs.declared.requests.Request.{Request}
+use Rattle.f11_store.specs.declared.requests.Request.TheVariants as request
+use Rattle.rt11_volume.specs.declared.volume.RtAccepted.{RtAccepted}
+use Rattle.f11_flx.specs.Asking.{Asking, BreaksOff, Denies, Fails, Granted, Grants, Service, Tried, Who, asks, told, writes, writes_of}
+use Rattle.f11_flx.specs.CopyFromRt.{Making, as_file, creation, entry, giving_up, opening}
+use Rattle.f11_flx.specs.FromRt.{CopiesFrom, FailsToCopyFrom}
+use Rattle.f11_flx.specs.Making.{FailsToFill, FailsToFillFile, FailsToMakeCopy, FillsFile, Undoing, UndoingIf, extension, filling_of, is_created}
+use Rattle.f11_flx.specs.Refusal.{is_lethal}
+use Rattle.f11_flx.specs.declared.mode.CopyMode.{CopyMode}
+use Rattle.f11_flx.specs.declared.refusal.FlxRefusal.{FlxRefusal}
+use Rattle.f11_flx.specs.declared.refusal.FlxRefusal.TheVariants.{BadRecord, Files, LineTooLong, Rt}
+
+-- Only such things were asked, one after another, whatever was answered.
+pub record Tries {V : Type 0} (S : Service V) (is_one : Asking → Bool) (who : Who) (v w : V) : Type 0 where
+  pub asked : List Asking
+  pub tried : Tried S who asked v w
+  pub only : All (λ x. is_one x ≡ true) asked
+
+module _ {V : Type 0} (S : Service V) (is_one : Asking → Bool) (who : Who) where
+  pub tries-none : (v : V) → Tries S is_one who v v
+  tries-none v = record { asked = []; tried = refl; only = All-nil (λ x. is_one x ≡ true) }
+
+  tried-then : (xs ys : List Asking) (u v w : V) → Tried S who xs u v → Tried S who ys v w → Tried S who (xs ++ ys) u w
+  tried-then [] ys u v w h k = subst (λ x. Tried S who ys x w) h k
+  tried-then (x ∷ xs) ys u v w h k = (h.0, h.1, tried-then xs ys h.0 v w h.2 k)
+
+  pub tries-then : (u v w : V) → Tries S is_one who u v → Tries S is_one who v w → Tries S is_one who u w
+  tries-then u v w h k = record {
+    asked = h.asked ++ k.asked;
+    tried = tried-then h.asked k.asked u v w h.tried k.tried;
+    only = All-append (λ x. is_one x ≡ true) h.asked k.asked h.only k.only;
+  }
+
+  pub tries-grant : (x : Asking) (v w : V) → is_one x ≡ true → Grants S who x v w → Tries S is_one who v w
+  tries-grant x v w is h = record { asked = x ∷ []; tried = (w, inl h, refl); only = All-cons (λ y. is_one y ≡ true) x [] is (All-nil (λ y. is_one y ≡ true)) }
+
+  pub tries-deny : (x : Asking) (e : Refusal) (v w : V) → is_one x ≡ true → Denies S who x e v w → Tries S is_one who v w
+  tries-deny x e v w is h = record { asked = x ∷ []; tried = (w, inr (e, h), refl); only = All-cons (λ y. is_one y ≡ true) x [] is (All-nil (λ y. is_one y ≡ true)) }
+
+  -- each of a list is one of these
+  abbrev pub Only : List Asking → Type 0
+  Only [] = Unit {0}
+  Only (x ∷ xs) = (is_one x ≡ true) × Only xs
+
+  pub only-both : (xs ys : List Asking) → Only xs → Only ys → Only (xs ++ ys)
+  only-both [] ys h k = k
+  only-both (x ∷ xs) ys h k = (h.0, only-both xs ys h.1 k)
+
+  pub tries-granted : (xs : List Asking) (v w : V) → Only xs → Granted S who xs v w → Tries S is_one who v w
+  tries-granted [] v w o h = subst (λ x. Tries S is_one who v x) (sym h) (tries-none v)
+  tries-granted (x ∷ xs) v w o h = tries-then v h.0 w (tries-grant x v h.0 o.0 h.1) (tries-granted xs h.0 w o.1 h.2)
+
+  pub tries-breaks : (xs : List Asking) (e : Refusal) (v w : V) → Only xs → BreaksOff S who xs e v w → Tries S is_one who v w
+  tries-breaks [] e v w o h = absurd h
+  tries-breaks (x ∷ xs) e v w o (inl h) = tries-deny x e v w o.0 h
+  tries-breaks (x ∷ xs) e v w o (inr h) = tries-then v h.0 w (tries-grant x v h.0 o.0 h.1) (tries-breaks xs e h.0 w o.1 h.2)
+
+  pub tries-undoing : (r : Request) (f f' : FlxRefusal) (v w : V) → is_one (asks r) ≡ true → Undoing S who r f f' v w → Tries S is_one who v w
+  tries-undoing r f f' v w is h = by (is_lethal f) h
+    where
+      by : (b : Bool) → UndoingIf b S who r f f' v w → Tries S is_one who v w
+      by true h = subst (λ x. Tries S is_one who v x) (sym h.1) (tries-none v)
+      by false (inl h) = tries-grant (asks r) v w is h.granted
+      by false (inr h) = tries-deny (asks r) h.e v w is h.denied
+
+-- What a copy from RT-11 asks is one of these.
+pub record IsMaking (is_one : Asking → Bool) : Type 0 where
+  pub create : (protection : ℕ) (ident attr : List ℕ) → is_one (asks (request.Create protection ident attr)) ≡ true
+  pub created : (protection : ℕ) (ident attr : List ℕ) (a : Reply) → is_one (told (request.Create protection ident attr) a) ≡ true
+  pub access-to : (id : FileId) (lun : ℕ) → is_one (asks (request.Access id access.Write lun)) ≡ true
+  pub extend : (lun n : ℕ) → is_one (asks (request.Extend lun n)) ≡ true
+  pub write : (lun vbn : ℕ) (block : List ℕ) → is_one (writes lun vbn block) ≡ true
+  pub give-up : (lun : ℕ) → is_one (asks (request.Deaccess lun)) ≡ true
+  pub enter : (d : FileId) (name : List ℕ) (id : FileId) → is_one (asks (request.Enter d name id)) ≡ true
+  pub protect : (id : FileId) (word : ℕ) → is_one (asks (request.WriteAttr id (change.Protect word))) ≡ true
+  pub delete : (id : FileId) → is_one (asks (request.Delete id)) ≡ true
+
+module _ {V : Type 0} (S : Service V) (who : Who) (lun : ℕ) (is_one : Asking → Bool) (is : IsMaking is_one) where
+  only-writes : (place : ℕ) (pieces : List (List ℕ)) → Only S is_one who (writes_of lun place pieces)
+  only-writes place [] = tt
+  only-writes place (b ∷ more) = (is.write lun (suc place) b, only-writes (suc place) more)
+
+  only-extension : (n : ℕ) → Only S is_one who (extension lun n)
+  only-extension n = by (n == 0)
+    where
+      by : (b : Bool) → Only S is_one who (if b then [] else asks (request.Extend lun n) ∷ [])
+      by true = tt
+      by false = (is.extend lun n, tt)
+
+  only-front : (n : ℕ) (pieces : List (List ℕ)) → Only S is_one who (extension lun n ++ writes_of lun 0 pieces)
+  only-front n pieces = only-both S is_one who (extension lun n) (writes_of lun 0 pieces) (only-extension n) (only-writes 0 pieces)
+
+  only-filling : (n : ℕ) (pieces : List (List ℕ)) → Only S is_one who (filling_of lun n pieces)
+  only-filling n pieces =
+      only-both S is_one who (extension lun n) (writes_of lun 0 pieces ++ giving_up lun) (only-extension n) (only-both S is_one who (writes_of lun 0 pieces) (giving_up lun) (only-writes 0 pieces) (is.give-up lun, tt))
+
+  create-tries : (making : Making) (id : FileId) (v w : V) → Granted S who (creation making id) v w → Tries S is_one who v w
+  create-tries making id v w h = tries-granted S is_one who (creation making id) v w (is.created 0 (ident_with making.name) making.attr (Rattle.f11_store.specs.declared.requests.Reply.TheVariants.Created id), tt) h
+
+  not-created-tries : (making : Making) (e : Refusal) (v w : V) → Fails S who is_created (request.Create 0 (ident_with making.name) making.attr) e v w → Tries S is_one who v w
+  not-created-tries making e v w (inl h) = tries-deny S is_one who (asks (request.Create 0 (ident_with making.name) making.attr)) e v w (is.create 0 (ident_with making.name) making.attr) h
+  not-created-tries making e v w (inr h) =
+      tries-grant S is_one who (told (request.Create 0 (ident_with making.name) making.attr) h.0) v w (is.created 0 (ident_with making.name) making.attr h.0) h.3
+
+  only-entry : (making : Making) (id : FileId) → Only S is_one who (entry making id)
+  only-entry making id = (is.enter making.directory making.name id, (is.protect id making.protection, tt))
+
+module _ {V E : Type 0} {met : Ghosts E} (S : Service V) (disk : E → Disk) (m : CopyMode) (who : Who) (lun : ℕ) (name : List ℕ) (is_one : Asking → Bool) (is : IsMaking is_one) where
+  fill-tries : (f : FlxRefusal) (many n : ℕ) (a b : RtAccepted E met) (v w : V) → FailsToFill S disk m who lun name many n f a b v w → Tries S is_one who v w
+  fill-tries (Files e) many n a b v w h = tries-breaks S is_one who (filling_of lun n h.pieces) e v w (only-filling S who lun is_one is n h.pieces) h.breaks
+  fill-tries (Rt e) many n a b v w h = tries-granted S is_one who (extension lun n ++ writes_of lun 0 h.pieces) v w (only-front S who lun is_one is n h.pieces) h.granted
+  fill-tries BadRecord many n a b v w h = absurd h
+  fill-tries LineTooLong many n a b v w h = tries-granted S is_one who (extension lun n ++ writes_of lun 0 h.pieces) v w (only-front S who lun is_one is n h.pieces) h.granted
+
+  filled-tries : (many n : ℕ) (id : FileId) (a b : RtAccepted E met) (v w : V) → FillsFile S disk m who lun name many n id a b v w → Tries S is_one who v w
+  filled-tries many n id a b v w h =
+      tries-then S is_one who v h.between w (tries-granted S is_one who (opening lun id) v h.between (is.access-to id lun, tt) h.opened)
+      (tries-granted S is_one who (filling_of lun n h.fills.pieces) h.between w (only-filling S who lun is_one is n h.fills.pieces) h.fills.granted)
+
+  fill-file-tries : (f : FlxRefusal) (many n : ℕ) (id : FileId) (a b : RtAccepted E met) (v w : V) → FailsToFillFile S disk m who lun name many n id f a b v w → Tries S is_one who v w
+  fill-file-tries f many n id a b v w (inl h) = tries-deny S is_one who (asks (request.Access id access.Write lun)) h.e v w (is.access-to id lun) h.denied
+  fill-file-tries f many n id a b v w (inr h) =
+      tries-then S is_one who v h.between w (tries-granted S is_one who (opening lun id) v h.between (is.access-to id lun, tt) h.opened)
+      (tries-then S is_one who h.between h.left w (fill-tries h.f many n a b h.between h.left h.fails) (tries-undoing S is_one who (request.Deaccess lun) h.f f h.left w (is.give-up lun) h.undoes))
+
+  make-tries : (f : FlxRefusal) (many n : ℕ) (making : Making) (a b : RtAccepted E met) (v w : V) → FailsToMakeCopy S disk m who lun name many n making f a b v w → Tries S is_one who v w
+  make-tries f many n making a b v w (inl h) = not-created-tries S who lun is_one is making h.e v w h.fails
+  make-tries f many n making a b v w (inr (inl h)) =
+      tries-then S is_one who v h.created w (create-tries S who lun is_one is making h.id v h.created h.creates)
+      (tries-then S is_one who h.created h.left w (fill-file-tries h.f many n h.id a b h.created h.left h.fails) (tries-undoing S is_one who (request.Delete h.id) h.f f h.left w (is.delete h.id) h.undoes))
+  make-tries f many n making a b v w (inr (inr h)) =
+      tries-then S is_one who v h.created w (create-tries S who lun is_one is making h.id v h.created h.creates)
+      (tries-then S is_one who h.created h.filled w (filled-tries many n h.id a b h.created h.filled h.fills)
+      (tries-then S is_one who h.filled h.left w (tries-breaks S is_one who (entry making h.id) h.e h.filled h.left (only-entry S who lun is_one is making h.id) h.breaks)
+      (tries-undoing S is_one who (request.Delete h.id) (Files h.e) f h.left w (is.delete h.id) h.undoes)))
+
+  pub copies-tries : (dir : FileId) (to : List ℕ) (protection blocks : ℕ) (a b : RtAccepted E met) (v w : V) → CopiesFrom S disk m who lun name dir to protection blocks a b v w → Tries S is_one who v w
+  copies-tries dir to protection blocks a b v w h =
+      let making : Making = as_file to dir protection h.attr [] in
+      let k = h.makes [] in
+      tries-then S is_one who v k.created w (create-tries S who lun is_one is making k.id v k.created k.creates)
+      (tries-then S is_one who k.created k.filled w (filled-tries h.many blocks k.id h.between b k.created k.filled k.fills)
+      (tries-granted S is_one who (entry making k.id) k.filled w (only-entry S who lun is_one is making k.id) k.enters))
+
+  pub fails-tries : (f : FlxRefusal) (dir : FileId) (to : List ℕ) (protection : ℕ) (a b : RtAccepted E met) (v w : V) → FailsToCopyFrom S disk m who lun name dir to protection f a b v w → Tries S is_one who v w
+  fails-tries f dir to protection a b v w (inl h) = subst (λ x. Tries S is_one who v x) (sym h.unasked) (tries-none S is_one who v)
+  fails-tries f dir to protection a b v w (inr h) = make-tries f h.many h.blocks (as_file to dir protection h.attr []) h.between b v w (h.fails [])

@@ -1,0 +1,217 @@
+-- A volume that is asked, seen as the plain store, and what its answers tell of its device.
+use Rattle.std.proofs.Common.{◌≡◌, ◌⊎◌, inl, inr, ℕ, suc, ◌+◌, ◌<◌, ◌==◌, ◌&&◌, ◌||◌, not, Bool, true, false, IsTrue, if◌then◌else◌, List, [], ◌∷◌, ◌++◌, Option, Some, None, Result, Ok, Err, IsErrOf, is_none, option_map, refl, sym, ap, ◌∙◌, subst, arith}
+use Rattle.f11_dev.specs.declared.device.Device.{Ghosts}
+use Rattle.f11_store.specs.Accesses.{FreeIsEmpty, mark_of}
+use Rattle.f11_store.specs.Causes.{◌⇐◌, first_of, holds_none, is_missing}
+use Rattle.f11_store.specs.File.{File, is_marked}
+use Rattle.f11_store.specs.Run.{Answer, Call}
+use Rattle.f11_store.specs.Store.{Store, file_of}
+use Rattle.f11_store.specs.declared.files.FileId.{FileId}
+use Rattle.f11_store.specs.declared.refusals.Refusal.{Refusal}
+use Rattle.f11_store.specs.declared.refusals.Refusal.TheVariants.{Damaged, DeviceFault, NoSuchAccess, VolumeFailed}
+use Rattle.f11_store.specs.declared.requests.Reply.{Reply}
+use Rattle.f11_store.specs.declared.requests.Request.{Request}
+use Rattle.f11_store.specs.declared.requests.Request.TheVariants as request
+use Rattle.f11_runs.specs.Each.{Steps, answer_with, call_with}
+use Rattle.f11_runs.specs.Standing.{AccessesStand, is_lost}
+use Rattle.f11_runs.proofs.AccessLemmas.{true-false}
+use Rattle.f11_files.specs.Answers.{is_cause, is_fatal, is_fault, is_refused}
+use Rattle.f11_files.specs.Open.{store_in}
+use Rattle.f11_image_store.proofs.StoreLemmas.{unused-is-empty}
+use Rattle.f11_image_store.specs.StoreOf.{store_of}
+use Rattle.f11_fcp.specs.Accesses.{Entry, HasAccessed, Table, access_of, held_in, mark_kept, mark_there}
+use Rattle.f11_fcp.specs.Handles.{State, faults_in}
+use Rattle.f11_fcp.specs.Lengths.{AnswersLength, Measures}
+use Rattle.f11_fcp.specs.Lists.{ServesCall, failures_of, is_sound, store_of_volume}
+use Rattle.f11_fcp.specs.Places.{table_of}
+use Rattle.f11_fcp.specs.Serving.{StaysAccepted, is_spent, state_in}
+use Rattle.f11_fcp.specs.declared.volume.Volume.{Volume}
+use Rattle.f11_flx.specs.Asking.{Asking, BreaksOff, Denies, Granted, Grants, IsMeasured, Service, Who, asks, counts, plain, reads, told, writes}
+use Rattle.f11_flx.specs.Copying.{of_volume}
+use Rattle.f11_flx.specs.Refusal.{is_lethal}
+use Rattle.f11_flx.specs.declared.refusal.FlxRefusal.TheVariants.{Files}
+use Rattle.f11_flx.specs.Seen.{IsSeenPlain}
+
+-- a sound volume's disk is honest, and no request has failed it
+sound-parts : (honest spent : Bool) → (honest && not spent) ≡ true → IsTrue honest × (spent ≡ false)
+sound-parts true false h = (refl, refl)
+sound-parts true true h = absurd (cc)
+sound-parts false spent h = absurd (cc)
+
+parts-sound : (honest spent : Bool) → honest ≡ true → spent ≡ false → (honest && not spent) ≡ true
+parts-sound true false h k = refl
+parts-sound true true h k = absurd (true-false k)
+parts-sound false spent h k = absurd (true-false (sym h))
+
+there-marked : (s : Store) (id : FileId) (m : Bool) → mark_of s id ≡ Some m → is_missing s id ≡ false
+there-marked s id m is = by_file (file_of s id) is
+  where
+    by_file : (o : Option File) → option_map (λ f. is_marked f) o ≡ Some m → is_none o ≡ false
+    by_file None h = absurd (cc)
+    by_file (Some f) h = refl
+
+-- what tasks hold of a sound volume is there
+accessed : (t : Table) (s : Store) → HasAccessed t s → AccessesStand (held_in t s)
+accessed t s kept task lun low small = by_entry (t task lun) (kept task lun low small)
+  where
+    by_entry : (o : Option Entry) → mark_there s o ≡ mark_kept o → is_lost (held_in t s) (option_map access_of o) ≡ false
+    by_entry None h = refl
+    by_entry (Some e) h = there-marked s e.file e.marked h
+
+plus-none : (n : ℕ) → n ≡ n + 0
+plus-none n = omega arith
+
+faults-are : (result : Result Reply Refusal) → faults_in result ≡ (if is_refused is_fault result then 1 else 0)
+faults-are (Ok a) = refl
+faults-are (Err e) = refl
+
+some-fault : (b : Bool) (n : ℕ) → b ≡ true → n ≡ (if b then 1 else 0) → 0 < n
+some-fault true n h k = omega (arith, k)
+some-fault false n h k = absurd (true-false (sym h))
+
+-- a refusal that is no device fault, no Damaged and not VolumeFailed is that of a cause
+is-cause : (e : Refusal) → is_lethal (Files e) ≡ false → (e ≡ VolumeFailed → ⊥) → is_cause e ≡ true
+is-cause VolumeFailed h k = absurd (k refl)
+is-cause DeviceFault h k = absurd (true-false h)
+is-cause Damaged h k = absurd (true-false h)
+is-cause _ h k = refl
+
+one-cause : (b : Bool) (e : Refusal) → first_of ((NoSuchAccess ⇐ b) ∷ []) ≡ Some e → (b ≡ true) × (e ≡ NoSuchAccess)
+one-cause true e h = (refl, cc)
+one-cause false e h = absurd (cc)
+
+module _ {D : Type 0} {met : Ghosts D} where
+  pub unused : (v : Volume D met) → FreeIsEmpty (store_of_volume v)
+  unused v = unused-is-empty (state_in v).disk.image (state_in v).home
+
+  pub standing : (v : Volume D met) → is_sound v ≡ true → AccessesStand (store_of_volume v)
+  standing v sound =
+      let parts = sound-parts (state_in v).disk.honest (is_spent v) sound in
+      accessed (table_of v.accesses) (store_in v.files) (v.kept parts.1 parts.0)
+
+  -- What answers tell of a volume: whether a transfer failed and whether it failed the volume.
+  pub record IsFared (fault fatal : Bool) (old new : Volume D met) : Type 0 where
+    pub failures : failures_of new ≡ failures_of old + (if fault then 1 else 0)
+    pub quiet : fault ≡ true → (state_in new).disk.calm ≡ 0
+    pub honest : (state_in new).disk.honest ≡ (state_in old).disk.honest
+    pub next : is_spent new ≡ (is_spent old || fatal)
+    pub accepted : StaysAccepted (state_in new)
+
+  -- a request of it, whatever it answers
+  serves-fared : (v w : Volume D met) (c : Call) (a : Answer) → ServesCall v c a w → IsFared (is_refused is_fault a.result) (is_refused is_fatal a.result) v w
+  serves-fared v w c a h = by_spent (is_spent v) refl
+    where
+      by_spent : (b : Bool) → is_spent v ≡ b → IsFared (is_refused is_fault a.result) (is_refused is_fatal a.result) v w
+      by_spent true is =
+          let r = h.serving.refused is in
+          let same = (h.serving.untouched is).0 in
+          subst (λ x. IsFared (is_refused is_fault x) (is_refused is_fatal x) v w) (sym r) (record {
+            failures = ap (λ (x : State). x.disk.failures) same ∙ plus-none (failures_of v);
+            quiet = λ fault. absurd (cc);
+            honest = ap (λ (x : State). x.disk.honest) same;
+            next = h.serving.next ∙ ap (λ x. is_spent v || is_refused is_fatal x) r;
+            accepted = h.accepted;
+          })
+      by_spent false is =
+          let k = h.serving.handled is in
+          record {
+            failures = k.writes.went.failures ∙ ap (λ n. failures_of v + n) (faults-are a.result);
+            quiet = λ fault. k.writes.went.quiet (some-fault (is_refused is_fault a.result) (faults_in a.result) fault (faults-are a.result));
+            honest = k.writes.went.honest;
+            next = h.serving.next;
+            accepted = h.accepted;
+          }
+
+  measures-fared : (v w : Volume D met) (task lun : ℕ) (result : Result ℕ Refusal) → AnswersLength task lun result v w → StaysAccepted (state_in w) → IsFared (is_refused is_fault result) (is_refused is_fatal result) v w
+  measures-fared v w task lun result h accepted = by_spent (is_spent v) refl
+    where
+      by_result : (r : Result ℕ Refusal) → Measures task lun r (state_in v) (state_in w) → is_spent w ≡ (is_spent v || is_refused is_fatal r) → IsFared (is_refused is_fault r) (is_refused is_fatal r) v w
+      by_result (Ok blocks) k next = record {
+        failures = k.outcome.reads.looked.failures;
+        quiet = λ fault. absurd (cc);
+        honest = k.outcome.reads.looked.honest;
+        next = next;
+        accepted = accepted;
+      }
+      by_result (Err e) k next = record {
+        failures = k.outcome.reads.looked.failures;
+        quiet = λ fault. k.outcome.reads.looked.quiet (some-fault (is_fault e) (if is_fault e then 1 else 0) fault refl);
+        honest = k.outcome.reads.looked.honest;
+        next = next;
+        accepted = accepted;
+      }
+
+      by_spent : (b : Bool) → is_spent v ≡ b → IsFared (is_refused is_fault result) (is_refused is_fatal result) v w
+      by_spent true is =
+          let r = h.refused is in
+          let same = h.untouched is in
+          subst (λ x. IsFared (is_refused is_fault x) (is_refused is_fatal x) v w) (sym r) (record {
+            failures = ap (λ (x : State). x.disk.failures) same ∙ plus-none (failures_of v);
+            quiet = λ fault. absurd (cc);
+            honest = ap (λ (x : State). x.disk.honest) same;
+            next = h.next ∙ ap (λ x. is_spent v || is_refused is_fatal x) r;
+            accepted = accepted;
+          })
+      by_spent false is = by_result result (h.measures is) h.next
+
+  -- what is granted, and what is denied
+  pub granted-fared : (who : Who) (x : Asking) (v w : Volume D met) → Grants of_volume who x v w → IsFared false false v w
+  granted-fared who (asks r) v w h = serves-fared v w _ _ h.3
+  granted-fared who (told r a) v w h = serves-fared v w _ _ h.2
+  granted-fared who (reads lun vbn block) v w h = serves-fared v w _ _ h.2
+  granted-fared who (writes lun vbn block) v w h = serves-fared v w _ _ h.2
+  granted-fared who (counts lun blocks) v w h = measures-fared v w who.task lun (Ok blocks) h.0 h.1
+
+  pub denied-fared : (who : Who) (x : Asking) (e : Refusal) (v w : Volume D met) → Denies of_volume who x e v w → IsFared (is_fault e) (is_fatal e) v w
+  denied-fared who (asks r) e v w h = serves-fared v w _ _ h.2
+  denied-fared who (told r a) e v w h = serves-fared v w _ _ h.2
+  denied-fared who (reads lun vbn block) e v w h = serves-fared v w _ _ h.2
+  denied-fared who (writes lun vbn block) e v w h = serves-fared v w _ _ h.1
+  denied-fared who (counts lun blocks) e v w h = measures-fared v w who.task lun (Err e) h.0 h.1
+
+  -- it stays sound but for what fails it
+  stays : (fault : Bool) (v w : Volume D met) → IsFared fault false v w → is_sound v ≡ true → is_sound w ≡ true
+  stays fault v w h sound =
+      let parts = sound-parts (state_in v).disk.honest (is_spent v) sound in
+      parts-sound (state_in w).disk.honest (is_spent w) (h.honest ∙ parts.0) (h.next ∙ ap (λ b. b || false) parts.1)
+
+  step : (v w : Volume D met) (c : Call) (a : Answer) → is_sound v ≡ true → is_refused is_fatal a.result ≡ false → ServesCall v c a w → Steps (store_of_volume v) c a (store_of_volume w)
+  step v w c a sound clean h =
+      let parts = sound-parts (state_in v).disk.honest (is_spent v) sound in
+      (h.serving.handled parts.1).step parts.0 clean
+
+  -- what is asked of its length alone
+  same-store : (v w : Volume D met) → (state_in w).table ≡ (state_in v).table → (state_in w).disk.image ≡ (state_in v).disk.image → (state_in w).home ≡ (state_in v).home → store_of_volume w ≡ store_of_volume v
+  same-store v w a b c = λ i. held_in (a i) (store_of (b i) (c i))
+
+  measured : (v w : Volume D met) (task lun : ℕ) (result : Result ℕ Refusal) → is_sound v ≡ true → is_refused is_fatal result ≡ false → AnswersLength task lun result v w → IsMeasured task lun result (store_of_volume v) (store_of_volume w)
+  measured v w task lun (Ok blocks) sound clean h =
+      let parts = sound-parts (state_in v).disk.honest (is_spent v) sound in
+      let k = h.measures parts.1 in
+      (k.outcome.accessed, k.outcome.length_is parts.0, same-store v w k.table k.outcome.reads.looked.image k.home)
+  measured v w task lun (Err e) sound clean h =
+      let parts = sound-parts (state_in v).disk.honest (is_spent v) sound in
+      let k = h.measures parts.1 in
+      let is = k.outcome.right.cause parts.0 (is-cause e clean (λ same. absurd (true-false (sym (k.outcome.right.volume same))))) in
+      let why = one-cause (holds_none (store_of_volume v) task lun) e is in
+      (why.0, why.1, same-store v w k.table k.outcome.reads.looked.image k.home)
+
+  pub volume-seen : IsSeenPlain (of_volume {met = met}) store_of_volume is_sound
+  volume-seen = record { granted = granted; denied = denied }
+    where
+      granted : (who : Who) (x : Asking) (v w : Volume D met) → Grants of_volume who x v w → is_sound v ≡ true → Grants plain who x (store_of_volume v) (store_of_volume w) × (is_sound w ≡ true)
+      granted who (asks r) v w h sound = ((h.0, h.1, h.2, step v w _ _ sound refl h.3), stays false v w (granted-fared who (asks r) v w h) sound)
+      granted who (told r a) v w h sound = ((h.0, h.1, step v w _ _ sound refl h.2), stays false v w (granted-fared who (told r a) v w h) sound)
+      granted who (reads lun vbn block) v w h sound = ((h.0, h.1, step v w _ _ sound refl h.2), stays false v w (granted-fared who (reads lun vbn block) v w h) sound)
+      granted who (writes lun vbn block) v w h sound = ((h.0, h.1, step v w _ _ sound refl h.2), stays false v w (granted-fared who (writes lun vbn block) v w h) sound)
+      granted who (counts lun blocks) v w h sound = (measured v w who.task lun (Ok blocks) sound refl h.0, stays false v w (granted-fared who (counts lun blocks) v w h) sound)
+
+      clean-stays : (who : Who) (x : Asking) (e : Refusal) (v w : Volume D met) → Denies of_volume who x e v w → is_lethal (Files e) ≡ false → is_sound v ≡ true → is_sound w ≡ true
+      clean-stays who x e v w h clean sound = stays (is_fault e) v w (subst (λ b. IsFared (is_fault e) b v w) clean (denied-fared who x e v w h)) sound
+
+      denied : (who : Who) (x : Asking) (e : Refusal) (v w : Volume D met) → Denies of_volume who x e v w → is_sound v ≡ true → is_lethal (Files e) ≡ false → Denies plain who x e (store_of_volume v) (store_of_volume w) × (is_sound w ≡ true)
+      denied who (asks r) e v w h sound clean = ((h.0, h.1, step v w _ _ sound clean h.2), clean-stays who (asks r) e v w h clean sound)
+      denied who (told r a) e v w h sound clean = ((h.0, h.1, step v w _ _ sound clean h.2), clean-stays who (told r a) e v w h clean sound)
+      denied who (reads lun vbn block) e v w h sound clean = ((h.0, h.1, step v w _ _ sound clean h.2), clean-stays who (reads lun vbn block) e v w h clean sound)
+      denied who (writes lun vbn block) e v w h sound clean = ((h.0, step v w _ _ sound clean h.1), clean-stays who (writes lun vbn block) e v w h clean sound)
+      denied who (counts lun blocks) e v w h sound clean = (measured v w who.task lun (Err e) sound clean h.0, clean-stays who (counts lun blocks) e v w h clean sound)

@@ -1,0 +1,172 @@
+-- What a copy between two volumes tells, on any devices (profile).
+use Rattle.std.specs.Prelude.{◌≡◌, ℕ, ◌+◌, ◌||◌, ⊤, Bool, true, false, not, IsTrue, if◌then◌else◌, List, All, Result, Ok, Err}
+use Rattle.f11_dev.specs.Disk.{Disk}
+use Rattle.f11_dev.specs.declared.device.Device.{Ghosts}
+use Rattle.f11_store.specs.declared.refusals.Refusal.{Refusal}
+use Rattle.f11_store.specs.declared.refusals.Refusal.TheVariants.{VolumeFailed}
+use Rattle.f11_store.specs.declared.requests.Request.{Request}
+use Rattle.f11_store.specs.declared.requests.Request.TheVariants as request
+use Rattle.f11_files.specs.Answers.{is_fatal, is_fault}
+use Rattle.f11_fcp.specs.Lengths.{AnswersLength}
+use Rattle.f11_fcp.specs.Lists.{ServesCall, failures_of, is_sound, store_of_volume}
+use Rattle.f11_fcp.specs.Serving.{StaysAccepted, is_spent, state_in}
+use Rattle.f11_fcp.specs.declared.volume.Volume.{Volume}
+use Rattle.rt11_volume.specs.Calls.{has_failed, volume_device}
+use Rattle.rt11_volume.specs.Files.{is_fault as is_rt_fault}
+use Rattle.rt11_volume.specs.Laws.{KeepsOtherNames}
+use Rattle.rt11_volume.specs.Named.{files_named}
+use Rattle.rt11_volume.specs.Store.{RtStore, rt_store_of}
+use Rattle.rt11_volume.specs.Verifying.Verdict.{IsSoundDisk}
+use Rattle.rt11_volume.specs.declared.refusal.RtRefusal.{RtRefusal}
+use Rattle.rt11_volume.specs.declared.refusal.RtRefusal.TheVariants.{Failed}
+use Rattle.rt11_volume.specs.declared.volume.RtAccepted.{RtAccepted}
+use Rattle.f11_flx.specs.Asking.{Asking, Service, Tried, Who, asks, counts, reads, told, writes}
+use Rattle.f11_flx.specs.CopyFromRt.{IsAsBefore}
+use Rattle.f11_flx.specs.Refusal.{is_lethal}
+use Rattle.f11_flx.specs.RtOutcome.{HasSameFiles}
+use Rattle.f11_flx.specs.declared.refusal.FlxRefusal.{FlxRefusal}
+use Rattle.f11_flx.specs.declared.refusal.FlxRefusal.TheVariants.{Files, Rt, BadRecord, LineTooLong}
+
+-- the length was asked, and where the disk is honest its image has no fault then
+abbrev pub IsAskedLength : {D : Type 0} {met : Ghosts D} → ℕ → ℕ → Result ℕ Refusal → Volume D met → Volume D met → Type 0
+IsAskedLength task lun result old new = AnswersLength task lun result old new × StaysAccepted (state_in new)
+
+-- what a volume answers
+abbrev pub of_volume : {D : Type 0} {met : Ghosts D} → Service (Volume D met)
+of_volume = record { serves = ServesCall; measures = IsAskedLength }
+
+-- what a test says of an answer's refusal by the Files-11 volume, if it has one, and of one by the RT-11 volume
+abbrev pub of_files : {T : Type 0} → (Refusal → Bool) → Result T FlxRefusal → Bool
+of_files test (Ok x) = false
+of_files test (Err (Files e)) = test e
+of_files test (Err (Rt e)) = false
+of_files test (Err BadRecord) = false
+of_files test (Err LineTooLong) = false
+
+abbrev pub of_rt : {T : Type 0} → (RtRefusal → Bool) → Result T FlxRefusal → Bool
+of_rt test (Ok x) = false
+of_rt test (Err (Files e)) = false
+of_rt test (Err (Rt e)) = test e
+of_rt test (Err BadRecord) = false
+of_rt test (Err LineTooLong) = false
+
+-- the answer is no device fault, and not Damaged
+abbrev pub is_whole : {T : Type 0} → Result T FlxRefusal → Bool
+is_whole (Ok x) = true
+is_whole (Err e) = not (is_lethal e)
+
+-- how a copy may be refused by a Files-11 volume that a request has failed before: as VolumeFailed
+abbrev pub MayRefuseSpent : {T : Type 0} → Result T FlxRefusal → Type 0
+MayRefuseSpent (Ok x) = ⊥
+MayRefuseSpent (Err (Files e)) = e ≡ VolumeFailed
+MayRefuseSpent (Err (Rt e)) = ⊤
+MayRefuseSpent (Err BadRecord) = ⊤
+MayRefuseSpent (Err LineTooLong) = ⊤
+
+-- VolumeFailed is answered by such a volume alone, on which then nothing is done.
+pub record KeepsSpent {D T : Type 0} {met : Ghosts D} (result : Result T FlxRefusal) (old new : Volume D met) : Type 0 where
+  pub only : result ≡ Err (Files VolumeFailed) → is_spent old ≡ true
+  pub refused : is_spent old ≡ true → MayRefuseSpent result
+  pub untouched : is_spent old ≡ true → state_in new ≡ state_in old
+
+-- how a copy may be refused by an RT-11 volume that a device fault has failed before: as Failed
+abbrev pub MayRefuseFailed : {T : Type 0} → Result T FlxRefusal → Type 0
+MayRefuseFailed (Ok x) = ⊥
+MayRefuseFailed (Err (Files e)) = ⊤
+MayRefuseFailed (Err (Rt e)) = e ≡ Failed
+MayRefuseFailed (Err BadRecord) = ⊤
+MayRefuseFailed (Err LineTooLong) = ⊤
+
+-- Failed is answered by such a volume alone, on which then nothing is done.
+pub record KeepsFailed {E T : Type 0} {met : Ghosts E} (disk : E → Disk) (result : Result T FlxRefusal) (old new : RtAccepted E met) : Type 0 where
+  pub only : result ≡ Err (Rt Failed) → has_failed old ≡ true
+  pub refused : has_failed old ≡ true → MayRefuseFailed result
+  pub untouched : has_failed old ≡ true → disk (volume_device new) ≡ disk (volume_device old)
+
+-- What the answer tells of the Files-11 volume: a transfer failed where that is the answer, and none followed; DeviceFault and Damaged fail the
+-- volume, and nothing else does.
+pub record FaresFiles {D T : Type 0} {met : Ghosts D} (result : Result T FlxRefusal) (old new : Volume D met) : Type 0 where
+  pub failures : failures_of new ≡ failures_of old + (if of_files is_fault result then 1 else 0)
+  pub quiet : of_files is_fault result ≡ true → (state_in new).disk.calm ≡ 0
+  pub honest : (state_in new).disk.honest ≡ (state_in old).disk.honest
+  pub next : IsTrue (state_in old).disk.honest → is_spent new ≡ (is_spent old || of_files is_fatal result)
+  pub spent : is_spent new ≡ true → (is_spent old || of_files is_fatal result) ≡ true
+  pub accepted : StaysAccepted (state_in new)
+
+-- What it tells of the RT-11 volume.
+pub record FaresRt {E T : Type 0} {met : Ghosts E} (disk : E → Disk) (result : Result T FlxRefusal) (old new : RtAccepted E met) : Type 0 where
+  pub failures : (disk (volume_device new)).failures ≡ (disk (volume_device old)).failures + (if of_rt is_rt_fault result then 1 else 0)
+  pub quiet : of_rt is_rt_fault result ≡ true → (disk (volume_device new)).calm ≡ 0
+  pub honest : (disk (volume_device new)).honest ≡ (disk (volume_device old)).honest
+  pub next : has_failed new ≡ (has_failed old || of_rt is_rt_fault result)
+
+-- only such things were asked of the volume, one after another, whatever it answered
+pub record AsksOnly {D : Type 0} {met : Ghosts D} (is_one : Asking → Bool) (who : Who) (old new : Volume D met) : Type 0 where
+  pub asked : List Asking
+  pub tried : Tried of_volume who asked old new
+  pub only : All (λ x. is_one x ≡ true) asked
+
+-- what a copy to RT-11 asks: nothing that writes
+abbrev pub is_reading_request : Request → Bool
+is_reading_request (request.Access id mode lun) = true
+is_reading_request (request.ReadAttr id) = true
+is_reading_request (request.Deaccess lun) = true
+is_reading_request _ = false
+
+abbrev pub is_reading : Asking → Bool
+is_reading (asks r) = is_reading_request r
+is_reading (told r reply) = is_reading_request r
+is_reading (reads lun vbn block) = true
+is_reading (writes lun vbn block) = false
+is_reading (counts lun blocks) = true
+
+-- what a copy from RT-11 asks
+abbrev pub is_making_request : Request → Bool
+is_making_request (request.Create protection ident attr) = true
+is_making_request (request.Access id mode lun) = true
+is_making_request (request.Extend lun n) = true
+is_making_request (request.Deaccess lun) = true
+is_making_request (request.Enter d name id) = true
+is_making_request (request.WriteAttr id c) = true
+is_making_request (request.Delete id) = true
+is_making_request _ = false
+
+abbrev pub is_making : Asking → Bool
+is_making (asks r) = is_making_request r
+is_making (told r reply) = is_making_request r
+is_making (reads lun vbn block) = false
+is_making (writes lun vbn block) = true
+is_making (counts lun blocks) = false
+
+-- The volume was read, whatever the answer is; it is as before unless a device fault or Damaged was met.
+pub record ReadsFiles {D T : Type 0} {met : Ghosts D} (result : Result T FlxRefusal) (who : Who) (old new : Volume D met) : Type 0 where
+  pub fares : FaresFiles result old new
+  pub asked : AsksOnly is_reading who old new
+  pub stays : is_sound old ≡ true → is_whole result ≡ true → store_of_volume new ≡ store_of_volume old
+
+-- A file was made, or not, and then the volume is as before unless a device fault or Damaged was met; on one that had failed nothing is done.
+pub record MakesFile {D T : Type 0} {met : Ghosts D} (result : Result T FlxRefusal) (who : Who) (old new : Volume D met) : Type 0 where
+  pub fares : FaresFiles result old new
+  pub keeps : KeepsSpent result old new
+  pub asked : AsksOnly is_making who old new
+  pub undone : (e : FlxRefusal) → result ≡ Err e → is_sound old ≡ true → is_whole result ≡ true →
+      IsAsBefore (store_of_volume old) (store_of_volume new)
+
+-- A file was made on the RT-11 volume, or not, and then it has the files that it had unless a device fault or Damaged was met.
+pub record MakesRtFile {E T : Type 0} {met : Ghosts E} (disk : E → Disk) (result : Result T FlxRefusal) (name : List ℕ)
+    (old new : RtAccepted E met) : Type 0 where
+  pub fares : FaresRt disk result old new
+  pub undone : (e : FlxRefusal) → result ≡ Err e → IsSoundDisk (disk (volume_device old)) → is_whole result ≡ true →
+      HasSameFiles name (rt_store_of (disk (volume_device old)).image) (rt_store_of (disk (volume_device new)).image)
+  pub sound : IsSoundDisk (disk (volume_device old)) → is_whole result ≡ true → IsSoundDisk (disk (volume_device new))
+
+-- It was read; of one that had failed nothing is.
+pub record ReadsRt {E T : Type 0} {met : Ghosts E} (disk : E → Disk) (result : Result T FlxRefusal) (old new : RtAccepted E met) : Type 0 where
+  pub fares : FaresRt disk result old new
+  pub keeps : KeepsFailed disk result old new
+  pub image : (disk (volume_device new)).image ≡ (disk (volume_device old)).image
+  pub history : (disk (volume_device new)).history ≡ (disk (volume_device old)).history
+
+-- where both volumes are sound, and no device fault or Damaged was met
+abbrev pub WhereSound : {D E : Type 0} {met : Ghosts D} {met' : Ghosts E} → (E → Disk) → Volume D met → RtAccepted E met' → Type 0 → Type 0
+WhereSound disk vol rt Holds = is_sound vol ≡ true → IsSoundDisk (disk (volume_device rt)) → Holds

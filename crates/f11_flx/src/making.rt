@@ -1,0 +1,209 @@
+//! A file that is made as the copy of one on an RT-11 volume.
+ghost use Rattle.std.specs.Prelude.{◌≡◌, ◌≤◌, ℕ, List, IfErr, IfOk, OnOk};
+ghost use Rattle.f11_store.specs.Ident.{ident_with as ident_of};
+ghost use Rattle.f11_store.specs.declared.requests.Reply.TheVariants as reply;
+ghost use Rattle.f11_store.specs.declared.requests.Request.TheVariants as request;
+ghost use Rattle.f11_flx.specs.Asking.{BreaksOff, Fails, Granted, Grants, told, who_asks};
+ghost use Rattle.f11_flx.specs.CopyFromRt.{as_file, entry as entry_of};
+ghost use Rattle.f11_flx.specs.Making.{FailsToFill, FailsToFillFile, FailsToMakeCopy, Fills, FillsFile, MakesCopy, extension, is_created};
+ghost use Rattle.f11_flx.specs.Passes.{CopiesFile, FailsToCopyFile};
+
+use crate::asked::{Asked, Asker, ask};
+use crate::mode::CopyMode;
+use crate::pass::{copy_image, copy_lines};
+use crate::plan::Plan;
+use crate::refusal::FlxRefusal;
+use crate::undo::undo;
+use f11_dev::Device;
+use f11_rad50::Name;
+use f11_store::{Change, FileId, Mode, Refusal, Reply, Request, ident_with};
+use rt11_volume::{RtAccepted, RtName};
+
+/// Where a copy is entered, under which name, and its protection.
+#[derive(Clone, Copy, Debug)]
+pub struct Entry {
+    pub dir: FileId,
+    pub name: Name,
+    pub protection: u16,
+}
+
+/// Creates a file that bars nobody.
+fn create<S: Asked>(
+    service: &mut S,
+    by: &Asker,
+    name: &Name,
+    attr: [u8; 32],
+) -> Result<FileId, Refusal>
+    ensures created { IfOk result (λ id. Grants S.service (who_asks by.now.task by.now.uic)
+        (told (request.Create 0 (ident_of name.now) attr) (reply.Created id))
+        service.old service.new) }
+    ensures refused { IfErr result (λ e. Fails S.service (who_asks by.now.task by.now.uic)
+        is_created (request.Create 0 (ident_of name.now) attr) e service.old service.new) }
+{
+    let asked = Request::Create {
+        protection: 0,
+        ident: ident_with(*name),
+        attr,
+    };
+    match ask(service, by, asked) {
+        Ok(Reply::Created(id)) => Ok(id),
+        Ok(_) => Err(Refusal::Damaged),
+        Err(refusal) => Err(refusal),
+    }
+}
+
+/// Allocates so many blocks to the file that is accessed, if there are any.
+fn extend<S: Asked>(service: &mut S, by: &Asker, blocks: u32) -> Result<(), Refusal>
+    ensures granted { OnOk result (Granted S.service (who_asks by.now.task by.now.uic)
+        (extension by.now.lun blocks) service.old service.new) }
+    ensures denied { IfErr result (λ e. BreaksOff S.service (who_asks by.now.task by.now.uic)
+        (extension by.now.lun blocks) e service.old service.new) }
+{
+    if blocks == 0 {
+        return Ok(());
+    }
+    match ask(service, by, Request::Extend(by.lun, blocks)) {
+        Ok(_) => Ok(()),
+        Err(refusal) => Err(refusal),
+    }
+}
+
+/// Copies so many blocks of the file of a name to the file that is accessed.
+fn copy_file<E: Device, S: Asked>(
+    rt: &mut RtAccepted<E>,
+    name: &RtName,
+    source: u16,
+    mode: CopyMode,
+    service: &mut S,
+    by: &Asker,
+) -> Result<(), FlxRefusal>
+    ensures copied { OnOk result ((blocks : ℕ) × (attr : List ℕ) × CopiesFile S.service E.disk mode
+        (who_asks by.now.task by.now.uic) by.now.lun name.now source blocks attr
+        rt.old rt.new service.old service.new) }
+    ensures fails { IfErr result (λ e. FailsToCopyFile S.service E.disk mode
+        (who_asks by.now.task by.now.uic) by.now.lun name.now source e
+        rt.old rt.new service.old service.new) }
+{
+    match mode {
+        CopyMode::Image => match copy_image(rt, name, source, service, by) {
+            Ok(()) => Ok(()),
+            Err(refusal) => Err(refusal),
+        },
+        CopyMode::Text => match copy_lines(rt, name, source, service, by) {
+            Ok(_) => Ok(()),
+            Err(refusal) => Err(refusal),
+        },
+    }
+}
+
+/// Fills the file that is accessed, and gives it up.
+fn fill<E: Device, S: Asked>(
+    rt: &mut RtAccepted<E>,
+    name: &RtName,
+    mode: CopyMode,
+    plan: &Plan,
+    service: &mut S,
+    by: &Asker,
+) -> Result<(), FlxRefusal>
+    ensures fills { OnOk result (Fills S.service E.disk mode (who_asks by.now.task by.now.uic)
+        by.now.lun name.now plan.now.source plan.now.blocks
+        rt.old rt.new service.old service.new) }
+    ensures fails { IfErr result (λ e. FailsToFill S.service E.disk mode
+        (who_asks by.now.task by.now.uic) by.now.lun name.now plan.now.source plan.now.blocks e
+        rt.old rt.new service.old service.new) }
+{
+    match extend(service, by, plan.blocks) {
+        Ok(()) => {}
+        Err(refusal) => return Err(FlxRefusal::Files(refusal)),
+    }
+    match copy_file(rt, name, plan.source, mode, service, by) {
+        Ok(()) => {}
+        Err(refusal) => return Err(refusal),
+    }
+    match ask(service, by, Request::Deaccess(by.lun)) {
+        Ok(_) => Ok(()),
+        Err(refusal) => Err(FlxRefusal::Files(refusal)),
+    }
+}
+
+/// Accesses the file to be written, and fills it.
+fn fill_file<E: Device, S: Asked>(
+    rt: &mut RtAccepted<E>,
+    name: &RtName,
+    mode: CopyMode,
+    plan: &Plan,
+    service: &mut S,
+    by: &Asker,
+    id: FileId,
+) -> Result<(), FlxRefusal>
+    ensures fills { OnOk result (FillsFile S.service E.disk mode (who_asks by.now.task by.now.uic)
+        by.now.lun name.now plan.now.source plan.now.blocks id
+        rt.old rt.new service.old service.new) }
+    ensures fails { IfErr result (λ e. FailsToFillFile S.service E.disk mode
+        (who_asks by.now.task by.now.uic) by.now.lun name.now plan.now.source plan.now.blocks id e
+        rt.old rt.new service.old service.new) }
+{
+    match ask(service, by, Request::Access(id, Mode::Write, by.lun)) {
+        Ok(_) => {}
+        Err(refusal) => return Err(FlxRefusal::Files(refusal)),
+    }
+    match fill(rt, name, mode, plan, service, by) {
+        Ok(()) => Ok(()),
+        Err(refusal) => Err(undo(service, by, Request::Deaccess(by.lun), refusal)),
+    }
+}
+
+/// Enters the file into the directory, and protects it.
+fn enter<S: Asked>(service: &mut S, by: &Asker, entry: &Entry, id: FileId) -> Result<(), Refusal>
+    ensures granted { (attr : List ℕ) (blocks : List (List ℕ)) → OnOk result (Granted S.service
+        (who_asks by.now.task by.now.uic)
+        (entry_of (as_file entry.now.name entry.now.dir entry.now.protection attr blocks) id)
+        service.old service.new) }
+    ensures denied { (attr : List ℕ) (blocks : List (List ℕ)) → IfErr result (λ e. BreaksOff
+        S.service (who_asks by.now.task by.now.uic)
+        (entry_of (as_file entry.now.name entry.now.dir entry.now.protection attr blocks) id) e
+        service.old service.new) }
+{
+    match ask(service, by, Request::Enter(entry.dir, entry.name, id)) {
+        Ok(_) => {}
+        Err(refusal) => return Err(refusal),
+    }
+    let protect = Change::Protect(entry.protection);
+    match ask(service, by, Request::WriteAttr(id, protect)) {
+        Ok(_) => Ok(()),
+        Err(refusal) => Err(refusal),
+    }
+}
+
+/// Makes a file as it was planned, from the file of a name.
+pub fn make<E: Device, S: Asked>(
+    rt: &mut RtAccepted<E>,
+    name: &RtName,
+    mode: CopyMode,
+    plan: &Plan,
+    service: &mut S,
+    by: &Asker,
+    entry: &Entry,
+) -> Result<(), FlxRefusal>
+    ensures makes { (pieces : List (List ℕ)) → OnOk result (MakesCopy S.service E.disk mode
+        (who_asks by.now.task by.now.uic) by.now.lun name.now plan.now.source plan.now.blocks
+        (as_file entry.now.name entry.now.dir entry.now.protection plan.now.attr pieces)
+        rt.old rt.new service.old service.new) }
+    ensures fails { (pieces : List (List ℕ)) → IfErr result (λ e. FailsToMakeCopy S.service E.disk
+        mode (who_asks by.now.task by.now.uic) by.now.lun name.now plan.now.source plan.now.blocks
+        (as_file entry.now.name entry.now.dir entry.now.protection plan.now.attr pieces) e
+        rt.old rt.new service.old service.new) }
+{
+    let id = match create(service, by, &entry.name, plan.attr) {
+        Ok(id) => id,
+        Err(refusal) => return Err(FlxRefusal::Files(refusal)),
+    };
+    match fill_file(rt, name, mode, plan, service, by, id) {
+        Ok(()) => {}
+        Err(refusal) => return Err(undo(service, by, Request::Delete(id), refusal)),
+    }
+    match enter(service, by, entry, id) {
+        Ok(()) => Ok(()),
+        Err(refusal) => { Err(undo(service, by, Request::Delete(id), FlxRefusal::Files(refusal))) }
+    }
+}

@@ -1,0 +1,94 @@
+//! A file on an RT-11 volume that a copy makes.
+ghost use Rattle.std.specs.Prelude.{◌≡◌, ℕ, ◌<◌, [], ◌∷◌, IfErr, OnOk};
+ghost use Rattle.f11_flx.specs.Target.{Deletes, FailsDeleting, FailsMaking, FailsPutting, Makes, Puts};
+
+use crate::refusal::FlxRefusal;
+use crate::takes::Takes;
+use f11_bytes::Block;
+use f11_dev::Device;
+use rt11_volume::{RtAccepted, RtName, RtRefusal};
+
+/// The most blocks that a file has.
+const MOST: u32 = 65_535;
+
+/// Makes a file of so many blocks. Where no file has so many, it is refused as one for which there is no area.
+pub fn make<E: Device>(
+    rt: &mut RtAccepted<E>,
+    name: &RtName,
+    blocks: u32,
+    date: u16,
+) -> Result<(), RtRefusal>
+    ensures made { OnOk result (Makes E.disk name.now blocks date rt.old rt.new) }
+    ensures refused { IfErr result (λ e. FailsMaking E.disk name.now blocks e rt.old rt.new) }
+{
+    if blocks > MOST {
+        return Err(refusal_of(rt, name));
+    }
+    // So that the proof knows that the words are those of a name.
+    let _ = name.words();
+    rt.create(name, blocks as u16, date)
+}
+
+/// Why no file of over 65,535 blocks is made.
+fn refusal_of<E: Device>(rt: &mut RtAccepted<E>, name: &RtName) -> RtRefusal
+    ensures { (blocks : ℕ) → 65535 < blocks → FailsMaking E.disk name.now blocks result rt.old rt.new }
+{
+    match rt.find(name) {
+        Ok(_) => RtRefusal::DuplicateName,
+        Err(RtRefusal::NoSuchFile) => RtRefusal::NoSpace,
+        Err(refusal) => refusal,
+    }
+}
+
+/// Writes the block at a place of the file, from 0.
+pub fn put<E: Device>(
+    rt: &mut RtAccepted<E>,
+    name: &RtName,
+    place: u16,
+    block: &Block,
+) -> Result<(), RtRefusal>
+    ensures put { OnOk result (Puts E.disk name.now place (block.now ∷ []) rt.old rt.new) }
+    ensures refused { IfErr result (λ e. FailsPutting E.disk name.now place e rt.old rt.new) }
+{
+    rt.write(name, place, block)
+}
+
+/// Deletes the file.
+pub fn delete<E: Device>(rt: &mut RtAccepted<E>, name: &RtName) -> Result<(), RtRefusal>
+    ensures deleted { OnOk result (Deletes E.disk name.now rt.old rt.new) }
+    ensures refused { IfErr result (λ e. FailsDeleting E.disk name.now e rt.old rt.new) }
+{
+    rt.delete(name)
+}
+
+impl<E: Device> Takes for RtAccepted<E> {
+    ghost use Rattle.f11_flx.specs.Target.{RefusesBlock};
+
+    ghost took = { λ name place block old new. Puts E.disk name place (block ∷ []) old new };
+
+    ghost refused = { λ name place block e old new. RefusesBlock E.disk name place e old new };
+
+    fn take(&mut self, name: &RtName, place: u32, block: &Block) -> Result<(), FlxRefusal> {
+        if place > MOST {
+            return Err(FlxRefusal::Rt(RtRefusal::EndOfFile));
+        }
+        match put(self, name, place as u16, block) {
+            Ok(()) => Ok(()),
+            Err(refusal) => Err(FlxRefusal::Rt(refusal)),
+        }
+    }
+}
+
+/// What takes any block and keeps none.
+#[derive(Drop)]
+pub struct Nowhere;
+
+impl Takes for Nowhere {
+    ghost took = { λ _ _ _ old new. new ≡ old };
+
+    ghost refused = { λ _ _ _ _ _ _. ⊥ };
+
+    fn take(&mut self, _name: &RtName, _place: u32, _block: &Block) -> Result<(), FlxRefusal> {
+        Ok(())
+    }
+}

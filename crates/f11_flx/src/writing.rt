@@ -1,0 +1,89 @@
+//! Text that is converted into the blocks of a file, which are written.
+ghost use Rattle.std.specs.Prelude.{◌≡◌, ◌+◌, ◌*◌, ◌<◌, ◌≤◌, ◌∷◌, [], false, length, suc, IfErr, OnOk};
+ghost use Rattle.f11_flx.specs.Asking.{Denies, Granted, Grants, who_asks, writes, writes_of};
+ghost use Rattle.f11_flx.specs.Filling.{out_of};
+ghost use Rattle.f11_flx.specs.ToRecords.{gives};
+ghost use Rattle.f11_flx.specs.Writing.{FailsToWrite, Writes, WritesNext, out_bytes};
+
+use crate::asked::{Asked, Asker};
+use crate::filling::Filling;
+use crate::refusal::FlxRefusal;
+use crate::to_records::ToRecords;
+use f11_bytes::{BLOCK_SIZE, Block};
+use f11_store::{Refusal, Request};
+
+/// Writes the block at a VBN of the file that is accessed. What the block is then isn't known.
+pub fn write<S: Asked>(
+    service: &mut S,
+    by: &Asker,
+    vbn: u32,
+    block: &mut Block,
+) -> Result<(), Refusal>
+    ensures size { length block.old ≡ 512 }
+    ensures granted { OnOk result (Grants S.service (who_asks by.now.task by.now.uic)
+        (writes by.now.lun vbn block.old) service.old service.new) }
+    ensures denied { IfErr result (λ e. Denies S.service (who_asks by.now.task by.now.uic)
+        (writes by.now.lun vbn block.old) e service.old service.new) }
+{
+    match service.serve(by.task, by.uic, &Request::WriteBlock(by.lun, vbn), block) {
+        Ok(_) => Ok(()),
+        Err(refusal) => Err(refusal),
+    }
+}
+
+/// Writes the block, which is full, and goes on with the next one.
+pub fn give<S: Asked>(out: &mut Filling, service: &mut S, by: &Asker) -> Result<(), Refusal>
+    requires { out.old.place < 4294967295 }
+    ensures size { length out.old.block ≡ 512 }
+    ensures written { OnOk result (WritesNext S.service (who_asks by.now.task by.now.uic) by.now.lun
+        (out_of out.old) (out_of out.new) service.old service.new) }
+    ensures refused { IfErr result (λ e. Denies S.service (who_asks by.now.task by.now.uic)
+        (writes by.now.lun (suc out.old.place) out.old.block) e service.old service.new) }
+{
+    match write(service, by, out.place + 1, &mut out.block) {
+        Ok(()) => {
+            out.place += 1;
+            out.to = 0;
+            Ok(())
+        }
+        Err(refusal) => Err(refusal),
+    }
+}
+
+/// Converts bytes of a text into blocks of the file, and writes those that are full.
+pub fn write_lines<S: Asked>(
+    lines: &mut ToRecords,
+    source: &[u8],
+    out: &mut Filling,
+    service: &mut S,
+    by: &Asker,
+) -> Result<(), FlxRefusal>
+    requires room { out.old.to < 512 }
+    requires few { 512 * out.old.place + length (out_bytes (out_of out.old) lines.old source.now)
+        < 4294967295 }
+    ensures writes { OnOk result (Writes S.service (who_asks by.now.task by.now.uic) by.now.lun
+        lines.old lines.new source.now [] (out_of out.old) (out_of out.new)
+        service.old service.new) }
+    ensures idle { OnOk result (gives lines.new ≡ false) }
+    ensures room { OnOk result (out.new.to < 512) }
+    ensures fails { IfErr result (λ e. FailsToWrite S.service (who_asks by.now.task by.now.uic) by.now.lun
+        lines.old source.now (out_of out.old) e service.old service.new) }
+{
+    let mut used = 0;
+    loop {
+        match lines.convert(&source[used..], &mut out.block, out.to) {
+            Err(_) => return Err(FlxRefusal::LineTooLong),
+            Ok((read, to)) => {
+                used += read;
+                out.to = to;
+            }
+        }
+        if out.to < BLOCK_SIZE {
+            return Ok(());
+        }
+        match give(out, service, by) {
+            Ok(()) => {}
+            Err(refusal) => return Err(FlxRefusal::Files(refusal)),
+        }
+    }
+}
