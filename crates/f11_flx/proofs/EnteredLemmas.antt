@@ -1,15 +1,14 @@
 -- A file that is made is the same file when a name was entered.
-use Rattle.std.proofs.Common.{◌≡◌, ◌⊎◌, inl, inr, ℕ, suc, ◌+◌, ◌<◌, ◌≤◌, ◌==◌, ◌&&◌, ◌||◌, not, Bool, true, false, nat_lt, if◌then◌else◌, List, [], ◌∷◌, ◌++◌, take, Option, Some, None, is_none, option_map, refl, sym, ap, ◌∙◌, subst, arith}
+use Rattle.std.proofs.Common.{◌≡◌, inl, inr, ℕ, ◌≤◌, ◌==◌, ◌&&◌, ◌||◌, not, Bool, true, false, nat_lt, if◌then◌else◌, List, [], ◌∷◌, Option, Some, None, is_none, option_map, refl, sym, ap, ◌∙◌, subst, arith}
 use Rattle.std.specs.Prelude.{unwrap_or}
-use Rattle.std.proofs.lemmas.Bool.{eq-eqb, eqb-true, ltb-true, lt-ltb}
-use Rattle.f11_store.specs.Causes.{Cause, ◌⇐◌, first_of, first_refusal, is_bad, is_missing, lacks_change}
+use Rattle.std.proofs.lemmas.Bool.{eq-eqb, eqb-true, ltb-true}
+use Rattle.f11_store.specs.Causes.{Cause, ◌⇐◌, first_refusal, is_bad, is_missing, lacks_change}
 use Rattle.f11_store.specs.Changes.{EntersAt, EntersAtEnd, Grows, grown_file, with_change, with_end_after, with_entry, with_grown_file}
 use Rattle.f11_store.specs.Directory.{entry_count, index_of_empty, needs_block, record_bytes}
 use Rattle.f11_store.specs.File.{File, is_marked, no_file, zero_blocks}
 use Rattle.f11_store.specs.Rights.{is_of}
 use Rattle.f11_store.specs.Step.{MayRefuse}
-use Rattle.f11_store.specs.Store.{Access, Store, file_named, file_of}
-use Rattle.f11_store.specs.declared.callers.Uic.{Uic}
+use Rattle.f11_store.specs.Store.{Store, file_named, file_of}
 use Rattle.f11_store.specs.declared.files.Change.TheVariants as change
 use Rattle.f11_store.specs.declared.files.FileId.{FileId}
 use Rattle.f11_store.specs.declared.protection.Class.TheVariants as class
@@ -19,7 +18,7 @@ use Rattle.f11_store.specs.declared.requests.Request.TheVariants as request
 use Rattle.f11_store.proofs.FateLaws.{mark-of-cleared}
 use Rattle.f11_store.proofs.StoreLemmas.{same_number}
 use Rattle.f11_runs.proofs.AccessLemmas.{there-file, true-false}
-use Rattle.f11_flx.specs.Asking.{Asking, BreaksOff, Denies, Grants, Who, asks, plain}
+use Rattle.f11_flx.specs.Asking.{BreaksOff, Who, plain}
 use Rattle.f11_flx.specs.CopyFromRt.{Making, entry}
 use Rattle.f11_flx.proofs.NewLemmas.{IsNewIn, none-of}
 

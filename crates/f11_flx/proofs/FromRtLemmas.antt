@@ -1,19 +1,15 @@
 -- A copy that is made over a sound volume, seen as the plain store.
-use Rattle.std.proofs.Common.{◌≡◌, ◌⊎◌, inl, inr, ℕ, suc, ◌+◌, ◌<◌, Bool, true, false, List, [], ◌∷◌, ◌++◌, length, All, Some, refl, sym, ap, ◌∙◌, subst, arith}
-use Rattle.std.specs.List.{concat}
+use Rattle.std.proofs.Common.{◌≡◌, ℕ, Bool, true, false, List, ◌++◌, Some, refl, sym, subst}
 use Rattle.f11_dev.specs.Disk.{Disk}
 use Rattle.f11_dev.specs.declared.device.Device.{Ghosts}
-use Rattle.f11_store.specs.Ident.{ident_with}
 use Rattle.f11_store.specs.Step.{next_id}
 use Rattle.f11_store.specs.Store.{Store}
 use Rattle.f11_store.specs.declared.files.FileId.{FileId}
-use Rattle.f11_store.specs.declared.refusals.Refusal.{Refusal}
-use Rattle.f11_store.specs.declared.requests.Reply.{Reply}
 use Rattle.f11_store.specs.declared.requests.Reply.TheVariants as reply
 use Rattle.rt11_volume.specs.Files.{file_area}
 use Rattle.rt11_volume.specs.Verifying.Verdict.{IsSoundDisk}
 use Rattle.rt11_volume.specs.declared.volume.RtAccepted.{RtAccepted}
-use Rattle.f11_flx.specs.Asking.{Asking, Granted, Service, Who, plain}
+use Rattle.f11_flx.specs.Asking.{Granted, Service, Who, plain}
 use Rattle.f11_flx.specs.CopyFromRt.{CopiesFromRt, HasMaking, Making, as_file, creation, entry, filling, making_of, opening}
 use Rattle.f11_flx.specs.FromRt.{CopiesFrom}
 use Rattle.f11_flx.specs.Making.{Fills, MakesCopy, filling_of}

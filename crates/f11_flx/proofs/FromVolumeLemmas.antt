@@ -1,5 +1,5 @@
 -- A copy from an RT-11 volume to a Files-11 volume.
-use Rattle.std.proofs.Common.{◌≡◌, ◌⊎◌, inl, inr, ℕ, not, Bool, true, false, if◌then◌else◌, List, [], ◌∷◌, Result, Ok, Err, refl, sym, ap, ◌∙◌, subst}
+use Rattle.std.proofs.Common.{◌≡◌, ℕ, not, Bool, true, false, List, Result, Ok, Err, refl, sym, subst}
 use Rattle.f11_dev.specs.Disk.{Disk}
 use Rattle.f11_dev.specs.declared.device.Device.{Ghosts}
 use Rattle.f11_store.specs.declared.files.FileId.{FileId}
@@ -8,7 +8,7 @@ use Rattle.f11_fcp.specs.declared.volume.Volume.{Volume}
 use Rattle.rt11_volume.specs.Files.{is_fault as is_rt_fault}
 use Rattle.rt11_volume.specs.Verifying.Verdict.{IsSoundDisk}
 use Rattle.rt11_volume.specs.declared.volume.RtAccepted.{RtAccepted}
-use Rattle.f11_flx.specs.Asking.{Service, Who}
+use Rattle.f11_flx.specs.Asking.{Who}
 use Rattle.f11_flx.specs.Copying.{AsksOnly, FaresFiles, KeepsFailed, MakesFile, ReadsRt, is_making, is_whole, of_rt, of_volume}
 use Rattle.f11_flx.specs.CopyFromRt.{CopiesFromRt, FailsToCopyFromRt}
 use Rattle.f11_flx.specs.FromRt.{CopiesFrom, FailsToCopyFrom}

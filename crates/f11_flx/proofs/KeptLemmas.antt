@@ -1,5 +1,5 @@
 -- What a copy from RT-11 answers where one of the volumes had failed before.
-use Rattle.std.proofs.Common.{◌≡◌, ◌≢◌, ◌⊎◌, inl, inr, ℕ, suc, ◌||◌, Bool, true, false, if◌then◌else◌, List, [], ◌∷◌, ◌++◌, Result, Ok, Err, refl, sym, ap, ◌∙◌, subst}
+use Rattle.std.proofs.Common.{◌≡◌, inl, inr, ℕ, ◌||◌, Bool, true, false, if◌then◌else◌, List, [], ◌∷◌, ◌++◌, Result, Ok, Err, refl, sym, ap, ◌∙◌, subst}
 use Rattle.f11_dev.specs.Disk.{Disk}
 use Rattle.f11_dev.specs.declared.device.Device.{Ghosts}
 use Rattle.f11_store.specs.Ident.{ident_with}
@@ -24,7 +24,7 @@ use Rattle.rt11_volume.specs.declared.refusal.RtRefusal.{RtRefusal}
 use Rattle.rt11_volume.specs.declared.refusal.RtRefusal.TheVariants.{Failed}
 use Rattle.rt11_volume.specs.declared.volume.RtAccepted.{RtAccepted}
 use Rattle.f11_flx.specs.Asking.{Asking, BreaksOff, Denies, Fails, Granted, Grants, Service, Who, asks, counts, reads, told, writes, writes_of}
-use Rattle.f11_flx.specs.Copying.{KeepsFailed, KeepsSpent, MayRefuseFailed, MayRefuseSpent, of_volume}
+use Rattle.f11_flx.specs.Copying.{KeepsFailed, KeepsSpent, of_volume}
 use Rattle.f11_flx.specs.CopyFromRt.{Making, as_file, creation, entry, opening}
 use Rattle.f11_flx.specs.FromRt.{CopiesFrom, FailsToCopyFrom}
 use Rattle.f11_flx.specs.Making.{FailsToFill, FailsToFillFile, FailsToMakeCopy, FillsFile, Undoing, UndoingIf, extension, filling_of, is_created}
@@ -34,7 +34,7 @@ use Rattle.f11_flx.specs.declared.mode.CopyMode.{CopyMode}
 use Rattle.f11_flx.specs.declared.refusal.FlxRefusal.{FlxRefusal}
 use Rattle.f11_flx.specs.declared.refusal.FlxRefusal.TheVariants.{BadRecord, Files, LineTooLong, Rt}
 use Rattle.f11_flx.proofs.PassLemmas.{stays-alive}
-use Rattle.f11_flx.proofs.VolumeLemmas.{IsFared, denied-fared, granted-fared}
+use Rattle.f11_flx.proofs.VolumeLemmas.{denied-fared, granted-fared}
 
 abbrev given : ℕ → Result ℕ FlxRefusal
 given n = Ok n

@@ -1,14 +1,12 @@
 -- A making that is refused leaves all as it was before.
-use Rattle.std.proofs.Common.{◌≡◌, ◌⊎◌, inl, inr, ℕ, List, [], ◌∷◌, ◌++◌, length, refl, sym, ap, ◌∙◌, subst}
-use Rattle.f11_dev.specs.Disk.{Disk}
+use Rattle.std.proofs.Common.{◌≡◌, inl, inr, ℕ, ◌++◌, length, sym, ◌∙◌, subst}
 use Rattle.f11_runs.specs.Standing.{AccessesStand}
-use Rattle.f11_store.specs.Accesses.{FreeIsEmpty}
 use Rattle.f11_store.specs.Step.{next_id}
 use Rattle.f11_store.specs.Store.{Store}
 use Rattle.f11_store.specs.declared.files.FileId.{FileId}
 use Rattle.f11_store.specs.declared.refusals.Refusal.{Refusal}
 use Rattle.f11_flx.specs.Asking.{BreaksOff, Granted, Who, plain}
-use Rattle.f11_flx.specs.CopyFromRt.{FailsToCopyFromRt, FailsToMakeFile, IsAsBefore, Making, creation, deletion, entry, filling, giving_up, opening}
+use Rattle.f11_flx.specs.CopyFromRt.{IsAsBefore, Making, creation, deletion, filling, giving_up, opening}
 use Rattle.f11_flx.specs.MakingLaws.{RefusedCopyLeaves, RefusedMakingLeaves}
 use Rattle.f11_flx.specs.declared.refusal.FlxRefusal.TheVariants.{BadRecord, Files, LineTooLong, Rt}
 use Rattle.f11_flx.proofs.AskingLemmas.{granted-parts}

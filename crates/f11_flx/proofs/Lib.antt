@@ -14,6 +14,7 @@ pub mod CopyLemmas
 pub mod CopyingLemmas
 pub mod CrLemmas
 pub mod EndLemmas
+pub mod EndedLemmas
 pub mod EnteredLemmas
 pub mod FaredLemmas
 pub mod FromRtLemmas
@@ -38,6 +39,7 @@ pub mod RtBlockLemmas
 pub mod RtSourceLemmas
 pub mod SeenLemmas
 pub mod SizeLemmas
+pub mod SpentLemmas
 pub mod TextLemmas
 pub mod TriedLemmas
 pub mod UndoneLemmas

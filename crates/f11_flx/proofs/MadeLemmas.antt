@@ -1,26 +1,24 @@
 -- What a making that is granted makes.
-use Rattle.std.proofs.Common.{◌≡◌, ◌⊎◌, inl, inr, ℕ, zero, suc, ◌+◌, ◌-◌, ◌==◌, ◌&&◌, Bool, true, false, if◌then◌else◌, List, [], ◌∷◌, ◌++◌, All, length, Option, Some, None, option_map, refl, sym, ap, ◌∙◌, subst, append_assoc, append-nil, length-append, arith}
+use Rattle.std.proofs.Common.{◌≡◌, ℕ, suc, ◌-◌, ◌==◌, Bool, true, false, if◌then◌else◌, List, [], ◌∷◌, ◌++◌, All, length, Option, Some, None, option_map, refl, sym, ap, ◌∙◌, subst, append_assoc, length-append, arith}
 use Rattle.std.specs.Prelude.{slice_set}
 use Rattle.std.specs.List.{concat}
 use Rattle.std.proofs.Math.Seq.{set-append_seam}
 use Rattle.std.proofs.lemmas.Bool.{eqb-true}
-use Rattle.f11_store.specs.Accesses.{FreeIsEmpty}
 use Rattle.f11_store.specs.Changes.{EntersAt, EntersAtEnd, Grows, file_created, grown_file, with_block, with_change, with_end_after, with_entry, with_replacement}
 use Rattle.f11_store.specs.Directory.{entry_count, index_of_empty, needs_block, record_bytes}
 use Rattle.f11_store.specs.File.{File, zero_blocks}
 use Rattle.f11_store.specs.Ident.{ident_with}
 use Rattle.f11_store.specs.Step.{next_id}
-use Rattle.f11_store.specs.Store.{Access, Store, file_named, id_held, id_in, least_free}
+use Rattle.f11_store.specs.Store.{Store, file_named, id_held, id_in, least_free}
 use Rattle.f11_store.specs.declared.callers.Uic.{Uic}
 use Rattle.f11_store.specs.declared.files.Change.TheVariants as change
 use Rattle.f11_store.specs.declared.files.FileId.{FileId}
-use Rattle.f11_store.specs.declared.files.Mode.TheVariants as mode
 use Rattle.f11_store.specs.declared.requests.Request.TheVariants as request
 use Rattle.f11_store.proofs.StoreLemmas.{same_number}
-use Rattle.f11_flx.specs.Asking.{Asking, Granted, Grants, Who, asks, plain, writes, writes_of}
+use Rattle.f11_flx.specs.Asking.{Granted, Grants, Who, asks, plain, writes, writes_of}
 use Rattle.f11_flx.specs.CopyFromRt.{Making, as_file, creation, entry, filling, giving_up, opening}
 use Rattle.f11_flx.specs.Making.{extension}
-use Rattle.f11_flx.specs.MakingLaws.{CopiedHolds, GrantedIsMade, HasMadeFile, IsEntered}
+use Rattle.f11_flx.specs.MakingLaws.{CopiedHolds, GrantedIsMade, HasMadeFile}
 use Rattle.f11_flx.proofs.AskingLemmas.{granted-parts}
 use Rattle.f11_flx.proofs.NewLemmas.{IsNewIn, IsOpenIn, closed, given-back, holds, length-zeros, new-made, written}
 use Rattle.f11_flx.proofs.UndoneLemmas.{extension-stays, writes-stay}

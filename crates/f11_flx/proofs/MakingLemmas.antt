@@ -1,20 +1,17 @@
 -- A copy that is made, a step at a time.
-use Rattle.std.proofs.Common.{◌≡◌, ◌⊎◌, inl, inr, ℕ, suc, ◌+◌, ◌*◌, ◌≤◌, List, [], ◌∷◌, ◌++◌, length, All, Some, refl, sym, ap, ◌∙◌, subst, append-nil, length-append, arith}
+use Rattle.std.proofs.Common.{◌≡◌, inl, ℕ, suc, ◌+◌, List, [], ◌∷◌, ◌++◌, length, All, Some, sym, ap, ◌∙◌, subst, append-nil, length-append, arith}
 use Rattle.std.specs.List.{concat}
-use Rattle.std.proofs.lemmas.List.Elements.{All-append}
-use Rattle.std.proofs.lemmas.List.Folds.{concat-append}
 use Rattle.f11_dev.specs.Disk.{Disk}
 use Rattle.f11_dev.specs.declared.device.Device.{Ghosts}
-use Rattle.f11_store.specs.declared.files.FileId.{FileId}
 use Rattle.f11_store.specs.declared.refusals.Refusal.{Refusal}
 use Rattle.f11_store.specs.declared.requests.Reply.{Reply}
 use Rattle.f11_store.specs.declared.requests.Request.{Request}
 use Rattle.rt11_volume.specs.declared.volume.RtAccepted.{RtAccepted}
-use Rattle.f11_flx.specs.Asking.{Asking, BreaksOff, Denies, Granted, Grants, Service, Who, asks, told, writes, writes_of}
+use Rattle.f11_flx.specs.Asking.{BreaksOff, Denies, Granted, Grants, Service, Who, asks, told, writes, writes_of}
 use Rattle.f11_flx.specs.Conversion.{Copy}
 use Rattle.f11_flx.specs.CopyFromRt.{giving_up}
-use Rattle.f11_flx.specs.Making.{BreaksFilling, FailsToFill, Fills, LacksBlock, LacksCopy, extension, filling_of}
-use Rattle.f11_flx.specs.Passes.{CopiesFile, FailsToCopyFile, IsCopied, StopsCopying}
+use Rattle.f11_flx.specs.Making.{BreaksFilling, FailsToFill, Fills, extension, filling_of}
+use Rattle.f11_flx.specs.Passes.{CopiesFile, FailsToCopyFile, IsCopied}
 use Rattle.f11_flx.specs.declared.mode.CopyMode.{CopyMode}
 use Rattle.f11_flx.specs.declared.refusal.FlxRefusal.{FlxRefusal}
 use Rattle.f11_flx.specs.declared.refusal.FlxRefusal.TheVariants.{BadRecord, Files, LineTooLong, Rt}

@@ -1,35 +1,33 @@
 -- A file that is made, and undone, over the plain store.
-use Rattle.std.proofs.Common.{◌≡◌, ◌⊎◌, inl, inr, ℕ, suc, ◌+◌, ◌-◌, ◌*◌, ◌<◌, ◌≤◌, ◌==◌, ◌&&◌, ◌||◌, not, Bool, true, false, nat_le, nat_lt, if◌then◌else◌, List, [], ◌∷◌, ◌++◌, length, take, Option, Some, None, Result, Ok, Err, is_none, is_some, option_map, refl, sym, ap, ◌∙◌, subst, arith, length-append}
-use Rattle.std.specs.Prelude.{replicate, slice_set, unwrap_or}
+use Rattle.std.proofs.Common.{◌≡◌, ℕ, ◌+◌, ◌-◌, ◌<◌, ◌≤◌, ◌==◌, ◌&&◌, ◌||◌, not, Bool, true, false, nat_le, nat_lt, if◌then◌else◌, List, [], ◌∷◌, length, take, Option, Some, None, is_none, is_some, option_map, refl, sym, ap, ◌∙◌, subst, arith, length-append}
+use Rattle.std.specs.Prelude.{unwrap_or}
 use Rattle.std.proofs.lemmas.Bool.{eq-eqb, eqb-true, leb-false, leb-true, lt-ltb, ltb-true, and_parts}
 use Rattle.std.proofs.lemmas.List.{length-replicate, length-set}
 use Rattle.f11_bytes.specs.Block.{zero_block}
 use Rattle.f11_store.specs.Accesses.{FreeIsEmpty}
-use Rattle.f11_store.specs.Causes.{Cause, ◌⇐◌, causes_of, first_of, first_refusal, cannot_write, holds_none, is_bad, is_missing, lacks}
-use Rattle.f11_store.specs.Changes.{Changes, Grows, after_deaccess, after_delete, after_giving_up, file_created, grown_file, is_due, is_in, next_sequence, with_access, with_block, with_change, with_grown_file, with_marked_file, with_new_file, without_due_file, without_file, without_file_at}
-use Rattle.f11_store.specs.File.{File, is_marked, length_of, need, no_file, without_contiguous, zero_blocks}
+use Rattle.f11_store.specs.Causes.{Cause, ◌⇐◌, first_of, first_refusal, cannot_write, holds_none, is_bad, is_missing, lacks}
+use Rattle.f11_store.specs.Changes.{Grows, after_giving_up, file_created, grown_file, is_due, is_in, next_sequence, with_access, with_block, with_change, with_grown_file, with_marked_file, with_new_file, without_file, without_file_at}
+use Rattle.f11_store.specs.File.{File, is_marked, length_of, need, no_file, zero_blocks}
 use Rattle.f11_store.specs.Ident.{ident_with}
 use Rattle.f11_store.specs.Rights.{is_of, may}
 use Rattle.f11_store.specs.Step.{MayRefuse, next_id}
-use Rattle.f11_store.specs.Store.{Access, Store, file_named, file_of, free_headers, free_slots, file_held, id_held, id_in, is_accessed, is_held, is_same, is_to, least_free}
+use Rattle.f11_store.specs.Store.{Access, Store, file_named, file_of, free_headers, free_slots, file_held, id_held, id_in, is_accessed, is_held, is_to, least_free}
 use Rattle.f11_store.specs.declared.callers.Uic.{Uic}
 use Rattle.f11_store.specs.declared.files.FileId.{FileId}
 use Rattle.f11_store.specs.declared.files.Mode.{Mode}
 use Rattle.f11_store.specs.declared.files.Mode.TheVariants as mode
 use Rattle.f11_store.specs.declared.protection.Class.TheVariants as class
-use Rattle.f11_store.specs.declared.protection.Right.{Right}
 use Rattle.f11_store.specs.declared.protection.Right.TheVariants as right
 use Rattle.f11_store.specs.declared.refusals.Refusal.{Refusal}
 use Rattle.f11_store.specs.declared.refusals.Refusal.TheVariants.{BadArgument, DeviceFull, LunInUse, Marked, NoHeader, NoPrivilege, NoSuchAccess, NoSuchFile, SystemFile, TooManySegments}
-use Rattle.f11_store.specs.declared.requests.Request.{Request}
 use Rattle.f11_store.specs.declared.requests.Request.TheVariants as request
 use Rattle.f11_store.proofs.FateLaws.{mark-of-cleared}
 use Rattle.f11_store.proofs.FileLaws.{least_free_is_free}
 use Rattle.f11_store.proofs.StoreLemmas.{none_first, none_rest, same_number}
 use Rattle.f11_runs.specs.Standing.{AccessesStand, is_lost}
-use Rattle.f11_runs.proofs.AccessLemmas.{IsThere, held-none, there-file, there-is, true-false}
+use Rattle.f11_runs.proofs.AccessLemmas.{held-none, there-file, there-is, true-false}
 use Rattle.f11_runs.proofs.SlotLists.{in-one, in-two, taken-free}
-use Rattle.f11_flx.specs.Asking.{Asking, Denies, Granted, Grants, Who, asks, plain, told, writes, writes_of}
+use Rattle.f11_flx.specs.Asking.{Denies, Granted, Grants, Who, asks, plain, writes}
 use Rattle.f11_flx.specs.CopyFromRt.{IsAsBefore, Making, creation}
 use Rattle.f11_flx.proofs.FromRtLemmas.{created-next}
 

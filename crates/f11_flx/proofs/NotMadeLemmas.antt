@@ -1,5 +1,5 @@
 -- A copy that is refused over a sound volume, seen as the plain store.
-use Rattle.std.proofs.Common.{◌≡◌, ◌⊎◌, inl, inr, ℕ, suc, ◌<◌, Bool, true, false, List, [], ◌∷◌, ◌++◌, length, None, Some, refl, sym, ap, ◌∙◌, subst, arith}
+use Rattle.std.proofs.Common.{◌≡◌, inl, inr, ℕ, ◌<◌, Bool, true, false, List, [], ◌++◌, length, None, Some, refl, sym, ap, ◌∙◌, subst, arith}
 use Rattle.f11_dev.specs.Disk.{Disk}
 use Rattle.f11_dev.specs.declared.device.Device.{Ghosts}
 use Rattle.f11_store.specs.Accesses.{FreeIsEmpty}
@@ -9,29 +9,25 @@ use Rattle.f11_store.specs.Store.{Store}
 use Rattle.f11_store.specs.declared.files.FileId.{FileId}
 use Rattle.f11_store.specs.declared.files.Mode.TheVariants as access
 use Rattle.f11_store.specs.declared.refusals.Refusal.{Refusal}
-use Rattle.f11_store.specs.declared.refusals.Refusal.TheVariants.{Damaged}
 use Rattle.f11_store.specs.declared.requests.Request.TheVariants as request
 use Rattle.f11_runs.specs.Standing.{AccessesStand}
 use Rattle.f11_runs.proofs.AccessLemmas.{true-false}
-use Rattle.rt11_volume.specs.Calls.{has_failed}
 use Rattle.rt11_volume.specs.Files.{file_area, is_fault}
 use Rattle.rt11_volume.specs.Verifying.Verdict.{IsSoundDisk}
 use Rattle.rt11_volume.specs.declared.volume.RtAccepted.{RtAccepted}
-use Rattle.f11_flx.specs.Asking.{Asking, BreaksOff, Denies, Fails, Granted, Grants, Service, Who, asks, plain, writes_of}
+use Rattle.f11_flx.specs.Asking.{BreaksOff, Denies, Fails, Granted, Service, Who, asks, plain, writes_of}
 use Rattle.f11_flx.specs.Conversion.{copied_from_rt}
-use Rattle.f11_flx.specs.CopyFromRt.{FailsToCopyFromRt, FailsToMakeFile, IsAsBefore, Making, Undoes, as_file, creation, deletion, entry, filling, giving_up, opening}
+use Rattle.f11_flx.specs.CopyFromRt.{FailsToCopyFromRt, FailsToMakeFile, IsAsBefore, Making, as_file, creation, deletion, entry, filling, giving_up, opening}
 use Rattle.f11_flx.specs.FromRt.{FailsToCopyFrom}
-use Rattle.f11_flx.specs.Making.{BreaksFilling, FailsToFill, FailsToFillFile, FailsToMakeCopy, Fills, FillsFile, IsNotFilled, LacksBlock, LacksCopy, extension, filling_of, is_created}
-use Rattle.f11_flx.specs.Planning.{FailsToPlan, Plans}
+use Rattle.f11_flx.specs.Making.{BreaksFilling, FailsToFill, FailsToFillFile, FailsToMakeCopy, Fills, LacksBlock, LacksCopy, extension, filling_of, is_created}
 use Rattle.f11_flx.specs.Refusal.{is_lethal}
-use Rattle.f11_flx.specs.RtSource.{HasContents}
-use Rattle.f11_flx.specs.Target.{rt_disk, rt_store}
+use Rattle.f11_flx.specs.Target.{rt_disk}
 use Rattle.f11_flx.specs.declared.mode.CopyMode.{CopyMode}
 use Rattle.f11_flx.specs.declared.refusal.FlxRefusal.{FlxRefusal}
 use Rattle.f11_flx.specs.declared.refusal.FlxRefusal.TheVariants.{BadRecord, Files, LineTooLong, Rt}
 use Rattle.f11_flx.proofs.AskingLemmas.{granted-append}
 use Rattle.f11_flx.proofs.EnteredLemmas.{entry-refused}
-use Rattle.f11_flx.proofs.FromRtLemmas.{Planned, created-next, filled-as-planned, has-making, planned}
+use Rattle.f11_flx.proofs.FromRtLemmas.{created-next, filled-as-planned, has-making, planned}
 use Rattle.f11_flx.proofs.NewLemmas.{IsNewIn, IsOpenIn, lun-was-free, new-made, opened}
 use Rattle.f11_flx.proofs.PassLemmas.{stays-alive}
 use Rattle.f11_flx.specs.Seen.{IsSeenPlain}

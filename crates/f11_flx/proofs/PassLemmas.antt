@@ -1,11 +1,11 @@
 -- One pass over the blocks of a file, a step at a time.
-use Rattle.std.proofs.Common.{◌≡◌, ◌⊎◌, inl, inr, ℕ, suc, ◌+◌, ◌-◌, ◌*◌, ◌/◌, ◌%◌, ◌<◌, ◌≤◌, ◌||◌, Bool, true, false, if◌then◌else◌, List, [], ◌∷◌, ◌++◌, length, take, drop, replicate, All, Some, refl, sym, ap, ◌∙◌, subst, append_assoc, append-nil, length-append, length-drop, arith}
+use Rattle.std.proofs.Common.{◌≡◌, ℕ, suc, ◌+◌, ◌-◌, ◌*◌, ◌%◌, ◌<◌, ◌≤◌, ◌||◌, Bool, true, false, if◌then◌else◌, List, [], ◌∷◌, ◌++◌, length, take, replicate, All, Some, refl, sym, ap, ◌∙◌, subst, append_assoc, append-nil, length-append, arith}
 use Rattle.std.specs.List.{concat, slice_get}
 use Rattle.std.proofs.Math.Nat.{mul-add-mod_self_left}
 use Rattle.std.proofs.Math.Seq.{take-suc}
 use Rattle.std.proofs.lemmas.List.{length-replicate}
 use Rattle.std.proofs.lemmas.Option.{get_or_from_slice_get, slice_get_within}
-use Rattle.std.proofs.lemmas.List.Elements.{All-append, All-cons, All-head, All-nil, All-tail}
+use Rattle.std.proofs.lemmas.List.Elements.{All-append, All-cons, All-nil}
 use Rattle.std.proofs.lemmas.List.Folds.{concat-append}
 use Rattle.f11_dev.specs.Disk.{Disk}
 use Rattle.f11_dev.specs.declared.device.Device.{Ghosts}
@@ -16,21 +16,21 @@ use Rattle.rt11_volume.specs.Verifying.Verdict.{IsRtAccepted, IsSoundDisk}
 use Rattle.rt11_volume.specs.declared.refusal.RtRefusal.{RtRefusal}
 use Rattle.rt11_volume.specs.declared.volume.RtAccepted.{RtAccepted}
 use Rattle.f11_store.specs.declared.refusals.Refusal.{Refusal}
-use Rattle.f11_flx.specs.Asking.{Asking, Denies, Granted, Grants, Service, Who, writes, writes_of}
+use Rattle.f11_flx.specs.Asking.{Denies, Granted, Service, Who, writes, writes_of}
 use Rattle.f11_flx.specs.Filling.{Out, pending}
 use Rattle.f11_flx.specs.Lines.{in_whole_blocks, lines_of, without_zeros}
-use Rattle.f11_flx.specs.Passes.{Begins, EndsLines, FailsToEnd, FailsToFlush, FailsToReadLines, Flushes, HasLongEnd, ReadsLines, StopsAtBlock, StopsAtEnd, StopsAtLine, StopsAtPlace}
+use Rattle.f11_flx.specs.Passes.{Begins, EndsLines, FailsToEnd, FailsToFlush, FailsToReadLines, Flushes, ReadsLines, StopsAtEnd}
 use Rattle.f11_flx.specs.RtSource.{FailsToReadPlace, HasContents, Looks, ReadsFirst, ReadsPlace, StopsReading}
 use Rattle.f11_flx.specs.Spelled.{variable_records}
-use Rattle.f11_flx.specs.Target.{Fares, rt_disk, rt_store}
-use Rattle.f11_flx.specs.ToRecords.{EndsText, bytes_to_come, gives, is_too_long, longest_given, longest_with, open_of}
+use Rattle.f11_flx.specs.Target.{rt_disk, rt_store}
+use Rattle.f11_flx.specs.ToRecords.{EndsText, bytes_to_come, gives, longest_given}
 use Rattle.f11_flx.specs.Writing.{FailsToWrite, MeetsLongLine, Onward, StopsWriting, Writes, WritesNext, out_bytes}
 use Rattle.f11_flx.specs.declared.refusal.FlxRefusal.{FlxRefusal}
 use Rattle.f11_flx.specs.declared.refusal.FlxRefusal.TheVariants.{BadRecord, Files, LineTooLong, Rt}
 use Rattle.f11_flx.specs.declared.to_records.ToRecords.{ToRecords}
 use Rattle.f11_flx.proofs.EndLemmas.{records_end}
 use Rattle.f11_flx.proofs.SizeLemmas.{records_are_few}
-use Rattle.f11_flx.proofs.WritingLemmas.{granted-append, is-whole, onward-then, whole-length, writes-append, writes-few, writes-start}
+use Rattle.f11_flx.proofs.WritingLemmas.{granted-append, is-whole, onward-then, whole-length, writes-append, writes-start}
 
 -- what is taken of a list, and the element behind it
 pub take-one : (n : ℕ) (xs : List (List ℕ)) (x : List ℕ) → slice_get xs n ≡ Some x → take (n + 1) xs ≡ take n xs ++ x ∷ []

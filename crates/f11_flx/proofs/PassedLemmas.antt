@@ -1,5 +1,5 @@
 -- What a pass over a file makes of it.
-use Rattle.std.proofs.Common.{◌≡◌, ◌⊎◌, inl, inr, ℕ, suc, ◌+◌, ◌-◌, ◌*◌, ◌/◌, ◌%◌, ◌<◌, ◌≤◌, Bool, true, false, if◌then◌else◌, List, [], ◌∷◌, ◌++◌, length, take, drop, All, Option, Some, None, refl, sym, ap, ◌∙◌, subst, append_assoc, append-nil, length-append, arith}
+use Rattle.std.proofs.Common.{◌≡◌, ℕ, suc, ◌+◌, ◌*◌, ◌/◌, ◌<◌, Bool, true, false, if◌then◌else◌, List, [], ◌∷◌, ◌++◌, length, take, drop, All, Some, None, refl, sym, ap, ◌∙◌, subst, append_assoc, append-nil, length-append, arith}
 use Rattle.std.specs.List.{concat}
 use Rattle.std.proofs.Math.Seq.{take-append_seam}
 use Rattle.std.proofs.lemmas.Bool.{cond-false, cond-true}
@@ -11,12 +11,12 @@ use Rattle.f11_dev.specs.declared.device.Device.{Ghosts}
 use Rattle.rt11_volume.specs.declared.refusal.RtRefusal.{RtRefusal}
 use Rattle.rt11_volume.specs.declared.volume.RtAccepted.{RtAccepted}
 use Rattle.f11_store.specs.declared.refusals.Refusal.{Refusal}
-use Rattle.f11_flx.specs.Asking.{Asking, Denies, Granted, Grants, Service, Who, writes, writes_of}
-use Rattle.f11_flx.specs.Conversion.{Copy, copied_from_rt, copied_lines}
+use Rattle.f11_flx.specs.Asking.{Denies, Granted, Grants, Service, Who, writes, writes_of}
+use Rattle.f11_flx.specs.Conversion.{Copy, copied_lines}
 use Rattle.f11_flx.specs.Filling.{Out, pending}
 use Rattle.f11_flx.specs.Lines.{has_long_line, in_whole_blocks, lines_of, without_zeros}
-use Rattle.f11_flx.specs.Passes.{Begins, CopiesFile, CopiesImage, EndsLines, FailsToCopyFile, FailsToEnd, FailsToReadLines, HasLongEnd, HasNoCopy, IsCopied, ReadsLines, StopsAtBlock, StopsAtEnd, StopsAtLine, StopsAtPlace, StopsCopying}
-use Rattle.f11_flx.specs.RtSource.{FailsToReadPlace, ReadsFirst, ReadsPlace}
+use Rattle.f11_flx.specs.Passes.{Begins, CopiesFile, CopiesImage, EndsLines, FailsToCopyFile, FailsToEnd, FailsToReadLines, HasNoCopy, IsCopied, ReadsLines, StopsAtBlock, StopsAtLine, StopsAtPlace, StopsCopying}
+use Rattle.f11_flx.specs.RtSource.{FailsToReadPlace, ReadsPlace}
 use Rattle.f11_flx.specs.Spelled.{image_attributes, longest_of, text_attributes, variable_records}
 use Rattle.f11_flx.specs.ToRecords.{bytes_to_come, is_too_long, longest_with}
 use Rattle.f11_flx.specs.Writing.{out_bytes}
@@ -24,7 +24,7 @@ use Rattle.f11_flx.specs.declared.mode.CopyMode.TheVariants.{Image, Text}
 use Rattle.f11_flx.specs.declared.refusal.FlxRefusal.{FlxRefusal}
 use Rattle.f11_flx.specs.declared.refusal.FlxRefusal.TheVariants.{BadRecord, Files, LineTooLong, Rt}
 use Rattle.f11_flx.specs.declared.to_records.ToRecords.{ToRecords}
-use Rattle.f11_flx.proofs.PassLemmas.{concat-one, few-to-come, granted-writes, in-whole-behind, reads-more, reads-none, stops-reading, to-come}
+use Rattle.f11_flx.proofs.PassLemmas.{few-to-come, granted-writes, in-whole-behind, reads-more, reads-none, stops-reading, to-come}
 use Rattle.f11_flx.proofs.WritingLemmas.{is-whole, whole-length}
 
 -- whole blocks of which the bytes begin with those of others begin with them

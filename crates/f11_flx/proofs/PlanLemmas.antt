@@ -1,21 +1,19 @@
 -- A file that is found, and its copy judged.
-use Rattle.std.proofs.Common.{◌≡◌, ◌≢◌, ℕ, suc, ◌<◌, Bool, true, false, List, All, length, Ok, Err, Result, None, refl, sym, ap, ◌∙◌, subst, arith}
+use Rattle.std.proofs.Common.{◌≡◌, ℕ, suc, Bool, true, false, List, length, Ok, Err, Result, refl, sym, ap, ◌∙◌, subst, arith}
 use Rattle.f11_dev.specs.Disk.{Disk}
 use Rattle.f11_dev.specs.declared.device.Device.{Ghosts}
 use Rattle.f11_store.specs.declared.refusals.Refusal.{Refusal}
 use Rattle.f11_store.specs.declared.requests.Reply.{Reply}
 use Rattle.f11_store.specs.declared.requests.Reply.TheVariants as reply
-use Rattle.rt11_volume.specs.Calls.{has_failed}
 use Rattle.rt11_volume.specs.Files.{FailsToFindFile, file_area, is_fault}
 use Rattle.rt11_volume.specs.Verifying.Verdict.{IsSoundDisk}
 use Rattle.rt11_volume.specs.declared.refusal.RtRefusal.{RtRefusal}
 use Rattle.rt11_volume.specs.declared.refusal.RtRefusal.TheVariants as rt
 use Rattle.rt11_volume.specs.declared.volume.RtAccepted.{RtAccepted}
-use Rattle.f11_flx.specs.Asking.{Denies, Service, Who, writes}
-use Rattle.f11_flx.specs.Conversion.{Copy, copied_from_rt}
+use Rattle.f11_flx.specs.Asking.{Denies, Who, writes}
 use Rattle.f11_flx.specs.Dry.{dry}
 use Rattle.f11_flx.specs.Passes.{CopiesFile, FailsToCopyFile, IsCopied}
-use Rattle.f11_flx.specs.Planning.{FailsToPlan, IsNotRead, IsPlan, IsTooLong, Plans}
+use Rattle.f11_flx.specs.Planning.{FailsToPlan, Plans}
 use Rattle.f11_flx.specs.RtSource.{FindsFile, HasContents, Looks, WhereContents}
 use Rattle.f11_flx.specs.Spelled.{image_attributes}
 use Rattle.f11_flx.specs.Target.{rt_disk, rt_store}

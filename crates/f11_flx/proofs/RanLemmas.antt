@@ -52,7 +52,7 @@ pub record Ran {D : Type 0} {met : Ghosts D} (who : Who) (fault fatal : Bool) (o
 abbrev as-count : Bool → ℕ
 as-count b = if b then 1 else 0
 
-false-or : (b : Bool) → (b || false) ≡ b
+pub false-or : (b : Bool) → (b || false) ≡ b
 false-or true = refl
 false-or false = refl
 
@@ -295,13 +295,13 @@ module _ {D : Type 0} {met : Ghosts D} (who : Who) (lun : ℕ) (name : List ℕ)
       by-files who lun name e r v w is
       (ran-then who (is_fault r) (is_fatal r) v d.between w (ran-granted who (told (request.ReadAttr file) (reply.Attr d.of)) v d.between refl d.asked) (ran-denied who (counts lun 0) r d.between w refl d.denied))
 
-  told-ran : (attr : List ℕ) (n : ℕ) (v w : Volume D met) → TellsSource of_volume who lun file attr n v w → Ran who false false v w
+  pub told-ran : (attr : List ℕ) (n : ℕ) (v w : Volume D met) → TellsSource of_volume who lun file attr n v w → Ran who false false v w
   told-ran attr n v w t =
       let g = t.asked in
       ran-then who false false v g.0 w (ran-granted who (told (request.ReadAttr file) (reply.Attr t.of)) v g.0 refl g.1)
       (ran-then who false false g.0 g.2.0 w (ran-granted who (counts lun n) g.0 g.2.0 refl g.2.1) (ran-none who g.2.0 w g.2.2))
 
-  count-ran : (m : CopyMode) (attr : List ℕ) (n count : ℕ) (v w : Volume D met) → CountsAs m of_volume who lun name attr n count v w → Ran who false false v w
+  pub count-ran : (m : CopyMode) (attr : List ℕ) (n count : ℕ) (v w : Volume D met) → CountsAs m of_volume who lun name attr n count v w → Ran who false false v w
   count-ran Image attr n count v w h = ran-none who v w h.1
   count-ran Text attr n count v w h = ran-copies who lun name nowhere_takes nowhere_refuses (λ e place last a b r. absurd r) Text attr n count v w h.0 h.1 h.2
 
@@ -334,7 +334,7 @@ module _ {D : Type 0} {met : Ghosts D} (who : Who) (lun : ℕ) (name : List ℕ)
             undo-ran e h.refusal k.walked w h.stopped rt' h.undoes
             (ran-fails who lun name (rt_takes disk) (rt_refuses disk) (rt-clean disk name) m k.attr k.blocks h.refusal k.walked w h.made h.stopped h.fails)
 
-    copies-ran : (m : CopyMode) (count : ℕ) (v w : Volume D met) (rt rt' : RtAccepted E met') → CopiesLocked m of_volume disk who lun file name count day v w rt rt' → Ran who false false v w
+    pub copies-ran : (m : CopyMode) (count : ℕ) (v w : Volume D met) (rt rt' : RtAccepted E met') → CopiesLocked m of_volume disk who lun file name count day v w rt rt' → Ran who false false v w
     copies-ran m count v w rt rt' l =
         ran-then who false false v l.seen w (told-ran l.attr l.blocks v l.seen l.told)
         (ran-then who false false l.seen l.walked w (count-ran m l.attr l.blocks count l.seen l.walked l.counted)

@@ -1,21 +1,20 @@
 -- What reading a file tells of an RT-11 volume.
-use Rattle.std.proofs.Common.{◌≡◌, ◌≢◌, ℕ, ◌+◌, ◌<◌, ◌≤◌, ◌||◌, Bool, true, false, if◌then◌else◌, List, [], ◌∷◌, ◌++◌, All, length, take, slice_index_or, Some, Result, Ok, Err, OnOk, OnErr, IfOk, IfErr, IsErrOf, refl, sym, ◌∙◌, ap, subst, arith}
+use Rattle.std.proofs.Common.{◌≡◌, ◌≢◌, ℕ, ◌<◌, ◌≤◌, false, if◌then◌else◌, List, [], ◌∷◌, All, length, slice_index_or, Result, Ok, Err, OnOk, IfErr, refl, sym, ◌∙◌, ap, subst, arith}
 use Rattle.std.specs.List.{slice_get}
 use Rattle.f11_dev.specs.Disk.{Disk}
 use Rattle.f11_dev.specs.Image.{IsImage}
 use Rattle.f11_dev.specs.Looked.{Looked}
 use Rattle.f11_dev.specs.declared.device.Device.{Ghosts}
-use Rattle.rt11_volume.specs.Calls.{has_failed}
 use Rattle.rt11_volume.specs.Files.{AnswersRt, FailsToFindFile, FailsToReach, HasBlock, HasFile, IsFileAt, faults_in, file_area, is_device_fault, is_fault}
-use Rattle.rt11_volume.specs.Store.{Area, RtStore, area_at}
+use Rattle.rt11_volume.specs.Store.{Area, RtStore}
 use Rattle.rt11_volume.specs.Verifying.Verdict.{IsSoundDisk}
 use Rattle.rt11_volume.specs.declared.refusal.RtRefusal.{RtRefusal}
 use Rattle.rt11_volume.specs.declared.refusal.RtRefusal.TheVariants as rt
 use Rattle.rt11_volume.specs.declared.volume.RtAccepted.{RtAccepted}
 use Rattle.rt11_volume.proofs.Named.Laws.{file-first, no-file}
 use Rattle.rt11_volume.proofs.Verifying.Sound.{sound_from}
-use Rattle.f11_flx.specs.RtSource.{FailsToReadPlace, FindsFile, FindsNoFile, HasContents, Looks, ReadsFirst, ReadsPlace, StopsReading, WhereContents}
-use Rattle.f11_flx.specs.Target.{Fares, rt_disk, rt_store}
+use Rattle.f11_flx.specs.RtSource.{FailsToReadPlace, FindsFile, FindsNoFile, HasContents, Looks, ReadsPlace}
+use Rattle.f11_flx.specs.Target.{rt_disk, rt_store}
 use Rattle.f11_flx.proofs.RtBlockLemmas.{contents-whole}
 use Rattle.f11_flx.proofs.TargetLemmas.{alive-of, area-length, as-err, unfailed-of}
 

@@ -1,30 +1,21 @@
 -- A copy that isn't made, seen as the plain store: all is as before.
 use Rattle.std.proofs.Common.{◌≡◌, ◌⊎◌, inl, inr, ℕ, suc, ◌==◌, Bool, true, false, if◌then◌else◌, List, [], ◌∷◌, ◌++◌, None, refl, sym, ap, ◌∙◌, subst}
-use Rattle.f11_dev.specs.Disk.{Disk}
-use Rattle.f11_dev.specs.declared.device.Device.{Ghosts}
-use Rattle.f11_store.specs.Accesses.{FreeIsEmpty}
 use Rattle.f11_store.specs.Store.{Store}
 use Rattle.f11_store.specs.declared.files.FileId.{FileId}
-use Rattle.f11_store.specs.declared.files.Mode.TheVariants as access
 use Rattle.f11_store.specs.declared.refusals.Refusal.{Refusal}
 use Rattle.f11_store.specs.declared.requests.Request.{Request}
 use Rattle.f11_store.specs.declared.requests.Request.TheVariants as request
 use Rattle.f11_runs.specs.Standing.{AccessesStand}
 use Rattle.f11_runs.proofs.AccessLemmas.{true-false}
-use Rattle.rt11_volume.specs.declared.volume.RtAccepted.{RtAccepted}
-use Rattle.f11_flx.specs.Asking.{Asking, BreaksOff, Denies, Granted, Grants, Service, Who, asks, plain, writes, writes_of}
-use Rattle.f11_flx.specs.CopyFromRt.{IsAsBefore, Making, as_file, creation, entry, giving_up, opening}
-use Rattle.f11_flx.specs.FromRt.{FailsToCopyFrom}
-use Rattle.f11_flx.specs.Making.{FailsToFill, FailsToFillFile, FailsToMakeCopy, FillsFile, Undoing, UndoingIf, extension, filling_of}
+use Rattle.f11_flx.specs.Asking.{Asking, BreaksOff, Denies, Granted, Grants, Service, Who, asks, plain, writes_of}
+use Rattle.f11_flx.specs.CopyFromRt.{IsAsBefore, giving_up}
+use Rattle.f11_flx.specs.Making.{Undoing, UndoingIf, extension, filling_of}
 use Rattle.f11_flx.specs.Refusal.{is_lethal}
-use Rattle.f11_flx.specs.declared.mode.CopyMode.{CopyMode}
 use Rattle.f11_flx.specs.declared.refusal.FlxRefusal.{FlxRefusal}
-use Rattle.f11_flx.specs.declared.refusal.FlxRefusal.TheVariants.{BadRecord, Files, LineTooLong, Rt}
+use Rattle.f11_flx.specs.declared.refusal.FlxRefusal.TheVariants.{Files}
 use Rattle.f11_flx.proofs.AskingLemmas.{breaks-parts, granted-parts}
-use Rattle.f11_flx.proofs.EnteredLemmas.{entry-refused}
-use Rattle.f11_flx.proofs.NewLemmas.{IsNewIn, IsOpenIn, closed, deleted, extended, lun-was-free, new-made, opened, undenied-deaccess, undenied-delete, written}
+use Rattle.f11_flx.proofs.NewLemmas.{IsNewIn, IsOpenIn, closed, deleted, extended, undenied-deaccess, undenied-delete, written}
 use Rattle.f11_flx.specs.Seen.{IsSeenPlain}
-use Rattle.f11_flx.proofs.SeenLemmas.{granted-seen}
 
 pub as-before : (s : Store) → IsAsBefore s s
 as-before s = record { file = λ n. refl; free = refl; slots = refl; in_use = λ n. refl; last = λ n used. refl; access = λ task lun. refl }

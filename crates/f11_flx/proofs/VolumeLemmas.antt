@@ -1,5 +1,5 @@
 -- A volume that is asked, seen as the plain store, and what its answers tell of its device.
-use Rattle.std.proofs.Common.{◌≡◌, ◌⊎◌, inl, inr, ℕ, suc, ◌+◌, ◌<◌, ◌==◌, ◌&&◌, ◌||◌, not, Bool, true, false, IsTrue, if◌then◌else◌, List, [], ◌∷◌, ◌++◌, Option, Some, None, Result, Ok, Err, IsErrOf, is_none, option_map, refl, sym, ap, ◌∙◌, subst, arith}
+use Rattle.std.proofs.Common.{◌≡◌, ℕ, ◌+◌, ◌<◌, ◌&&◌, ◌||◌, not, Bool, true, false, IsTrue, if◌then◌else◌, [], ◌∷◌, Option, Some, None, Result, Ok, Err, is_none, option_map, refl, sym, ap, ◌∙◌, subst, arith}
 use Rattle.f11_dev.specs.declared.device.Device.{Ghosts}
 use Rattle.f11_store.specs.Accesses.{FreeIsEmpty, mark_of}
 use Rattle.f11_store.specs.Causes.{◌⇐◌, first_of, holds_none, is_missing}
@@ -10,9 +10,7 @@ use Rattle.f11_store.specs.declared.files.FileId.{FileId}
 use Rattle.f11_store.specs.declared.refusals.Refusal.{Refusal}
 use Rattle.f11_store.specs.declared.refusals.Refusal.TheVariants.{Damaged, DeviceFault, NoSuchAccess, VolumeFailed}
 use Rattle.f11_store.specs.declared.requests.Reply.{Reply}
-use Rattle.f11_store.specs.declared.requests.Request.{Request}
-use Rattle.f11_store.specs.declared.requests.Request.TheVariants as request
-use Rattle.f11_runs.specs.Each.{Steps, answer_with, call_with}
+use Rattle.f11_runs.specs.Each.{Steps}
 use Rattle.f11_runs.specs.Standing.{AccessesStand, is_lost}
 use Rattle.f11_runs.proofs.AccessLemmas.{true-false}
 use Rattle.f11_files.specs.Answers.{is_cause, is_fatal, is_fault, is_refused}
@@ -26,7 +24,7 @@ use Rattle.f11_fcp.specs.Lists.{ServesCall, failures_of, is_sound, store_of_volu
 use Rattle.f11_fcp.specs.Places.{table_of}
 use Rattle.f11_fcp.specs.Serving.{StaysAccepted, is_spent, state_in}
 use Rattle.f11_fcp.specs.declared.volume.Volume.{Volume}
-use Rattle.f11_flx.specs.Asking.{Asking, BreaksOff, Denies, Granted, Grants, IsMeasured, Service, Who, asks, counts, plain, reads, told, writes}
+use Rattle.f11_flx.specs.Asking.{Asking, Denies, Grants, IsMeasured, Who, asks, counts, plain, reads, told, writes}
 use Rattle.f11_flx.specs.Copying.{of_volume}
 use Rattle.f11_flx.specs.Refusal.{is_lethal}
 use Rattle.f11_flx.specs.declared.refusal.FlxRefusal.TheVariants.{Files}

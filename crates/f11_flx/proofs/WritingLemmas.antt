@@ -1,5 +1,5 @@
 -- A text that is converted into the blocks of a file, a step at a time.
-use Rattle.std.proofs.Common.{◌≡◌, ◌⊎◌, inl, inr, ℕ, suc, ◌+◌, ◌-◌, ◌*◌, ◌<◌, ◌≤◌, true, false, List, [], ◌∷◌, ◌++◌, length, take, drop, All, refl, sym, ap, ◌∙◌, subst, append_assoc, append-nil, length-append, length-drop, arith}
+use Rattle.std.proofs.Common.{◌≡◌, inl, inr, ℕ, suc, ◌+◌, ◌-◌, ◌*◌, ◌<◌, ◌≤◌, List, [], ◌∷◌, ◌++◌, length, take, drop, All, refl, sym, ap, ◌∙◌, subst, append_assoc, append-nil, length-append, length-drop, arith}
 use Rattle.std.specs.Prelude.{slice_range}
 use Rattle.std.specs.List.{concat}
 use Rattle.std.proofs.Math.Seq.{drop-length, take-add, take-length}
@@ -8,12 +8,11 @@ use Rattle.std.proofs.lemmas.List.Elements.{All-append, All-cons, All-head, All-
 use Rattle.std.proofs.lemmas.List.Folds.{concat-append}
 use Rattle.f11_bytes.proofs.PartLemmas.{length-slice_range}
 use Rattle.f11_store.specs.declared.refusals.Refusal.{Refusal}
-use Rattle.f11_flx.specs.Asking.{Asking, Denies, Granted, Grants, Service, Who, writes, writes_of}
+use Rattle.f11_flx.specs.Asking.{Asking, Denies, Granted, Service, Who, writes, writes_of}
 use Rattle.f11_flx.specs.Filling.{Out, pending}
 use Rattle.f11_flx.specs.Puts.{PutsAt}
-use Rattle.f11_flx.specs.ToRecords.{ConvertsText, GoesOn, HasLongLine, StopsText, bytes_to_come, gives, is_too_long, longest_with, open_of}
-use Rattle.f11_flx.specs.Writing.{FailsToWrite, MeetsLongLine, Onward, StopsWriting, Writes, WritesNext, out_bytes}
-use Rattle.f11_flx.specs.declared.refusal.FlxRefusal.{FlxRefusal}
+use Rattle.f11_flx.specs.ToRecords.{ConvertsText, GoesOn, HasLongLine, StopsText, bytes_to_come}
+use Rattle.f11_flx.specs.Writing.{FailsToWrite, Onward, Writes, WritesNext, out_bytes}
 use Rattle.f11_flx.specs.declared.refusal.FlxRefusal.TheVariants.{Files, LineTooLong}
 use Rattle.f11_flx.specs.declared.to_records.ToRecords.{ToRecords}
 

@@ -6,6 +6,7 @@ pub mod CopyLaws
 pub mod CopyToRt
 pub mod Copying
 pub mod Dry
+pub mod Ended
 pub mod Filling
 pub mod FromRt
 pub mod Laws

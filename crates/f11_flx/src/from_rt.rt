@@ -3,7 +3,9 @@ ghost use Rattle.std.specs.Prelude.{◌≡◌, true, IfOk, IfErr, Err};
 ghost use Rattle.f11_fcp.specs.Lists.{store_of_volume};
 ghost use Rattle.rt11_volume.specs.Calls.{volume_device};
 ghost use Rattle.rt11_volume.specs.Store.{rt_store_of};
-ghost use Rattle.f11_flx.specs.Copying.{MakesFile, ReadsRt, WhereSound, is_whole};
+ghost use Rattle.f11_flx.specs.Copying.{MakesFile, ReadsRt, WhereSound, is_whole, of_volume};
+ghost use Rattle.f11_flx.specs.Ended.{Ends};
+ghost use Rattle.f11_flx.specs.Refusal.{is_lethal};
 ghost use Rattle.f11_flx.specs.Asking.{who_asks};
 ghost use Rattle.f11_flx.specs.CopyFromRt.{CopiesFromRt, FailsToCopyFromRt};
 
@@ -44,6 +46,8 @@ pub fn copy_from_rt<D: Device, E: Device>(
 ) -> Result<u32, FlxRefusal>
     ensures source { ReadsRt E.disk result rt.old rt.new }
     ensures files { MakesFile result (who_asks task uic) vol.old vol.new }
+    ensures ended { IfErr result (λ e. is_lethal e ≡ true
+        → Ends of_volume (who_asks task uic) e vol.old vol.new) }
     ensures copied { IfOk result (λ blocks. WhereSound E.disk vol.old rt.old
         (CopiesFromRt mode name.now (who_asks task uic) lun dir to.now protection blocks
         (rt_store_of (E.disk (volume_device rt.old)).image)

@@ -1,4 +1,6 @@
 use Rattle.f11_flx.specs.Asking.{Who, who_asks}
+use Rattle.f11_flx.specs.Copying.{of_volume}
+use Rattle.f11_flx.proofs.EndedLemmas.{copy-ends}
 use Rattle.f11_flx.proofs.FromVolumeLemmas.{copy-made, copy-not-made, file-made, file-not-made, source-read, source-refused}
 use Rattle.f11_flx.proofs.from_rt.copy_from_rt.Goals as goal
 
@@ -31,3 +33,8 @@ pub returns-in-Err-clause-refused : goal.returns-in-Err-clause-refused
 returns-in-Err-clause-refused g c =
     let who : Who = who_asks c.args.task c.args.uic in
     copy-not-made g.E.Device.disk c.args.mode who c.args.lun c.args.name.now c.args.dir c.args.to.now c.args.protection c.args.rt.now c.copy_from.new.rt c.args.vol.now c.copy_from.new.service c.in-Err.refusal c.in-Err.ensures.fails
+
+pub returns-in-Err-clause-ended : goal.returns-in-Err-clause-ended
+returns-in-Err-clause-ended g c =
+    let who : Who = who_asks c.args.task c.args.uic in
+    copy-ends of_volume g.E.Device.disk c.args.mode who c.args.lun c.args.name.now c.in-Err.refusal c.args.dir c.args.to.now c.args.protection c.args.rt.now c.copy_from.new.rt c.args.vol.now c.copy_from.new.service c.in-Err.ensures.fails

@@ -1,4 +1,4 @@
-use Rattle.std.proofs.Common.{inl, inr, refl, List}
+use Rattle.std.proofs.Common.{inr, refl}
 use Rattle.f11_flx.proofs.making.make.Goals as goal
 
 pub returns-in-Ok-enter-clause-makes : goal.returns-in-Ok-enter-clause-makes

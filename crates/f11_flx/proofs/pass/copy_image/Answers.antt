@@ -1,7 +1,7 @@
-use Rattle.std.proofs.Common.{arith, subst, ap, sym, ◌≡◌, ℕ, ◌+◌}
+use Rattle.std.proofs.Common.{arith, subst, ap, ◌≡◌, ◌+◌}
 use Rattle.f11_flx.specs.Asking.{Who, who_asks}
 use Rattle.f11_flx.specs.Passes.{CopiesImage}
-use Rattle.f11_flx.proofs.PassedLemmas.{image-copies, image-more, image-none, image-refused, image-unread}
+use Rattle.f11_flx.proofs.PassedLemmas.{image-copies, image-more, image-refused}
 use Rattle.f11_flx.proofs.pass.copy_image.Goals as goal
 
 pub returns-in-Err-write-clause-fails : goal.returns-in-Err-write-clause-fails

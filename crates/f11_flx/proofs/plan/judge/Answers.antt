@@ -1,4 +1,4 @@
-use Rattle.std.proofs.Common.{◌≡◌, ℕ, List, subst, sym, ap, ◌∙◌}
+use Rattle.std.proofs.Common.{◌≡◌, subst, sym, ap, ◌∙◌}
 use Rattle.f11_flx.specs.Asking.{who_asks}
 use Rattle.f11_flx.specs.Planning.{FailsToPlan, Plans}
 use Rattle.f11_flx.specs.Spelled.{image_attributes}

@@ -1,5 +1,4 @@
-use Rattle.std.proofs.Common.{◌≡◌, ◌⊎◌, inl, inr, ℕ, ◌+◌, ◌-◌, ◌≤◌, List, [], length, take, drop, arith, ap, ◌∙◌, refl, subst}
-use Rattle.std.proofs.Math.Seq.{drop-length}
+use Rattle.std.proofs.Common.{◌≡◌, drop, arith, refl}
 use Rattle.std.proofs.lemmas.List.{take_rest}
 use Rattle.f11_flx.specs.Asking.{Who, who_asks}
 use Rattle.f11_flx.specs.Filling.{Out, out_of}
