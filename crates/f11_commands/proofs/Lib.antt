@@ -2,3 +2,6 @@ pub mod LineLemmas
 pub mod VolumeLemmas
 mod RunLemmas
 mod UpdateLemmas
+mod AskedLemmas
+mod CopyLemmas
+mod NamedLemmas

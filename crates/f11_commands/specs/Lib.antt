@@ -1,5 +1,8 @@
+pub mod CopyCommand
+pub mod Copying
 pub mod Dump
 pub mod DumpCommand
+pub mod Finding
 pub mod Home
 pub mod InitCommand
 pub mod Label

@@ -3,9 +3,10 @@
 //! A command's contract says which lines it writes and what it answers; it knows nothing of files, words or terminals. The
 //! program opens the files and calls them, and so can whatever else wants their lines. The crate stands on [`f11_dev`], for
 //! devices, on [`f11_home`], for home blocks, on [`f11_header`] and [`f11_map`], for file headers, on [`f11_rad50`], for
-//! names, on [`f11_store`], for rights, and on [`f11_fcp`] and [`f11_serving`], for scripts.
+//! names, on [`f11_store`], for rights, on [`f11_fcp`] and [`f11_serving`], for scripts, and on [`f11_flx`], for copies.
 #![tactic(auto)]
 
+mod copy;
 mod dump;
 mod home;
 mod init;
@@ -23,12 +24,15 @@ mod vfy;
 mod volume;
 mod volume_dump;
 
+pub use copy::names::{read_names, refuse_names};
+pub use copy::{CopyAnswer, Copying, Direction, print_copy};
 pub use dump::dump_header;
 pub use home::print_home;
 pub use init::{print_init, refuse_init};
 pub use label::Label;
 pub use name::print_name;
 pub use outcome::{Answer, Failure};
+pub use report::System;
 pub use rights::print_rights;
 pub use rt_init::print_rt_init;
 pub use rt_list::print_rt_list;

@@ -14,7 +14,7 @@ use std::io::{self, Write};
 
 /// A file system, whose verifier reports.
 #[derive(Clone, Copy, Debug, PartialEq, Eq)]
-pub(crate) enum System {
+pub enum System {
     /// Files-11.
     Files11,
     /// RT-11.

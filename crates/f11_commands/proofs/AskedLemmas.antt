@@ -1,0 +1,105 @@
+-- A volume of which things are asked one after another: its home block stays, and where its disk is honest it fails by a failed transfer alone.
+use Rattle.std.proofs.Common.{◌≡◌, ◌≢◌, ◌⊎◌, inl, inr, ℕ, ◌<◌, ◌≤◌, ◌+◌, ◌||◌, if◌then◌else◌, Bool, true, false, IsTrue, List, [], ◌∷◌, Result, Ok, Err, refl, sym, ap, subst, ◌∙◌, arith}
+use Rattle.f11_dev.specs.declared.device.Device.{Ghosts}
+use Rattle.f11_fcp.specs.Handles.{State, is_damage}
+use Rattle.f11_fcp.specs.Lengths.{AnswersLength}
+use Rattle.f11_fcp.specs.Lists.{ServesCall, failures_of}
+use Rattle.f11_fcp.specs.Serving.{is_spent, state_in}
+use Rattle.f11_fcp.specs.declared.volume.Volume.{Volume}
+use Rattle.f11_files.specs.Answers.{is_fatal, is_fault, is_refused}
+use Rattle.f11_flx.proofs.VolumeLemmas.{IsFared, denied-fared, granted-fared}
+use Rattle.f11_flx.specs.Asking.{Asking, Denies, Grants, Tried, Who, asks, counts, reads, told, writes}
+use Rattle.f11_flx.specs.Copying.{of_volume}
+use Rattle.f11_store.specs.Run.{Answer, Call}
+use Rattle.f11_store.specs.declared.refusals.Refusal.{Refusal}
+use Rattle.f11_store.specs.declared.refusals.Refusal.TheVariants.{Damaged, DeviceFault}
+
+-- a refusal that fails a volume, and isn't Damaged, is that of a transfer
+fault-of : (e : Refusal) → is_fatal e ≡ true → (e ≡ Damaged → ⊥) → is_fault e ≡ true
+fault-of DeviceFault fatal un = refl
+fault-of Damaged fatal un = absurd (un refl)
+fault-of _ fatal un = absurd (let never : false ≡ true = fatal in cc)
+
+undamaged-of : (e : Refusal) → is_damage e ≡ false → e ≡ Damaged → ⊥
+undamaged-of Damaged un is = let never : true ≡ false = un in cc
+undamaged-of _ un is = cc
+
+by-bool : {A : Type 0} (b : Bool) → (b ≡ true → A) → (b ≡ false → A) → A
+by-bool true f g = f refl
+by-bool false f g = g refl
+
+never : {A : Type 0} {b : Bool} → b ≡ true → b ≡ false → A
+never {b = true} h k = absurd (cc)
+never {b = false} h k = absurd (cc)
+
+module _ {D : Type 0} {met : Ghosts D} where
+  serves-home : (v w : Volume D met) (c : Call) (a : Answer) → ServesCall v c a w → (state_in w).home ≡ (state_in v).home
+  serves-home v w c a h = by-bool (is_spent v) (λ is. ap (λ (x : State). x.home) (h.serving.untouched is).0) (λ is. (h.serving.handled is).home)
+
+  measures-home : (v w : Volume D met) (task lun : ℕ) (result : Result ℕ Refusal) → AnswersLength task lun result v w → (state_in w).home ≡ (state_in v).home
+  measures-home v w task lun result h = by-bool (is_spent v) (λ is. ap (λ (x : State). x.home) (h.untouched is)) (λ is. (h.measures is).home)
+
+  pub granted-home : (who : Who) (x : Asking) (v w : Volume D met) → Grants of_volume who x v w → (state_in w).home ≡ (state_in v).home
+  granted-home who (asks r) v w h = serves-home v w _ _ h.3
+  granted-home who (told r a) v w h = serves-home v w _ _ h.2
+  granted-home who (reads lun vbn block) v w h = serves-home v w _ _ h.2
+  granted-home who (writes lun vbn block) v w h = serves-home v w _ _ h.2
+  granted-home who (counts lun blocks) v w h = measures-home v w who.task lun (Ok blocks) h.0
+
+  pub denied-home : (who : Who) (x : Asking) (e : Refusal) (v w : Volume D met) → Denies of_volume who x e v w → (state_in w).home ≡ (state_in v).home
+  denied-home who (asks r) e v w h = serves-home v w _ _ h.2
+  denied-home who (told r a) e v w h = serves-home v w _ _ h.2
+  denied-home who (reads lun vbn block) e v w h = serves-home v w _ _ h.2
+  denied-home who (writes lun vbn block) e v w h = serves-home v w _ _ h.1
+  denied-home who (counts lun blocks) e v w h = measures-home v w who.task lun (Err e) h.0
+
+  pub tried-home : (who : Who) (xs : List Asking) (v w : Volume D met) → Tried of_volume who xs v w → (state_in w).home ≡ (state_in v).home
+  tried-home who [] v w h = ap (λ (u : Volume D met). (state_in u).home) h
+  tried-home who (x ∷ xs) v w h = tried-home who xs h.0 w h.2 ∙ one h.1
+    where
+      one : (Grants of_volume who x v h.0) ⊎ ((e : Refusal) × Denies of_volume who x e v h.0) → (state_in h.0).home ≡ (state_in v).home
+      one (inl g) = granted-home who x v h.0 g
+      one (inr d) = denied-home who x d.0 v h.0 d.1
+
+  -- no honest disk is damaged
+  serves-undamaged : (v w : Volume D met) (c : Call) (a : Answer) (e : Refusal) → a.result ≡ Err e → is_spent v ≡ false → IsTrue (state_in v).disk.honest → ServesCall v c a w → e ≢ Damaged
+  serves-undamaged v w c a e is alive honest h =
+      undamaged-of e (sym (ap (λ r. is_refused is_damage r) is) ∙ (h.serving.handled alive).undamaged honest)
+
+  pub denied-undamaged : (who : Who) (x : Asking) (e : Refusal) (v w : Volume D met) → is_spent v ≡ false → IsTrue (state_in v).disk.honest → Denies of_volume who x e v w → e ≢ Damaged
+  denied-undamaged who (asks r) e v w alive honest h = serves-undamaged v w _ _ e refl alive honest h.2
+  denied-undamaged who (told r a) e v w alive honest h = serves-undamaged v w _ _ e refl alive honest h.2
+  denied-undamaged who (reads lun vbn block) e v w alive honest h = serves-undamaged v w _ _ e refl alive honest h.2
+  denied-undamaged who (writes lun vbn block) e v w alive honest h = serves-undamaged v w _ _ e refl alive honest h.1
+  denied-undamaged who (counts lun blocks) e v w alive honest h = ((h.0.measures alive).outcome.right).undamaged honest
+
+  -- transfers that failed stay so many at least
+  tried-more : (who : Who) (xs : List Asking) (v w : Volume D met) → Tried of_volume who xs v w → failures_of v ≤ failures_of w
+  tried-more who [] v w h = let same = ap (λ (u : Volume D met). failures_of u) h in omega (arith, same)
+  tried-more who (x ∷ xs) v w h = let rest = tried-more who xs h.0 w h.2 in let first = one h.1 in omega (arith, rest, first)
+    where
+      one : (Grants of_volume who x v h.0) ⊎ ((e : Refusal) × Denies of_volume who x e v h.0) → failures_of v ≤ failures_of h.0
+      one (inl g) = let f = (granted-fared who x v h.0 g).failures in omega (arith, f)
+      one (inr d) = let f = (denied-fared who x d.0 v h.0 d.1).failures in omega (arith, f)
+
+  -- a volume of an honest disk that fails meanwhile has met a failed transfer
+  pub tried-breaks : (who : Who) (xs : List Asking) (v w : Volume D met) → Tried of_volume who xs v w → IsTrue (state_in v).disk.honest → is_spent v ≡ false → is_spent w ≡ true → failures_of v < failures_of w
+  tried-breaks who [] v w h honest alive dead = never (sym (ap (λ (u : Volume D met). is_spent u) h) ∙ dead) alive
+  tried-breaks who (x ∷ xs) v w h honest alive dead = one h.1
+    where
+      behind : (f : Bool) → IsFared f false v h.0 → failures_of v < failures_of w
+      behind f fared =
+          let rest = tried-breaks who xs h.0 w h.2 (fared.honest ∙ honest) (fared.next ∙ ap (λ b. b || false) alive) dead in
+          let same = fared.failures in
+          omega (arith, rest, same)
+
+      one : (Grants of_volume who x v h.0) ⊎ ((e : Refusal) × Denies of_volume who x e v h.0) → failures_of v < failures_of w
+      one (inl g) = behind false (granted-fared who x v h.0 g)
+      one (inr d) =
+          let fared = denied-fared who x d.0 v h.0 d.1 in
+          by-bool (is_fatal d.0) (λ fatal.
+            let fault = fault-of d.0 fatal (denied-undamaged who x d.0 v h.0 alive honest d.1) in
+            let more = fared.failures ∙ ap (λ b. failures_of v + (if b then 1 else 0)) fault in
+            let rest = tried-more who xs h.0 w h.2 in
+            omega (arith, more, rest))
+          (λ clean. behind (is_fault d.0) (subst (λ b. IsFared (is_fault d.0) b v h.0) clean fared))

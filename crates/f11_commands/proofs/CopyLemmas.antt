@@ -1,0 +1,73 @@
+-- A copy between the volumes of two images.
+use Rattle.std.proofs.Common.{◌≡◌, ◌⊎◌, inl, inr, ℕ, ◌&&◌, not, Bool, true, false, IsTrue, List, Option, Result, refl, sym, ◌∙◌, ap, subst, arith}
+use Rattle.f11_dev.specs.Disk.{Disk}
+use Rattle.f11_dev.specs.Image.{Image}
+use Rattle.f11_dev.specs.declared.device.Device.{Ghosts}
+use Rattle.f11_home.specs.Home.{HomeFields}
+use Rattle.f11_fcp.specs.Accesses.{Table, held_in, no_entries}
+use Rattle.f11_fcp.specs.Lists.{is_sound, store_of_volume}
+use Rattle.f11_fcp.specs.Mounting.{Mounts}
+use Rattle.f11_fcp.specs.Serving.{is_spent, state_in}
+use Rattle.f11_fcp.specs.declared.volume.Volume.{Volume}
+use Rattle.f11_flx.specs.declared.refusal.FlxRefusal.{FlxRefusal}
+use Rattle.f11_image_store.specs.StoreOf.{store_of}
+use Rattle.f11_store.specs.Store.{Store}
+use Rattle.rt11_volume.specs.Calls.{volume_device}
+use Rattle.rt11_volume.specs.Verifying.Verdict.{IsRtAccepted, IsSoundDisk}
+use Rattle.rt11_volume.specs.declared.volume.RtAccepted.{RtAccepted}
+use Rattle.f11_commands.specs.CopyCommand.{AnswersCopy, CopiesImages, EndsBetween, Tells}
+use Rattle.f11_commands.specs.Copying.{OutcomeIs}
+use Rattle.f11_commands.specs.Finding.{Answers}
+use Rattle.f11_commands.specs.declared.copy.CopyAnswer.{CopyAnswer}
+use Rattle.f11_commands.specs.declared.copy.Copying.{Copying}
+use Rattle.f11_commands.specs.declared.outcome.Failure.{Failure}
+
+both : (a b : Bool) → a ≡ true → b ≡ false → (a && not b) ≡ true
+both true false h k = refl
+both true true h k = absurd (let never : true ≡ false = k in cc)
+both false b h k = absurd (let never : false ≡ true = h in cc)
+
+-- a volume that was mounted, between which and an RT-11 volume a copy was asked for
+module _ {D E : Type 0} {met : Ghosts D} {met' : Ghosts E} (rt-disk : E → Disk) (c : Copying) (result : Result ℕ FlxRefusal) (old : Disk)
+    (first last : Volume D met) (rt rt' : RtAccepted E met') (mounts : Mounts old first)
+    (accepted : IsTrue (rt-disk (volume_device rt)).honest → IsRtAccepted (rt-disk (volume_device rt)).image)
+    (answers : Answers rt-disk result (OutcomeIs c result) first last rt rt')
+  where
+    first-is : store_of_volume first ≡ held_in no_entries (store_of old.image (state_in first).home)
+    first-is =
+        ap (λ (t : Table). held_in t (store_of (state_in first).disk.image (state_in first).home)) mounts.none
+        ∙ ap (λ (i : Image). held_in no_entries (store_of i (state_in first).home)) mounts.looked.image
+
+    last-is : store_of_volume last ≡ held_in (state_in last).table (store_of (state_in last).disk.image (state_in first).home)
+    last-is = ap (λ (h : HomeFields). held_in (state_in last).table (store_of (state_in last).disk.image h)) answers.home
+
+    d d' : Disk
+    d = rt-disk (volume_device rt)
+    d' = rt-disk (volume_device rt')
+
+    sound-rt : IsTrue d.honest → IsSoundDisk d
+    sound-rt honest = record { honest = honest; accepted = accepted honest }
+
+    pub copies-images : CopiesImages c result old (state_in last).disk d d'
+    copies-images = record {
+      home = (state_in first).home;
+      held = (state_in last).table;
+      home_is = mounts.home;
+      outcome = λ is rt-is whole.
+          let sound : is_sound first ≡ true = both (state_in first).disk.honest (is_spent first) (mounts.looked.honest ∙ is) mounts.fresh in
+          subst (λ (s : Store). OutcomeIs c result s (held_in (state_in last).table (store_of (state_in last).disk.image (state_in first).home)) d d') first-is
+          (subst (λ (s : Store). OutcomeIs c result (store_of_volume first) s d d') last-is (answers.outcome sound (sound-rt rt-is) whole));
+      undamaged = λ is. answers.undamaged mounts.fresh (mounts.looked.honest ∙ is);
+      failures = let none = mounts.looked.failures in let some = answers.fares.failures in omega (arith, none, some);
+      rt_failures = answers.fares_rt.failures;
+      accepted = λ is. answers.fares.accepted (answers.fares.honest ∙ mounts.looked.honest ∙ is);
+      rt_accepted = λ is whole. (answers.sound_rt (sound-rt is) whole).accepted;
+    }
+
+    pub ends-between : {W : Type 0} (told : Result CopyAnswer Failure) (contents : W → Option (List ℕ)) (before after : W) (new rt-new : Disk)
+        → new ≡ (state_in last).disk → rt-new ≡ d' → Tells result told contents before after
+        → EndsBetween c told old new d rt-new contents before after
+    ends-between told contents before after new rt-new at rt-at tells =
+        inl (subst (λ (x : Disk). AnswersCopy c told old x d rt-new contents before after) (sym at)
+        (subst (λ (x : Disk). AnswersCopy c told old (state_in last).disk d x contents before after) (sym rt-at)
+        (record { result = result; copies = copies-images; tells = tells })))

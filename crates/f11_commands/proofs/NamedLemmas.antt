@@ -1,0 +1,210 @@
+-- A copy by names: what its steps tell, one after another.
+use Rattle.std.proofs.Common.{◌≡◌, ◌≢◌, ◌⊎◌, inl, inr, ℕ, ◌+◌, ◌*◌, ◌||◌, not, Bool, true, false, IsTrue, if◌then◌else◌, List, [], ◌∷◌, Result, Ok, Err, IfOk, IfErr, refl, sym, ap, subst, ◌∙◌, arith}
+use Rattle.f11_dev.specs.Disk.{Disk}
+use Rattle.f11_dev.specs.declared.device.Device.{Ghosts}
+use Rattle.f11_fcp.specs.Lists.{failures_of, is_sound, store_of_volume}
+use Rattle.f11_fcp.specs.Serving.{is_spent, state_in}
+use Rattle.f11_fcp.specs.declared.volume.Volume.{Volume}
+use Rattle.f11_files.specs.Answers.{is_fatal, is_fault}
+use Rattle.f11_flx.proofs.VolumeLemmas.{IsFared, denied-fared, granted-fared, volume-seen}
+use Rattle.f11_flx.specs.Asking.{Asking, Denies, Fails, Grants, Who, asks, plain, told}
+use Rattle.f11_flx.specs.Copying.{AsksOnly, FaresFiles, FaresRt, MakesFile, MakesRtFile, ReadsFiles, ReadsRt, WhereSound, is_whole, of_files, of_volume}
+use Rattle.f11_flx.specs.CopyFromRt.{CopiesFromRt, FailsToCopyFromRt}
+use Rattle.f11_flx.specs.CopyToRt.{CopiesToRt, FailsToCopyToRt}
+use Rattle.f11_flx.specs.declared.refusal.FlxRefusal.{FlxRefusal}
+use Rattle.f11_flx.specs.declared.refusal.FlxRefusal.TheVariants.{Files}
+use Rattle.f11_flx.specs.RtOutcome.{HasSameFiles}
+use Rattle.f11_store.specs.Store.{Store}
+use Rattle.f11_store.specs.declared.files.FileId.{FileId}
+use Rattle.f11_store.specs.declared.refusals.Refusal.{Refusal}
+use Rattle.f11_store.specs.declared.refusals.Refusal.TheVariants.{Damaged}
+use Rattle.f11_store.specs.declared.requests.Reply.{Reply}
+use Rattle.f11_store.specs.declared.requests.Reply.TheVariants as reply
+use Rattle.f11_store.specs.declared.requests.Request.TheVariants as request
+use Rattle.rt11_volume.specs.Calls.{has_failed, volume_device}
+use Rattle.rt11_volume.specs.Store.{RtStore, rt_store_of}
+use Rattle.rt11_volume.specs.Verifying.Verdict.{IsRtAccepted, IsSoundDisk}
+use Rattle.rt11_volume.specs.declared.volume.RtAccepted.{RtAccepted}
+use Rattle.f11_commands.proofs.AskedLemmas.{denied-home, denied-undamaged, granted-home, never, tried-breaks, tried-home}
+use Rattle.f11_commands.specs.Copying.{CopiesSource, CopiesWithin, HasDirectory, KeepsRt, KeepsSource, LacksDirectory, LacksSource, LeavesDirectory, OutcomeIs, directory_name, master_directory, operator}
+use Rattle.f11_commands.specs.Finding.{Answers, WithinDirectory, is_found}
+use Rattle.f11_commands.specs.declared.copy.Copying.{Copying}
+use Rattle.f11_commands.specs.declared.copy.Direction.{Direction}
+use Rattle.f11_commands.specs.declared.copy.Direction.TheVariants.{ToRt, FromRt}
+
+or-false : (b : Bool) → (b || false) ≡ b
+or-false true = refl
+or-false false = refl
+
+or-true : (b : Bool) → (b || true) ≡ true
+or-true true = refl
+or-true false = refl
+
+plus-none : (n : ℕ) → n ≡ n + 0
+plus-none n = omega arith
+
+-- what a volume's answer to a find is on an honest disk
+module _ {D : Type 0} {met : Ghosts D} (dir : FileId) (name : List ℕ) (answer : Reply) (v w : Volume D met) (grants : Grants of_volume operator (told (request.Find dir name) answer) v w) (honest : IsTrue (state_in v).disk.honest) where
+  pub found-reply : is_found answer ≡ true
+  found-reply = by_spent (is_spent v) refl
+    where
+      by_spent : (b : Bool) → is_spent v ≡ b → is_found answer ≡ true
+      by_spent true is = let no = grants.2.serving.refused is in absurd (cc)
+      by_spent false is = ap is_found ((grants.2.serving.handled is).step honest refl).reply_is
+
+-- an RT-11 volume of which nothing was asked
+untouched : {E : Type 0} {met : Ghosts E} (disk : E → Disk) (e : Refusal) (rt : RtAccepted E met) → FaresRt {T = ℕ} disk (Err (Files e)) rt rt
+untouched disk e rt = record {
+  failures = plus-none (disk (volume_device rt)).failures;
+  quiet = λ fault. absurd (cc);
+  honest = refl;
+  next = sym (or-false (has_failed rt));
+}
+
+module _ {D E : Type 0} {met : Ghosts D} {met' : Ghosts E} (disk : E → Disk) where
+  fares-behind : (result : Result ℕ FlxRefusal) (v u w : Volume D met) → IsFared false false v u → FaresFiles result u w → FaresFiles result v w
+  fares-behind result v u w f g =
+      let alive : is_spent u ≡ is_spent v = f.next ∙ or-false (is_spent v) in
+      let first = f.failures in
+      let more = g.failures in
+      record {
+        failures = omega (arith, first, more);
+        quiet = g.quiet;
+        honest = g.honest ∙ f.honest;
+        next = λ honest. g.next (f.honest ∙ honest) ∙ ap (λ b. b || of_files is_fatal result) alive;
+        spent = λ dead. ap (λ b. b || of_files is_fatal result) (sym alive) ∙ g.spent dead;
+        accepted = g.accepted;
+      }
+
+  -- a copy behind something that was granted
+  pub answers-behind : (result : Result ℕ FlxRefusal) (Holds Holds' : Store → Store → Disk → Disk → Type 0) (who : Who) (x : Asking) (v u w : Volume D met) (rt rt' : RtAccepted E met')
+      → Grants of_volume who x v u → Answers disk result Holds u w rt rt'
+      → (Grants plain who x (store_of_volume v) (store_of_volume u) → Holds (store_of_volume u) (store_of_volume w) (disk (volume_device rt)) (disk (volume_device rt'))
+        → Holds' (store_of_volume v) (store_of_volume w) (disk (volume_device rt)) (disk (volume_device rt')))
+      → Answers disk result Holds' v w rt rt'
+  answers-behind result Holds Holds' who x v u w rt rt' grants a step =
+      let fared = granted-fared who x v u grants in
+      record {
+        fares = fares-behind result v u w fared a.fares;
+        fares_rt = a.fares_rt;
+        home = a.home ∙ granted-home who x v u grants;
+        undamaged = λ alive honest. a.undamaged (fared.next ∙ ap (λ b. b || false) alive) (fared.honest ∙ honest);
+        sound_rt = a.sound_rt;
+        outcome = λ sound rt-sound whole.
+            let seen = volume-seen.granted who x v u grants sound in
+            step seen.0 (a.outcome seen.1 rt-sound whole);
+      }
+
+  -- a find that is refused
+  pub answers-not-found : (Holds : Store → Store → Disk → Disk → Type 0) (dir : FileId) (name : List ℕ) (e : Refusal) (v w : Volume D met) (rt : RtAccepted E met')
+      → Fails of_volume operator is_found (request.Find dir name) e v w
+      → (Denies plain operator (asks (request.Find dir name)) e (store_of_volume v) (store_of_volume w)
+        → Holds (store_of_volume v) (store_of_volume w) (disk (volume_device rt)) (disk (volume_device rt)))
+      → Answers disk (Err (Files e)) Holds v w rt rt
+  answers-not-found Holds dir name e v w rt (inl denies) step =
+      let fared = denied-fared operator (asks (request.Find dir name)) e v w denies in
+      record {
+        fares = record {
+          failures = fared.failures;
+          quiet = fared.quiet;
+          honest = fared.honest;
+          next = λ honest. fared.next;
+          spent = λ dead. sym fared.next ∙ dead;
+          accepted = fared.accepted;
+        };
+        fares_rt = untouched disk e rt;
+        home = denied-home operator (asks (request.Find dir name)) e v w denies;
+        undamaged = λ alive honest is. denied-undamaged operator (asks (request.Find dir name)) e v w alive honest denies (let same = is in cc);
+        sound_rt = λ sound whole. sound;
+        outcome = λ sound rt-sound whole. step (volume-seen.denied operator (asks (request.Find dir name)) e v w denies sound (not-true whole)).0;
+      }
+    where
+      not-true : {b : Bool} → not b ≡ true → b ≡ false
+      not-true {b = true} h = absurd (cc)
+      not-true {b = false} h = refl
+  answers-not-found Holds dir name e v w rt (inr wrong) step =
+      let fared = granted-fared operator (told (request.Find dir name) wrong.0) v w wrong.3 in
+      let dishonest = λ (honest : IsTrue (state_in v).disk.honest). never (found-reply dir name wrong.0 v w wrong.3 honest) wrong.1 in
+      record {
+        fares = subst (λ x. FaresFiles {T = ℕ} (Err (Files x)) v w) (sym wrong.2) (record {
+          failures = fared.failures;
+          quiet = λ fault. absurd (cc);
+          honest = fared.honest;
+          next = λ honest. dishonest honest;
+          spent = λ dead. or-true (is_spent v);
+          accepted = fared.accepted;
+        });
+        fares_rt = untouched disk e rt;
+        home = granted-home operator (told (request.Find dir name) wrong.0) v w wrong.3;
+        undamaged = λ alive honest is. dishonest honest;
+        sound_rt = λ sound whole. sound;
+        outcome = λ sound rt-sound whole. absurd (let lethal = subst (λ x. is_whole {T = ℕ} (Err (Files x)) ≡ true) wrong.2 whole in cc);
+      }
+
+  -- a volume that a copy was asked of, as it tells itself
+  undamaged-asked : (is_one : Asking → Bool) (who : Who) (result : Result ℕ FlxRefusal) (v w : Volume D met) → FaresFiles result v w → AsksOnly is_one who v w
+      → is_spent v ≡ false → IsTrue (state_in v).disk.honest → result ≢ Err (Files Damaged)
+  undamaged-asked is_one who result v w fares asked alive honest is =
+      let dead = fares.next honest ∙ ap (λ r. is_spent v || of_files is_fatal r) is ∙ or-true (is_spent v) in
+      let more = tried-breaks who asked.asked v w asked.tried honest alive dead in
+      let same = fares.failures ∙ ap (λ r. failures_of v + (if of_files is_fault r then 1 else 0)) is in
+      absurd (omega (arith, more, same))
+
+  module _ (c : Copying) (v w : Volume D met) (rt rt' : RtAccepted E met') where
+    d d' : Disk
+    d = disk (volume_device rt)
+    d' = disk (volume_device rt')
+
+    s s' : Store
+    s = store_of_volume v
+    s' = store_of_volume w
+
+    -- a copy to the RT-11 volume
+    abbrev pub OfSource : FileId → Result ℕ FlxRefusal → Store → Store → Disk → Disk → Type 0
+    OfSource source (Ok blocks) t t' e e' = CopiesToRt c.mode operator 0 source c.rt_name 0 blocks t t' (rt_store_of e.image) (rt_store_of e'.image)
+    OfSource source (Err refusal) t t' e e' =
+        FailsToCopyToRt refusal c.mode operator 0 source c.rt_name t t' e × HasSameFiles c.rt_name (rt_store_of e.image) (rt_store_of e'.image)
+
+    pub answers-to-rt : (source : FileId) (result : Result ℕ FlxRefusal) → ReadsFiles result operator v w → MakesRtFile disk result c.rt_name rt rt'
+        → IfOk result (λ blocks. WhereSound disk v rt (CopiesToRt c.mode operator 0 source c.rt_name 0 blocks s s' (rt_store_of d.image) (rt_store_of d'.image)))
+        → IfErr result (λ e. is_whole result ≡ true → WhereSound disk v rt (FailsToCopyToRt e c.mode operator 0 source c.rt_name s s' d))
+        → Answers disk result (OfSource source result) v w rt rt'
+    answers-to-rt source result files target copied refused = record {
+      fares = files.fares;
+      fares_rt = target.fares;
+      home = tried-home operator files.asked.asked v w files.asked.tried;
+      undamaged = undamaged-asked _ operator result v w files.fares files.asked;
+      sound_rt = target.sound;
+      outcome = by_result result target copied refused;
+    }
+      where
+        by_result : (r : Result ℕ FlxRefusal) → MakesRtFile disk r c.rt_name rt rt'
+            → IfOk r (λ blocks. WhereSound disk v rt (CopiesToRt c.mode operator 0 source c.rt_name 0 blocks s s' (rt_store_of d.image) (rt_store_of d'.image)))
+            → IfErr r (λ e. is_whole r ≡ true → WhereSound disk v rt (FailsToCopyToRt e c.mode operator 0 source c.rt_name s s' d))
+            → is_sound v ≡ true → IsSoundDisk d → is_whole r ≡ true → OfSource source r s s' d d'
+        by_result (Ok blocks) made yes no sound rt-sound whole = yes sound rt-sound
+        by_result (Err e) made yes no sound rt-sound whole = (no whole sound rt-sound, made.undone e refl rt-sound whole)
+
+    -- a copy from it
+    pub answers-from-rt : (dir : FileId) (result : Result ℕ FlxRefusal) → ReadsRt disk result rt rt' → MakesFile result operator v w
+        → IfOk result (λ blocks. WhereSound disk v rt (CopiesFromRt c.mode c.rt_name operator 0 dir c.name 0 blocks (rt_store_of d.image) s s'))
+        → IfErr result (λ e. is_whole result ≡ true → WhereSound disk v rt (FailsToCopyFromRt e c.mode c.rt_name operator 0 dir c.name 0 d s s'))
+        → Answers disk result (WithinDirectory FromRt c dir result) v w rt rt'
+    answers-from-rt dir result source files copied refused = record {
+      fares = files.fares;
+      fares_rt = source.fares;
+      home = tried-home operator files.asked.asked v w files.asked.tried;
+      undamaged = undamaged-asked _ operator result v w files.fares files.asked;
+      sound_rt = λ sound whole. record { honest = source.fares.honest ∙ sound.honest; accepted = subst (λ i. IsRtAccepted i) (sym source.image) sound.accepted };
+      outcome = λ sound rt-sound whole. (by_result result files copied refused sound rt-sound whole, same result);
+    }
+      where
+        same : (r : Result ℕ FlxRefusal) → KeepsRt FromRt c.rt_name r (rt_store_of d.image) (rt_store_of d'.image)
+        same r = ap (λ i. rt_store_of i) source.image
+
+        by_result : (r : Result ℕ FlxRefusal) → MakesFile r operator v w
+            → IfOk r (λ blocks. WhereSound disk v rt (CopiesFromRt c.mode c.rt_name operator 0 dir c.name 0 blocks (rt_store_of d.image) s s'))
+            → IfErr r (λ e. is_whole r ≡ true → WhereSound disk v rt (FailsToCopyFromRt e c.mode c.rt_name operator 0 dir c.name 0 d s s'))
+            → is_sound v ≡ true → IsSoundDisk d → is_whole r ≡ true → CopiesWithin FromRt c dir r s s' d d'
+        by_result (Ok blocks) made yes no sound rt-sound whole = yes sound rt-sound
+        by_result (Err e) made yes no sound rt-sound whole = record { refused = no whole sound rt-sound; undone = made.undone e refl sound whole }

@@ -1,0 +1,156 @@
+-- What a command that copies does to two images, and what it writes (profile).
+use Rattle.std.specs.Prelude.{◌≡◌, ◌≢◌, ◌⊎◌, ℕ, ◌+◌, ◌<◌, true, false, IsTrue, if◌then◌else◌, List, [], ◌∷◌, ◌++◌, Option, Some, None, Result, Ok, Err, codes}
+use Rattle.std.specs.Fmt.{decimal}
+use Rattle.std.specs.Io.KnownBytes.{Keeps}
+use Rattle.f11_dev.specs.Disk.{Disk}
+use Rattle.f11_fcp.specs.Accesses.{Table, held_in, no_entries}
+use Rattle.f11_files.specs.Answers.{is_fault as is_files_fault}
+use Rattle.f11_findings.specs.declared.finding.Finding.{Finding}
+use Rattle.f11_flx.specs.Copying.{is_whole, of_files, of_rt}
+use Rattle.f11_flx.specs.Refusal.{flx_refusal_name}
+use Rattle.f11_flx.specs.declared.refusal.FlxRefusal.{FlxRefusal}
+use Rattle.f11_flx.specs.declared.refusal.FlxRefusal.TheVariants.{Files, Rt, BadRecord, LineTooLong}
+use Rattle.f11_home.specs.Home.{HomeFields, IsHomeOf}
+use Rattle.f11_image_store.specs.StoreOf.{store_of}
+use Rattle.f11_store.specs.declared.refusals.Refusal.{Refusal}
+use Rattle.f11_store.specs.declared.refusals.Refusal.TheVariants as files_refusal
+use Rattle.f11_vfy.specs.Verify.{Examines}
+use Rattle.f11_volume.specs.Verdict.{IsAccepted}
+use Rattle.rt11_volume.specs.Calls.{Accepts, Rejects, most_transfers}
+use Rattle.rt11_volume.specs.Files.{is_fault as is_rt_fault}
+use Rattle.rt11_volume.specs.Verifying.Verdict.{IsRtAccepted}
+use Rattle.rt11_volume.specs.declared.refusal.RtRefusal.{RtRefusal}
+use Rattle.rt11_volume.specs.declared.refusal.RtRefusal.TheVariants as rt_refusal
+use Rattle.f11_commands.specs.Copying.{OutcomeIs}
+use Rattle.f11_commands.specs.Output.{Takes}
+use Rattle.f11_commands.specs.RtVolume.{FailsToPrintRt, PrintsFaulty}
+use Rattle.f11_commands.specs.RunCommand.{HasFaults, WritesNothing}
+use Rattle.f11_commands.specs.VfyCommand.{FailsToPrintReport, PrintsReport}
+use Rattle.f11_commands.specs.declared.copy.CopyAnswer.{CopyAnswer}
+use Rattle.f11_commands.specs.declared.copy.CopyAnswer.TheVariants.{Copied, Refused, Faulty}
+use Rattle.f11_commands.specs.declared.copy.Copying.{Copying}
+use Rattle.f11_commands.specs.declared.copy.Direction.{Direction}
+use Rattle.f11_commands.specs.declared.copy.Direction.TheVariants.{ToRt, FromRt}
+use Rattle.f11_commands.specs.declared.outcome.Failure.{Failure}
+use Rattle.f11_commands.specs.declared.outcome.Failure.TheVariants.{DeviceFault, NoMemory, CannotWrite}
+use Rattle.f11_commands.specs.declared.report.System.TheVariants.{Files11, Rt11}
+
+-- the line of a copy of so many blocks, and that of a refusal
+abbrev pub copied_line : ℕ → List ℕ
+copied_line blocks = codes "copied " ++ (decimal blocks ++ 10 ∷ [])
+
+abbrev pub refused_line : FlxRefusal → List ℕ
+refused_line e = codes "no " ++ (flx_refusal_name e ++ 10 ∷ [])
+
+-- as which failure a refusal is told that has no line
+abbrev pub failure_of_files : Refusal → Option Failure
+failure_of_files files_refusal.DeviceFault = Some DeviceFault
+failure_of_files files_refusal.NoMemory = Some NoMemory
+failure_of_files _ = None
+
+abbrev pub failure_of_rt : RtRefusal → Option Failure
+failure_of_rt rt_refusal.DeviceFault = Some DeviceFault
+failure_of_rt rt_refusal.NoMemory = Some NoMemory
+failure_of_rt _ = None
+
+abbrev pub failure_of_refusal : FlxRefusal → Option Failure
+failure_of_refusal (Files e) = failure_of_files e
+failure_of_refusal (Rt e) = failure_of_rt e
+failure_of_refusal BadRecord = None
+failure_of_refusal LineTooLong = None
+
+-- a refusal is told as this failure, and nothing is written; or, where it is none, by its line, which the writer takes or doesn't
+abbrev pub TellsRefusal : {W : Type 0} → FlxRefusal → Option Failure → Result CopyAnswer Failure → (W → Option (List ℕ)) → W → W → Type 0
+TellsRefusal e (Some failure) told contents before after = (told ≡ Err failure) × Keeps (contents before) (contents after)
+TellsRefusal e None told contents before after =
+    ((told ≡ Ok Refused) × Takes contents before after (refused_line e)) ⊎ (told ≡ Err CannotWrite)
+
+-- how the answer of a copy is told
+abbrev pub Tells : {W : Type 0} → Result ℕ FlxRefusal → Result CopyAnswer Failure → (W → Option (List ℕ)) → W → W → Type 0
+Tells (Ok blocks) told contents before after =
+    ((told ≡ Ok Copied) × Takes contents before after (copied_line blocks)) ⊎ (told ≡ Err CannotWrite)
+Tells (Err e) told contents before after = TellsRefusal e (failure_of_refusal e) told contents before after
+
+-- A copy was asked for between the volumes of two images, of which neither has a fault. Where the disks are honest it is what the answer says
+-- of the plain stores, from those of the images, in which nobody holds an access; a transfer failed exactly where a device fault is the
+-- answer; and the images have no fault then, that of the RT-11 volume unless a device fault was met.
+pub record CopiesImages (c : Copying) (result : Result ℕ FlxRefusal) (files files' rt rt' : Disk) : Type 0 where
+  pub home : HomeFields
+  pub held : Table
+  pub home_is : IsTrue files.honest → IsHomeOf files.image home
+  pub outcome : IsTrue files.honest → IsTrue rt.honest → is_whole result ≡ true →
+      OutcomeIs c result (held_in no_entries (store_of files.image home)) (held_in held (store_of files'.image home)) rt rt'
+  pub undamaged : IsTrue files.honest → result ≢ Err (Files files_refusal.Damaged)
+  pub failures : files'.failures ≡ files.failures + (if of_files is_files_fault result then 1 else 0)
+  pub rt_failures : rt'.failures ≡ rt.failures + (if of_rt is_rt_fault result then 1 else 0)
+  pub accepted : IsTrue files.honest → IsAccepted files'.image
+  pub rt_accepted : IsTrue rt.honest → is_whole result ≡ true → IsRtAccepted rt'.image
+
+-- The copy was asked for, and its answer told.
+pub record AnswersCopy {W : Type 0} (c : Copying) (told : Result CopyAnswer Failure) (files files' rt rt' : Disk)
+    (contents : W → Option (List ℕ)) (before after : W) : Type 0 where
+  pub result : Result ℕ FlxRefusal
+  pub copies : CopiesImages c result files files' rt rt'
+  pub tells : Tells result told contents before after
+
+-- An image was verified and has no fault: of a Files-11 volume, and of an RT-11 one.
+abbrev pub VerifiesFiles : Disk → Disk → Type 0
+VerifiesFiles old new = (notes : List Finding) × Examines [] notes old new
+
+abbrev pub VerifiesRt : Disk → Disk → Type 0
+VerifiesRt old new = (notes : List Finding) × Accepts notes old new
+
+-- how a command ends whose Files-11 volume isn't accepted: its report was written, or that it has none, or the report couldn't be written
+abbrev pub EndsFiles : {W : Type 0} → Result CopyAnswer Failure → Disk → Disk → (W → Option (List ℕ)) → W → W → Type 0
+EndsFiles (Ok (Faulty Files11)) old new contents before after = PrintsReport false old new contents before after
+EndsFiles (Ok (Faulty Rt11)) old new contents before after = ⊥
+EndsFiles (Ok Copied) old new contents before after = ⊥
+EndsFiles (Ok Refused) old new contents before after = ⊥
+EndsFiles (Err CannotWrite) old new contents before after = HasFaults old new
+EndsFiles (Err DeviceFault) old new contents before after = FailsToPrintReport DeviceFault old new contents before after
+EndsFiles (Err NoMemory) old new contents before after = FailsToPrintReport NoMemory old new contents before after
+
+-- and one whose RT-11 volume isn't
+abbrev pub EndsRt : {W : Type 0} → Result CopyAnswer Failure → Disk → Disk → (W → Option (List ℕ)) → W → W → Type 0
+EndsRt (Ok (Faulty Files11)) old new contents before after = ⊥
+EndsRt (Ok (Faulty Rt11)) old new contents before after = PrintsFaulty old new contents before after
+EndsRt (Ok Copied) old new contents before after = ⊥
+EndsRt (Ok Refused) old new contents before after = ⊥
+EndsRt (Err CannotWrite) old new contents before after = (faults : List Finding) × (notes : List Finding) × Rejects faults notes old new
+EndsRt (Err DeviceFault) old new contents before after = FailsToPrintRt most_transfers DeviceFault old new contents before after
+EndsRt (Err NoMemory) old new contents before after = FailsToPrintRt most_transfers NoMemory old new contents before after
+
+-- The Files-11 volume couldn't be mounted: a transfer failed, or there was no memory. Nothing was written.
+abbrev pub FailsToMount : {W : Type 0} → Result CopyAnswer Failure → Disk → Disk → (W → Option (List ℕ)) → W → W → Type 0
+FailsToMount (Ok answer) old new contents before after = ⊥
+FailsToMount (Err CannotWrite) old new contents before after = ⊥
+FailsToMount (Err DeviceFault) old new contents before after =
+    WritesNothing old new contents before after × (IsTrue old.honest → old.failures < new.failures)
+FailsToMount (Err NoMemory) old new contents before after =
+    WritesNothing old new contents before after × (new.failures ≡ old.failures)
+
+-- how a command ends between two accepted volumes: the copy was asked for, or the Files-11 volume couldn't be mounted
+abbrev pub EndsBetween : {W : Type 0} → Copying → Result CopyAnswer Failure → Disk → Disk → Disk → Disk → (W → Option (List ℕ)) → W → W → Type 0
+EndsBetween c told files files' rt rt' contents before after =
+    (AnswersCopy c told files files' rt rt' contents before after) ⊎ ((FailsToMount told files files' contents before after) × (rt' ≡ rt))
+
+-- Both images were verified, none has a fault, and then it ended so.
+pub record GoesOn {W : Type 0} (c : Copying) (told : Result CopyAnswer Failure) (files files' rt rt' : Disk)
+    (contents : W → Option (List ℕ)) (before after : W) : Type 0 where
+  pub files_read : Disk
+  pub rt_read : Disk
+  pub files_verified : VerifiesFiles files files_read
+  pub rt_verified : VerifiesRt rt rt_read
+  pub ends : EndsBetween c told files_read files' rt_read rt' contents before after
+
+-- the volume that is copied from is verified first
+abbrev pub EndsVerifying : {W : Type 0} → Direction → Result CopyAnswer Failure → Disk → Disk → Disk → Disk → (W → Option (List ℕ)) → W → W → Type 0
+EndsVerifying ToRt told files files' rt rt' contents before after =
+    (EndsFiles told files files' contents before after × (rt' ≡ rt)) ⊎ (VerifiesFiles files files' × EndsRt told rt rt' contents before after)
+EndsVerifying FromRt told files files' rt rt' contents before after =
+    (EndsRt told rt rt' contents before after × (files' ≡ files)) ⊎ (VerifiesRt rt rt' × EndsFiles told files files' contents before after)
+
+-- how a command that copies ends: with the first volume that isn't accepted, or behind both
+abbrev pub EndsCopy : {W : Type 0} → Direction → Copying → Result CopyAnswer Failure → Disk → Disk → Disk → Disk → (W → Option (List ℕ)) → W → W → Type 0
+EndsCopy direction c told files files' rt rt' contents before after =
+    (EndsVerifying direction told files files' rt rt' contents before after) ⊎ (GoesOn c told files files' rt rt' contents before after)

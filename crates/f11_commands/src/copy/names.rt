@@ -1,0 +1,40 @@
+//! The names of a copy.
+ghost use Rattle.std.specs.Prelude.{◌≡◌, ◌*◌, List, ℕ, Some, IfOk, IfErr, IfSome};
+ghost use Rattle.f11_commands.specs.Name.{bad_name_line};
+ghost use Rattle.f11_commands.specs.Output.{Takes};
+ghost use Rattle.f11_rad50.specs.Name.{Spells};
+ghost use Rattle.rt11_volume.specs.RtName.{RtSpells};
+
+use crate::outcome::{Answer, Failure};
+use f11_rad50::Name;
+use rt11_volume::RtName;
+use std::io::Write;
+
+/// The names that two texts spell, of a file on a Files-11 volume and of one on an RT-11 volume; nothing where one of them spells none.
+pub fn read_names(name: &str, rt_name: &str) -> Option<(Name, RtName)>
+    ensures names { IfSome result (λ names. Spells name.now names.0 × RtSpells rt_name.now names.1) }
+    ensures every { (words rt_words : List ℕ) → Spells name.now words → RtSpells rt_name.now rt_words
+        → result ≡ Some (words, rt_words) }
+{
+    match (
+        Name::parse(name.as_bytes()),
+        RtName::parse(rt_name.as_bytes()),
+    ) {
+        (Ok(name), Ok(rt_name)) => Some((name, rt_name)),
+        _ => None,
+    }
+}
+
+/// Writes the line `bad name`, and answers [`Answer::Fault`].
+///
+/// # Errors
+///
+/// [`Failure::CannotWrite`] where the writer takes no more.
+pub fn refuse_names<W: Write>(writer: &mut W) -> Result<Answer, Failure>
+    ensures refused { IfOk result (λ answer. (answer ≡ Answer.Fault)
+        × Takes W.contents writer.old writer.new bad_name_line) }
+    ensures failures { IfErr result (λ failure. failure ≡ Failure.CannotWrite) }
+{
+    writeln!(writer, "bad name")?;
+    Ok(Answer::Fault)
+}
