@@ -1,0 +1,9 @@
+//! Tests of copies between a Files-11 volume and an RT-11 volume whose transfers fail, each in turn.
+#![tactic(auto)]
+
+#[cfg(test)]
+mod from_rt;
+#[cfg(test)]
+mod to_rt;
+#[cfg(test)]
+mod volumes;
