@@ -52,7 +52,8 @@ module _ (bitmap : Bitmap) (index : ℕ) (wanted block : List ℕ) (old : Image)
         | inr apart ↦ bit-apart k below apart
       ];
       others = λ i below apart changes.
-          changes (slice_get-set_other old (get_or bitmap.places index 0) (get_or bitmap.places i 0) new (λ same. apart (valid.apart i index below within (sym same))));
+          changes (slice_get-set_other old (get_or bitmap.places index 0) (get_or bitmap.places i 0) new
+          (λ same. apart (valid.apart i index below within (sym same))));
     }
 
     -- by another than was there

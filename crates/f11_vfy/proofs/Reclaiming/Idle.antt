@@ -90,7 +90,12 @@ module _ (index : Index) (r : Reading) (k : ℕ) (mid : Index) (old now : Disk) 
     same = so_far.same;
     clears = λ honest home swept.
         let here = so honest home swept in
-        record { places = here.places; index_is = here.index_is; storage = here.storage; table = cleared-other k (t honest home swept) (u honest home swept) here.table (none_here home honest swept) };
+        record {
+          places = here.places;
+          index_is = here.index_is;
+          storage = here.storage;
+          table = cleared-other k (t honest home swept) (u honest home swept) here.table (none_here home honest swept);
+        };
     count = so_far.count;
     counts = λ honest home swept. other k so_far.count (so_far.counts honest home swept) (none_here home honest swept);
     went = so_far.went;
@@ -146,12 +151,15 @@ module _ (index : Index) (r : Reading) (k : ℕ) (mid : Index) (old now : Disk) 
             let count = ap slots here.index_is in
             record {
               place = 2 + bitmap_place (k + 1);
-              at = block-at now.image home sound.framed.indexed.file false (k + 1) after (index-apart now.image home sound) (omega arith) (omega (arith, few, count)) bit-of;
+              at = block-at now.image home sound.framed.indexed.file false (k + 1) after (index-apart now.image home sound) (omega arith)
+                  (omega (arith, few, count)) bit-of;
               not_home = λ at. omega (arith, at);
             }
 
         storage : KeepsBitmap (storage_bitmap now.image home) now.image cleared
-        storage = storage-write now.image home (after.bitmap_lbn + bitmap_place (k + 1)) (bitmap_block after (k + 1)) here.places.reclaiming.freeing.sound placed
+        storage =
+            storage-write now.image home (after.bitmap_lbn + bitmap_place (k + 1)) (bitmap_block after (k + 1))
+            here.places.reclaiming.freeing.sound placed
 
         reclaiming : IsReclaiming home now.image cleared
         reclaiming = record {

@@ -67,7 +67,8 @@ space-none bitmap named unreferenced disk = record {
 }
 
 module _ (bitmap : Bitmap) (named unreferenced : Bits) (i : ℕ) (wanted : List ℕ) (old now : Disk) (so_far : FreesUnnamed bitmap named unreferenced i old now)
-    (wanted_is : (k : ℕ) → k < 4096 → 4096 * i + k < bitmap.size → bit wanted k ≡ may_be_free named unreferenced (4096 * i + k)) (few : i < length bitmap.places) where
+    (wanted_is : (k : ℕ) → k < 4096 → 4096 * i + k < bitmap.size → bit wanted k ≡ may_be_free named unreferenced (4096 * i + k))
+    (few : i < length bitmap.places) where
   module _ (honest : IsTrue old.honest) (home : HomeFields) (told : IsTold bitmap named unreferenced home old.image) where
     abbrev t : Table
     t = table_of old.image home
@@ -144,20 +145,23 @@ module _ (bitmap : Bitmap) (named unreferenced : Bits) (i : ℕ) (wanted : List 
           | inr apart ↦ is.elsewhere lbn apart ∙ so.free lbn (omega (arith, below, apart)) inside unnamed
         ];
         rest = λ m high within.
-            unchanged-then bitmap (m - 1) old.image now.image image (so.rest m (omega (arith, high)) within) (is.others (m - 1) (omega (arith, high, within)) (λ same. omega (arith, same, high)));
+            unchanged-then bitmap (m - 1) old.image now.image image (so.rest m (omega (arith, high)) within)
+            (is.others (m - 1) (omega (arith, high, within)) (λ same. omega (arith, same, high)));
       }
 
   abbrev P : Image → Type 0
   P = Moment (IsTold bitmap named unreferenced) old
 
-  went-on : (new : Disk) (most faults : ℕ) → Went (Replacing now.honest bitmap i wanted now.image) now new most faults → Went P old new (i + so_far.count + most) faults
+  went-on : (new : Disk) (most faults : ℕ) → Went (Replacing now.honest bitmap i wanted now.image) now new most faults
+      → Went P old new (i + so_far.count + most) faults
   went-on new most faults went =
       went_more P so_far.went
-      (went_weaker (Replacing now.honest bitmap i wanted now.image) P (λ image has honest home told. stands honest home told image (has.replaces (so_far.went.honest ∙ honest))) went)
+      (went_weaker (Replacing now.honest bitmap i wanted now.image) P
+      (λ image has honest home told. stands honest home told image (has.replaces (so_far.went.honest ∙ honest))) went)
 
   -- how many were other than they were before this one
-  counts-before : (image : Image) → ((j : ℕ) → j < i → ¬ BitmapBlockChanges bitmap j now.image image) → IsTrue old.honest → (home : HomeFields) → IsTold bitmap named unreferenced home old.image
-      → Counts (IsChangedBlock bitmap old.image image) i so_far.count
+  counts-before : (image : Image) → ((j : ℕ) → j < i → ¬ BitmapBlockChanges bitmap j now.image image) → IsTrue old.honest → (home : HomeFields)
+      → IsTold bitmap named unreferenced home old.image → Counts (IsChangedBlock bitmap old.image image) i so_far.count
   counts-before image stay honest home told = counts-on bitmap old.image now.image image i so_far.count stay (so_far.counts honest home told)
 
   -- this one is as it was until then
@@ -175,8 +179,9 @@ module _ (bitmap : Bitmap) (named unreferenced : Bits) (i : ℕ) (wanted : List 
       counts = λ honest home told.
           other i so_far.count (counts-before new.image (others-stay new.image (did.replaces (so_far.went.honest ∙ honest))) honest home told)
           (λ changed.
-              unchanged-then bitmap i old.image now.image new.image (still honest home told)
-              (λ changes. changes (ap (λ (image : Image). slice_get image (get_or bitmap.places i 0)) looked.image)) (changed-block bitmap old.image new.image i changed));
+          unchanged-then bitmap i old.image now.image new.image (still honest home told)
+          (λ changes. changes (ap (λ (image : Image). slice_get image (get_or bitmap.places i 0)) looked.image))
+          (changed-block bitmap old.image new.image i changed));
       went = went_within P (went_more P so_far.went (went_looked P looked)) (omega arith);
     }
     | written went changes ↦ record {

@@ -26,8 +26,9 @@ module _ (index : Index) (bitmap : Bitmap) (r : Reading) (before : Bits) (d0 : D
   abbrev P : Image → Type 0
   P = Moment K d0
 
-  costs : (home : HomeFields) → K home d0.image → (new : Image) (n orphans m idle blocks changed faults most : ℕ) → Counts (IsOrphan (table_of d0.image home)) n orphans → n ≤ slots index
-      → Counts (IsIdle (table_of d0.image home)) m idle → m ≤ slots index → Counts (IsChangedBlock bitmap d0.image new) blocks changed → blocks ≤ length bitmap.places
+  costs : (home : HomeFields) → K home d0.image → (new : Image) (n orphans m idle blocks changed faults most : ℕ)
+      → Counts (IsOrphan (table_of d0.image home)) n orphans → n ≤ slots index → Counts (IsIdle (table_of d0.image home)) m idle → m ≤ slots index
+      → Counts (IsChangedBlock bitmap d0.image new) blocks changed → blocks ≤ length bitmap.places
       → most ≤ 2 * orphans + idle + length bitmap.places + changed + faults → Costs home d0.image new 0 faults most
   costs home is new n orphans m idle blocks changed faults most orphans_are low idle_are high changed_are within few =
       let count = slot-count index bitmap r home d0.image is in
@@ -53,8 +54,8 @@ module _ (index : Index) (bitmap : Bitmap) (r : Reading) (before : Bits) (d0 : D
   fails-first d1 fails = record {
     most = 2 * fails.count;
     few = λ honest home is.
-        costs home is d1.image fails.upto fails.count 0 0 0 0 1 (2 * fails.count) (fails.counts honest home (shown-so index bitmap r home d0.image is)) fails.within none (omega arith) none
-        (omega arith) (omega arith);
+        costs home is d1.image fails.upto fails.count 0 0 0 0 1 (2 * fails.count)
+        (fails.counts honest home (shown-so index bitmap r home d0.image is)) fails.within none (omega arith) none (omega arith) (omega arith);
     went = went_weaker (Moment (IsShown index r) d0) P (λ image stands honest home is. stands honest home (shown-so index bitmap r home d0.image is)) fails.went;
   }
 
@@ -91,7 +92,8 @@ module _ (index : Index) (bitmap : Bitmap) (r : Reading) (before : Bits) (d0 : D
       most = 2 * one.count + fails.count;
       few = λ honest home is.
           costs home is d2.image (slots index) one.count fails.upto fails.count 0 0 1 (2 * one.count + fails.count) (orphan-count home honest is) (omega arith)
-          (idle-count home honest is fails.upto fails.count (fails.counts (still-one honest) home (swept home honest is))) fails.within none (omega arith) (omega arith);
+          (idle-count home honest is fails.upto fails.count (fails.counts (still-one honest) home (swept home honest is))) fails.within
+          none (omega arith) (omega arith);
       went = went_more P went-one (went_weaker (Moment (IsSwept index r) d1) P stands-two fails.went);
     }
 
@@ -120,15 +122,17 @@ module _ (index : Index) (bitmap : Bitmap) (r : Reading) (before : Bits) (d0 : D
 
       -- some of them were then
       goes : (d3 : Disk) (faults blocks changed most : ℕ) → Went (Moment (IsTold bitmap r.survey.tally.once unreferenced) d2) d2 d3 most faults
-          → ((home : HomeFields) → IsTrue d2.honest → IsTold bitmap r.survey.tally.once unreferenced home d2.image → Counts (IsChangedBlock bitmap d2.image d3.image) blocks changed)
+          → ((home : HomeFields) → IsTrue d2.honest → IsTold bitmap r.survey.tally.once unreferenced home d2.image
+          → Counts (IsChangedBlock bitmap d2.image d3.image) blocks changed)
           → blocks ≤ length bitmap.places → most ≤ length bitmap.places + changed + faults → GoesOn K (λ home. 0) d0 d3 faults
       goes d3 faults blocks changed most went counts within few = record {
         most = 2 * one.count + two.count + most;
         few = λ honest home is.
-            costs home is d3.image (slots index) one.count (slots index) two.count blocks changed faults (2 * one.count + two.count + most) (orphan-count home honest is) (omega arith)
+            costs home is d3.image (slots index) one.count (slots index) two.count blocks changed faults (2 * one.count + two.count + most)
+            (orphan-count home honest is) (omega arith)
             (idle-count home honest is (slots index) two.count (two.counts (still-one honest) home (swept home honest is))) (omega arith)
-            (counts-since bitmap d0.image d2.image d3.image blocks changed within (storage-two home honest is) (counts home (still-two honest) (told home honest is))) within
-            (omega (arith, few));
+            (counts-since bitmap d0.image d2.image d3.image blocks changed within (storage-two home honest is)
+            (counts home (still-two honest) (told home honest is))) within (omega (arith, few));
         went = went_more P (went_more P went-one (went_weaker (Moment (IsSwept index r) d1) P stands-two two.went))
             (went_weaker (Moment (IsTold bitmap r.survey.tally.once unreferenced) d2) P stands-three went);
       }
@@ -136,7 +140,8 @@ module _ (index : Index) (bitmap : Bitmap) (r : Reading) (before : Bits) (d0 : D
       -- they did; not all blocks became free
       pub fails-third : (d3 : Disk) → FailsToFree bitmap r.survey.tally.once unreferenced d2 d3 → GoesOn K (λ home. 0) d0 d3 1
       fails-third d3 fails =
-          goes d3 1 fails.upto fails.count (fails.upto + fails.count + 2) fails.went (λ home honest is. fails.counts honest home is) (omega (arith, fails.within)) (omega (arith, fails.within))
+          goes d3 1 fails.upto fails.count (fails.upto + fails.count + 2) fails.went (λ home honest is. fails.counts honest home is)
+          (omega (arith, fails.within)) (omega (arith, fails.within))
 
       -- they did
       pub gives-back : (d3 : Disk) → bitmap.size ≤ 4096 * length bitmap.places → FreesUnnamed bitmap r.survey.tally.once unreferenced (length bitmap.places) d2 d3
@@ -145,5 +150,6 @@ module _ (index : Index) (bitmap : Bitmap) (r : Reading) (before : Bits) (d0 : D
         reclaimed = λ honest home is.
             reclaimed-so index bitmap r home d0.image is before unreferenced d1.image (so-one home honest is) after d2.image (so-two home honest is) d3.image covered
             (three.frees (still-two honest) home (told home honest is));
-        goes = goes d3 0 (length bitmap.places) three.count (length bitmap.places + three.count) three.went (λ home honest is. three.counts honest home is) (omega arith) (omega arith);
+        goes = goes d3 0 (length bitmap.places) three.count (length bitmap.places + three.count) three.went
+            (λ home honest is. three.counts honest home is) (omega arith) (omega arith);
       }
