@@ -19,7 +19,7 @@ pub KeepsBitmap-write : (bitmap : Bitmap) (image : Image) (lbn : ℕ) (block : L
 KeepsBitmap-write bitmap image lbn block apart i within = slice_get-set_other image lbn (get_or bitmap.places i 0) block (λ same. apart i within (sym same))
 
 -- a bit whose bitmap block stays
-bitmap_bit-same : (bitmap : Bitmap) (old new : Image) (k : ℕ) → slice_get new (get_or bitmap.places (k / 4096) 0) ≡ slice_get old (get_or bitmap.places (k / 4096) 0) → bitmap_bit new bitmap k ≡ bitmap_bit old bitmap k
+pub bitmap_bit-same : (bitmap : Bitmap) (old new : Image) (k : ℕ) → slice_get new (get_or bitmap.places (k / 4096) 0) ≡ slice_get old (get_or bitmap.places (k / 4096) 0) → bitmap_bit new bitmap k ≡ bitmap_bit old bitmap k
 unfolding bitmap_bit
 bitmap_bit-same bitmap old new k same =
     let place = get_or bitmap.places (k / 4096) 0 in

@@ -1,5 +1,5 @@
 //! A bitmap block in which the free blocks are told anew.
-ghost use Rattle.std.specs.Prelude.{◌≡◌, ℕ, ◌*◌, ◌<◌, ◌≤◌, ◌≢◌, false, length, IsTrue, OnOk, OnErr};
+ghost use Rattle.std.specs.Prelude.{◌≡◌, ℕ, ◌*◌, ◌<◌, ◌≤◌, ◌≢◌, false, true, length, IsTrue, OnOk, OnErr};
 ghost use Rattle.f11_bits.specs.Bitmap.{IsBitmap, LiesWithin};
 ghost use Rattle.f11_bits.specs.Replacing.{ReplacesOnDisk, FailsToReplace};
 ghost use Rattle.f11_bytes.specs.Bits.{bit};
@@ -49,6 +49,7 @@ fn copy_bits(block: &mut Block, wanted: &Block, end: u32) -> bool
     ensures copied { (k : ℕ) → k < end → bit block.new k ≡ bit wanted.now k }
     ensures past { (k : ℕ) → end ≤ k → bit block.new k ≡ bit block.old k }
     ensures same { result ≡ false → block.new ≡ block.old }
+    ensures changed { result ≡ true → block.new ≢ block.old }
 {
     let mut changed = false;
     for k in 0..end {
@@ -65,6 +66,7 @@ fn copy_bit(block: &mut Block, wanted: &Block, k: u32) -> bool
     ensures copied { bit block.new k ≡ bit wanted.now k }
     ensures others { (j : ℕ) → j ≢ k → bit block.new j ≡ bit block.old j }
     ensures same { result ≡ false → block.new ≡ block.old }
+    ensures changed { result ≡ true → bit block.new k ≢ bit block.old k }
 {
     let value = is_set(wanted, k);
     if is_set(block, k) == value {

@@ -4,6 +4,7 @@ pub mod Told
 pub mod Kill
 pub mod Files
 pub mod Dead
+pub mod Storage
 pub mod Places
 pub mod Orphans
 pub mod Idle

@@ -37,6 +37,10 @@ module _ (L : HomeFields → Image → Type 0) (reads : HomeFields → ℕ) (n :
           idle = 0;
           idle_are = none;
           idle_within = omega arith;
+          bitmap_blocks = 0;
+          changed = 0;
+          changed_are = none;
+          changed_within = omega arith;
           few = omega (arith, enough);
         };
     went = went_looked (Moment L d0) looked;
@@ -52,11 +56,12 @@ module _ (K L : HomeFields → Image → Type 0) (less reads : HomeFields → �
   still honest = looked.honest ∙ honest
 
   pub goes-behind : {faults : ℕ} → GoesOn K less d1 d2 faults → GoesOn L reads d0 d2 faults
-  goes-behind goes = record {
+  goes-behind {faults} goes = record {
     most = n + goes.most;
     few = λ honest home is.
         let enough = few honest home is in
-        let costs : Costs home d0.image (less home) goes.most = subst (λ (i : Image). Costs home i (less home) goes.most) looked.image (goes.few (still honest) home (known honest home is)) in
+        let costs : Costs home d0.image d2.image (less home) faults goes.most =
+        subst (λ (i : Image). Costs home i d2.image (less home) faults goes.most) looked.image (goes.few (still honest) home (known honest home is)) in
         record {
           orphan_slots = costs.orphan_slots;
           orphans = costs.orphans;
@@ -66,6 +71,10 @@ module _ (K L : HomeFields → Image → Type 0) (less reads : HomeFields → �
           idle = costs.idle;
           idle_are = costs.idle_are;
           idle_within = costs.idle_within;
+          bitmap_blocks = costs.bitmap_blocks;
+          changed = costs.changed;
+          changed_are = costs.changed_are;
+          changed_within = costs.changed_within;
           few = omega (arith, enough, costs.few);
         };
     went = went_more (Moment L d0) (went_looked (Moment L d0) looked)

@@ -3,6 +3,7 @@ use Rattle.std.proofs.Common.{◌≡◌, ◌+◌, ◌*◌, ◌<◌, ◌≤◌, �
 use Rattle.std.proofs.lemmas.Bool.{both_ways, cases_eq}
 use Rattle.std.proofs.lemmas.List.{length-set}
 use Rattle.std.specs.Prelude.{All}
+use Rattle.f11_bits.specs.Bitmap.{KeepsBitmap}
 use Rattle.f11_dev.specs.Disk.{Disk}
 use Rattle.f11_dev.specs.Image.{Image}
 use Rattle.f11_dev.specs.Went.{Went}
@@ -16,6 +17,7 @@ use Rattle.f11_index.specs.IndexFile.{Index, index_of, slots, is_in_use}
 use Rattle.f11_index.specs.Kept.{IndexLiesWithin}
 use Rattle.f11_index.specs.Table.{Table, table_in, table_of, IsDeadSlot}
 use Rattle.f11_index.proofs.BitLemmas.{SetsBit-in_use}
+use Rattle.f11_index.proofs.LawLemmas.{at as block-at}
 use Rattle.f11_image_store.proofs.ConfinesLemmas.{spares-other}
 use Rattle.f11_image_store.proofs.FreeingLemmas.{dead-freed, bit-wrote}
 use Rattle.f11_vfy.specs.Reclaiming.Moments.{any_header, IsReclaiming, KeepsPlaces, Moment}
@@ -25,9 +27,12 @@ use Rattle.f11_vfy.specs.Surveying.Bits.{has}
 use Rattle.f11_vfy.specs.declared.findings.reading.Reading.{Reading}
 use Rattle.f11_vfy.proofs.Reclaiming.Files.{cleared-keeps, next-used, cleared-other, cleared-more}
 use Rattle.f11_vfy.proofs.Reclaiming.Places.{places-none, places-then, reclaiming-then}
+use Rattle.f11_vfy.proofs.Reclaiming.Storage.{storage-then, storage-write, past-kept}
 use Rattle.f11_volume.specs.Space.{storage_bitmap}
 use Rattle.f11_volume.specs.Volume.{volume_of}
+use Rattle.f11_volume.proofs.FileLemmas.{index-apart}
 use Rattle.f11_writes.specs.Kept.{WritesSlotBit}
+use Rattle.f11_writes.proofs.SlotLemmas.{IsPlacedAt}
 
 -- what lies on a device does so at the same places
 pub same-within : (index after : Index) (blocks : ℕ) → SamePlaces index after → IndexLiesWithin index blocks → IndexLiesWithin after blocks
@@ -48,6 +53,7 @@ pub idle-none : (index : Index) (r : Reading) (disk : Disk) → ClearsIdle index
 idle-none index r disk = record {
   same = record { headers = refl; bitmap_lbn = refl; blocks = refl };
   clears = λ honest home swept. record {
+    storage = λ i within. refl;
     places = places-none home disk.image swept.sound;
     index_is = swept.index_is;
     table = record {
@@ -84,7 +90,12 @@ module _ (index : Index) (r : Reading) (k : ℕ) (mid : Index) (old now : Disk) 
     same = so_far.same;
     clears = λ honest home swept.
         let here = so honest home swept in
-        record { places = here.places; index_is = here.index_is; table = cleared-other k (t honest home swept) (u honest home swept) here.table (none_here home honest swept) };
+        record {
+          places = here.places;
+          index_is = here.index_is;
+          storage = here.storage;
+          table = cleared-other k (t honest home swept) (u honest home swept) here.table (none_here home honest swept);
+        };
     count = so_far.count;
     counts = λ honest home swept. other k so_far.count (so_far.counts honest home swept) (none_here home honest swept);
     went = so_far.went;
@@ -133,6 +144,23 @@ module _ (index : Index) (r : Reading) (k : ℕ) (mid : Index) (old now : Disk) 
         same : SamePlaces (index_of now.image home) after
         same = bit-places (k + 1) (index_of now.image home) after bit-of
 
+        -- the block of its bit is one of the index file
+        placed : IsPlacedAt now.image home (after.bitmap_lbn + bitmap_place (k + 1))
+        placed =
+            let sound = here.places.reclaiming.freeing.sound in
+            let count = ap slots here.index_is in
+            record {
+              place = 2 + bitmap_place (k + 1);
+              at = block-at now.image home sound.framed.indexed.file false (k + 1) after (index-apart now.image home sound) (omega arith)
+                  (omega (arith, few, count)) bit-of;
+              not_home = λ at. omega (arith, at);
+            }
+
+        storage : KeepsBitmap (storage_bitmap now.image home) now.image cleared
+        storage =
+            storage-write now.image home (after.bitmap_lbn + bitmap_place (k + 1)) (bitmap_block after (k + 1))
+            here.places.reclaiming.freeing.sound placed
+
         reclaiming : IsReclaiming home now.image cleared
         reclaiming = record {
           freeing = dead-freed now.image home (k + 1) here.places.reclaiming.freeing.sound after dead bit-of;
@@ -145,6 +173,7 @@ module _ (index : Index) (r : Reading) (k : ℕ) (mid : Index) (old now : Disk) 
             | inl it ↦ subst IsDead (ap (λ (v : Table). v.header (k + 1)) (sym writes.index_file.table) ∙ ap (table_of cleared home).header (sym it)) dead.dead
             | inr apart ↦ absurd (both_ways _ gone (writes.slot.others.in_use m apart ∙ before))
           ];
+          past = past-kept (storage_bitmap now.image home) now.image cleared storage;
         }
 
         places : KeepsPlaces home now.image cleared
@@ -166,6 +195,7 @@ module _ (index : Index) (r : Reading) (k : ℕ) (mid : Index) (old now : Disk) 
         more = record {
           places = places-then home old.image now.image cleared here.places places;
           index_is = sym writes.index_file.index_is;
+          storage = storage-then old.image now.image cleared home here.places.bitmap here.storage storage;
           table =
               let is = writes.index_file.table in
               cleared-more k (t honest home swept) (u honest home swept) here.table (table_of cleared home) (ap (λ (v : Table). v.slots) is) (ap (λ (v : Table). v.header) is)

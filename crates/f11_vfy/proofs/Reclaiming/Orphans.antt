@@ -2,6 +2,7 @@
 use Rattle.std.proofs.Common.{◌≡◌, ◌+◌, ◌*◌, ◌≤◌, ℕ, Bool, IsTrue, [], List, inl, inr, set, refl, sym, ap, subst, ◌∙◌, arith}
 use Rattle.std.specs.Prelude.{Contains}
 use Rattle.std.proofs.lemmas.Bool.{both_ways, cases_eq}
+use Rattle.f11_bits.specs.Bitmap.{KeepsBitmap}
 use Rattle.f11_dev.specs.Disk.{Disk}
 use Rattle.f11_dev.specs.Image.{Image}
 use Rattle.f11_dev.specs.Went.{Went}
@@ -30,10 +31,12 @@ use Rattle.f11_vfy.specs.declared.survey.bits.Bits.{Bits}
 use Rattle.f11_vfy.proofs.Frames.Earlier.{puts-none, puts-then, puts-same}
 use Rattle.f11_vfy.proofs.Reclaiming.Files.{killed-keeps, next-same, next-live, killed-other, killed-more, in-old}
 use Rattle.f11_vfy.proofs.Reclaiming.Places.{places-none, places-then, places-same, reclaiming-then}
+use Rattle.f11_vfy.proofs.Reclaiming.Storage.{storage-then, storage-write, past-kept}
 use Rattle.f11_vfy.proofs.Scanning.Reading.{table-slots}
 use Rattle.f11_volume.specs.Space.{storage_bitmap}
 use Rattle.f11_volume.specs.Volume.{Volume, volume_of}
 use Rattle.f11_writes.specs.Kept.{WritesHeader}
+use Rattle.f11_writes.proofs.SlotLemmas.{header-placed-at}
 
 -- what a reading tells of each volume that it is of
 shown-is : (P : Table → Type 0) (index : Index) (r : Reading) (home : HomeFields) (image : Image) → IsShown index r home image → ((v : Volume) → ShowsVolume v r → P v.table)
@@ -48,6 +51,7 @@ fit-is index r home image shown = shown-is IsFit index r home image shown (λ v 
 pub orphans-none : (index : Index) (r : Reading) (unreferenced : Bits) (disk : Disk) → KillsOrphans index r 0 unreferenced unreferenced disk disk
 orphans-none index r unreferenced disk = record {
   kills = λ honest home shown. record {
+    storage = λ i within. refl;
     places = places-none home disk.image shown.sound;
     index = refl;
     table = record {
@@ -74,6 +78,7 @@ module _ (index : Index) (r : Reading) (k : ℕ) (before mid : Bits) (old now : 
         record {
           places = so.places;
           index = so.index;
+          storage = so.storage;
           table = killed-other k t (table_of now.image home) (fit-is index r home old.image shown) so.table here;
           puts = puts-same (IsOfOrphan t k) (IsOfOrphan t (k + 1)) before mid so.puts
               (λ lbn of. record { header = of.header; within = omega (arith, of.within); orphan = of.orphan; names = of.names })
@@ -141,6 +146,13 @@ module _ (index : Index) (r : Reading) (k : ℕ) (before mid : Bits) (old now : 
         writes : WritesHeader (k + 1) block home now.image killed
         writes = wrote now.image home (k + 1) so.places.reclaiming.freeing.sound block live fileless dead (dead-sequence (u.header (k + 1)))
 
+        storage : KeepsBitmap (storage_bitmap now.image home) now.image killed
+        storage =
+            let sound = so.places.reclaiming.freeing.sound in
+            let few_now = ap slots index-is in
+            storage-write now.image home (header_lbn (index_of now.image home) (k + 1)) block sound
+            (header-placed-at now.image home (k + 1) sound.framed.indexed.file (omega arith) (omega (arith, low, few_now)))
+
         reclaiming : IsReclaiming home now.image killed
         reclaiming = record {
           freeing = orphan-killed now.image home (k + 1) so.places.reclaiming.freeing.sound block live fileless dead (dead-sequence (u.header (k + 1)));
@@ -154,6 +166,7 @@ module _ (index : Index) (r : Reading) (k : ℕ) (before mid : Bits) (old now : 
             | inr apart ↦ as_it_was ((blocks-but now.image killed home (k + 1) block writes).header m some within apart)
           ];
           left = λ m used gone. absurd (both_ways _ gone (ap (λ (f : ℕ → Bool). f m) writes.in_use ∙ used));
+          past = past-kept (storage_bitmap now.image home) now.image killed storage;
         }
 
         places : KeepsPlaces home now.image killed
@@ -163,6 +176,7 @@ module _ (index : Index) (r : Reading) (k : ℕ) (before mid : Bits) (old now : 
         more after puts = record {
           places = places-then home old.image now.image killed so.places places;
           index = writes.index_file.index ∙ so.index;
+          storage = storage-then old.image now.image killed home so.places.bitmap so.storage storage;
           table = killed-more k t u fit so.table (table_of killed home) block writes.in_use (blocks-but now.image killed home (k + 1) block writes) writes.index_file.header dead orphan;
           puts =
               let same : header_at index (k + 1) now.image ≡ t.header (k + 1) = header-is ∙ next-same k t u fit so.table few in

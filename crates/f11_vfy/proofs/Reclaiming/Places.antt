@@ -15,7 +15,7 @@ use Rattle.f11_index.proofs.InUseLemmas.{in_use-some, in_use-slot}
 use Rattle.f11_image_store.specs.StoreOf.{store_of}
 use Rattle.f11_image_store.proofs.ConfinesLemmas.{alike-part}
 use Rattle.f11_image_store.proofs.FreeingLemmas.{frees-none, frees-then}
-use Rattle.f11_vfy.specs.Reclaiming.Moments.{any_header, IsReclaiming, KeepsPlaces}
+use Rattle.f11_vfy.specs.Reclaiming.Moments.{any_header, IsReclaiming, KeepsPlaces, KeepsPast}
 use Rattle.f11_vfy.specs.Reclaiming.Slots.{IsOrphan, IsKeptOrKilled}
 use Rattle.f11_vfy.specs.Reclaiming.Whole.{HasReclaimed}
 use Rattle.f11_vfy.proofs.Reclaiming.Dead.{live-kept, in-file-kept, orphan-dead, kept-then, left-then, same-kept, same-left}
@@ -94,6 +94,7 @@ reclaiming-none home image sound = record {
   spares = λ lbn none out. refl;
   headers = same-kept (table_of image home) (table_of image home) refl;
   left = same-left (table_of image home) (table_of image home) refl;
+  past = λ k high below. refl;
 }
 
 pub places-none : (home : HomeFields) (image : Image) → HasSoundVolume image home → KeepsPlaces home image image
@@ -120,6 +121,7 @@ reclaiming-then home a b c one two = record {
       let slots = slots-alike a b home one.alike.headers in
       let (some, few) = used-slot a home n used in
       left-then (table_of a home) (table_of b home) (table_of c home) n (one.reclaiming.left n used) two.left (two.headers n some (omega (arith, few, slots))) gone;
+  past = λ k high below. subst (λ (x : Bitmap). KeepsPast x b c) one.bitmap two.past k high below ∙ one.reclaiming.past k high below;
 }
 
 pub places-then : (home : HomeFields) (a b c : Image) → KeepsPlaces home a b → KeepsPlaces home b c → KeepsPlaces home a c

@@ -1,25 +1,28 @@
 -- Blocks that no header names, which become free, a block of the storage bitmap after another.
-use Rattle.std.proofs.Common.{◌≡◌, ◌≢◌, ◌⊎◌, ◌+◌, ◌*◌, ◌/◌, ◌%◌, ◌<◌, ℕ, Bool, true, IsTrue, [], List, length, inl, inr, refl, sym, ap, subst, ◌∙◌, arith}
+use Rattle.std.proofs.Common.{◌≡◌, ◌≢◌, ◌⊎◌, ◌+◌, ◌-◌, ◌*◌, ◌/◌, ◌%◌, ◌<◌, ℕ, Bool, true, IsTrue, [], List, length, get_or, inl, inr, refl, sym, ap, subst, ◌∙◌, arith}
+use Rattle.std.specs.List.{slice_get}
 use Rattle.std.proofs.lemmas.Bool.{both_ways, cases_eq, cases_lt}
 use Rattle.f11_bits.specs.Bitmap.{Bitmap, is_free, KeepsOthers}
-use Rattle.f11_bits.specs.Replacing.{Replaces, Replacing, ReplacesOnDisk, FailsToReplace}
+use Rattle.f11_bits.specs.Replacing.{BitmapBlockChanges, Replaces, Replacing, ReplacesOnDisk, read_alone, written, FailsToReplace}
 use Rattle.f11_bits.proofs.BitmapLemmas.{is_free-past}
 use Rattle.f11_bytes.specs.Bits.{bit}
 use Rattle.f11_dev.specs.Disk.{Disk}
 use Rattle.f11_dev.specs.Image.{Image}
 use Rattle.f11_dev.specs.Went.{Went}
 use Rattle.f11_dev.proofs.LookedLemmas.{looked_none}
-use Rattle.f11_dev.proofs.WentLemmas.{went_looked, went_more, went_weaker, went_within}
+use Rattle.f11_dev.proofs.WentLemmas.{went_last, went_looked, went_more, went_weaker, went_within}
 use Rattle.f11_home.specs.Home.{HomeFields}
 use Rattle.f11_index.specs.IndexFile.{index_of}
 use Rattle.f11_index.specs.Table.{Table, table_of}
 use Rattle.f11_image_store.proofs.ConfinesLemmas.{spares-bitmap}
 use Rattle.f11_image_store.proofs.FreeingLemmas.{unnamed-freed}
-use Rattle.f11_vfy.specs.Reclaiming.Moments.{any_header, IsReclaiming, KeepsPlaces, Moment}
-use Rattle.f11_vfy.specs.Reclaiming.Steps.{may_be_free, IsTold, HasFreedUpTo, FreesUnnamed, FailsToFree}
+use Rattle.f11_vfy.specs.Reclaiming.Moments.{any_header, IsReclaiming, KeepsPlaces, KeepsPast, Moment}
+use Rattle.f11_vfy.specs.Reclaiming.Slots.{Counts, none, such, other}
+use Rattle.f11_vfy.specs.Reclaiming.Steps.{may_be_free, IsTold, IsChangedBlock, HasFreedUpTo, FreesUnnamed, FailsToFree}
 use Rattle.f11_vfy.specs.declared.survey.bits.Bits.{Bits}
 use Rattle.f11_vfy.proofs.Reclaiming.Dead.{same-kept, same-left}
 use Rattle.f11_vfy.proofs.Reclaiming.Places.{places-none, places-then, places-same, reclaiming-then}
+use Rattle.f11_vfy.proofs.Reclaiming.Storage.{block-changed, changed-block, counts-on, unchanged-then, stays-changed}
 use Rattle.f11_volume.specs.Sound.{HasSoundVolume}
 use Rattle.f11_volume.specs.Space.{storage_bitmap}
 use Rattle.f11_volume.specs.Volume.{volume_of, IsNamed}
@@ -52,12 +55,20 @@ free-unnamed image home lbn sound free named = both_ways _ (sound.sound.taken na
 -- none so far
 pub space-none : (bitmap : Bitmap) (named unreferenced : Bits) (disk : Disk) → FreesUnnamed bitmap named unreferenced 0 disk disk
 space-none bitmap named unreferenced disk = record {
-  frees = λ honest home told. record { places = places-none home disk.image told.sound; table = refl; free = λ lbn below. absurd (omega (arith, below)) };
+  frees = λ honest home told. record {
+    places = places-none home disk.image told.sound;
+    table = refl;
+    free = λ lbn below. absurd (omega (arith, below));
+    rest = λ i high few changes. changes refl;
+  };
+  count = 0;
+  counts = λ honest home told. none;
   went = went_within (Moment (IsTold bitmap named unreferenced) disk) (went_looked (Moment (IsTold bitmap named unreferenced) disk) (looked_none disk)) (omega arith);
 }
 
 module _ (bitmap : Bitmap) (named unreferenced : Bits) (i : ℕ) (wanted : List ℕ) (old now : Disk) (so_far : FreesUnnamed bitmap named unreferenced i old now)
-    (wanted_is : (k : ℕ) → k < 4096 → 4096 * i + k < bitmap.size → bit wanted k ≡ may_be_free named unreferenced (4096 * i + k)) where
+    (wanted_is : (k : ℕ) → k < 4096 → 4096 * i + k < bitmap.size → bit wanted k ≡ may_be_free named unreferenced (4096 * i + k))
+    (few : i < length bitmap.places) where
   module _ (honest : IsTrue old.honest) (home : HomeFields) (told : IsTold bitmap named unreferenced home old.image) where
     abbrev t : Table
     t = table_of old.image home
@@ -116,6 +127,7 @@ module _ (bitmap : Bitmap) (named unreferenced : Bits) (i : ℕ) (wanted : List 
         spares = spares-bitmap any_header (index_of now.image home) (storage_bitmap now.image home) [] now.image image keeps;
         headers = same-kept (table_of now.image home) (table_of image home) kept.index_file.table;
         left = same-left (table_of now.image home) (table_of image home) kept.index_file.table;
+        past = subst (λ (b : Bitmap). KeepsPast b now.image image) bitmap-is is.past;
       }
 
       places : KeepsPlaces home now.image image
@@ -132,23 +144,68 @@ module _ (bitmap : Bitmap) (named unreferenced : Bits) (i : ℕ) (wanted : List 
           | inl here ↦ here-free lbn here inside unnamed
           | inr apart ↦ is.elsewhere lbn apart ∙ so.free lbn (omega (arith, below, apart)) inside unnamed
         ];
+        rest = λ m high within.
+            unchanged-then bitmap (m - 1) old.image now.image image (so.rest m (omega (arith, high)) within)
+            (is.others (m - 1) (omega (arith, high, within)) (λ same. omega (arith, same, high)));
       }
 
   abbrev P : Image → Type 0
   P = Moment (IsTold bitmap named unreferenced) old
 
-  went-on : (new : Disk) (faults : ℕ) → Went (Replacing now.honest bitmap i wanted now.image) now new 2 faults → Went P old new (2 * (i + 1)) faults
-  went-on new faults went =
-      went_within P
-      (went_more P so_far.went
-      (went_weaker (Replacing now.honest bitmap i wanted now.image) P (λ image has honest home told. stands honest home told image (has.replaces (so_far.went.honest ∙ honest))) went))
-      (omega arith)
+  went-on : (new : Disk) (most faults : ℕ) → Went (Replacing now.honest bitmap i wanted now.image) now new most faults
+      → Went P old new (i + so_far.count + most) faults
+  went-on new most faults went =
+      went_more P so_far.went
+      (went_weaker (Replacing now.honest bitmap i wanted now.image) P
+      (λ image has honest home told. stands honest home told image (has.replaces (so_far.went.honest ∙ honest))) went)
+
+  -- how many were other than they were before this one
+  counts-before : (image : Image) → ((j : ℕ) → j < i → ¬ BitmapBlockChanges bitmap j now.image image) → IsTrue old.honest → (home : HomeFields)
+      → IsTold bitmap named unreferenced home old.image → Counts (IsChangedBlock bitmap old.image image) i so_far.count
+  counts-before image stay honest home told = counts-on bitmap old.image now.image image i so_far.count stay (so_far.counts honest home told)
+
+  -- this one is as it was until then
+  still : (honest : IsTrue old.honest) (home : HomeFields) → IsTold bitmap named unreferenced home old.image → ¬ BitmapBlockChanges bitmap i old.image now.image
+  still honest home told changes = (so honest home told).rest (i + 1) (omega arith) (omega (arith, few)) (block-changed bitmap old.image now.image i changes)
+
+  others-stay : (image : Image) → Replaces bitmap i wanted now.image image → (j : ℕ) → j < i → ¬ BitmapBlockChanges bitmap j now.image image
+  others-stay image is j low = is.others j (omega (arith, low, few)) (λ same. omega (arith, same, low))
 
   pub space-more : (new : Disk) → ReplacesOnDisk bitmap i wanted now new → FreesUnnamed bitmap named unreferenced (i + 1) old new
-  space-more new did = record {
-    frees = λ honest home told. more honest home told new.image (did.replaces (so_far.went.honest ∙ honest));
-    went = went-on new 0 did.went;
-  }
+  space-more new did = elim did.went [
+    | read_alone looked ↦ record {
+      frees = λ honest home told. more honest home told new.image (did.replaces (so_far.went.honest ∙ honest));
+      count = so_far.count;
+      counts = λ honest home told.
+          other i so_far.count (counts-before new.image (others-stay new.image (did.replaces (so_far.went.honest ∙ honest))) honest home told)
+          (λ changed.
+          unchanged-then bitmap i old.image now.image new.image (still honest home told)
+          (λ changes. changes (ap (λ (image : Image). slice_get image (get_or bitmap.places i 0)) looked.image))
+          (changed-block bitmap old.image new.image i changed));
+      went = went_within P (went_more P so_far.went (went_looked P looked)) (omega arith);
+    }
+    | written went changes ↦ record {
+      frees = λ honest home told. more honest home told new.image (did.replaces (so_far.went.honest ∙ honest));
+      count = so_far.count + 1;
+      counts = λ honest home told.
+          such i so_far.count (counts-before new.image (others-stay new.image (did.replaces (so_far.went.honest ∙ honest))) honest home told)
+          (block-changed bitmap old.image new.image i
+          (stays-changed bitmap i old.image now.image new.image (still honest home told) (changes (so_far.went.honest ∙ honest))));
+      went = went_within P (went-on new 2 0 went) (omega arith);
+    }
+  ]
 
-  pub space-fail : i < length bitmap.places → (new : Disk) → FailsToReplace bitmap i wanted now new → FailsToFree bitmap named unreferenced old new
-  space-fail few new fails = went_within P (went-on new 1 fails) (omega (arith, few))
+  pub space-fail : (new : Disk) → FailsToReplace bitmap i wanted now new → FailsToFree bitmap named unreferenced old new
+  space-fail new fails = record {
+    upto = i;
+    within = few;
+    count = so_far.count;
+    counts = λ honest.
+        counts-before new.image
+        (went_last (λ (image : Image). (j : ℕ) → j < i → ¬ BitmapBlockChanges bitmap j now.image image)
+        (went_weaker (Replacing now.honest bitmap i wanted now.image) (λ (image : Image). (j : ℕ) → j < i → ¬ BitmapBlockChanges bitmap j now.image image)
+        (λ image has. others-stay image (has.replaces (so_far.went.honest ∙ honest))) fails)
+        (λ j low changes. changes refl))
+        honest;
+    went = went-on new 2 1 fails;
+  }

@@ -1,6 +1,6 @@
 -- Reclaiming, its parts one after another.
-use Rattle.std.proofs.Common.{◌≡◌, ◌+◌, ◌*◌, ◌≤◌, ℕ, false, IsTrue, length, ap, ◌∙◌, arith}
-use Rattle.f11_bits.specs.Bitmap.{Bitmap}
+use Rattle.std.proofs.Common.{◌≡◌, ◌+◌, ◌*◌, ◌≤◌, ℕ, false, IsTrue, length, sym, ap, subst, ◌∙◌, arith}
+use Rattle.f11_bits.specs.Bitmap.{Bitmap, KeepsBitmap}
 use Rattle.f11_dev.specs.Disk.{Disk}
 use Rattle.f11_dev.specs.Image.{Image}
 use Rattle.f11_dev.specs.Went.{Went}
@@ -9,20 +9,15 @@ use Rattle.f11_home.specs.Home.{HomeFields}
 use Rattle.f11_index.specs.IndexFile.{Index, slots}
 use Rattle.f11_index.specs.Table.{table_of}
 use Rattle.f11_vfy.specs.Reclaiming.Moments.{Moment}
-use Rattle.f11_vfy.specs.Reclaiming.Slots.{Counts, IsOrphan, IsIdle, none, such, other}
-use Rattle.f11_vfy.specs.Reclaiming.Steps.{IsShown, HasKilledUpTo, KillsOrphans, FailsToKillOrphans, IsSwept, HasClearedUpTo, ClearsIdle, FailsToClear, IsTold, FreesUnnamed, FailsToFree}
+use Rattle.f11_vfy.specs.Reclaiming.Slots.{Counts, IsOrphan, IsIdle, none}
+use Rattle.f11_vfy.specs.Reclaiming.Steps.{IsShown, HasKilledUpTo, KillsOrphans, FailsToKillOrphans, IsSwept, HasClearedUpTo, ClearsIdle, FailsToClear, IsTold, IsChangedBlock, FreesUnnamed, FailsToFree}
 use Rattle.f11_vfy.specs.Reclaiming.Whole.{Costs, GoesOn, GivesBack, IsReadAs}
 use Rattle.f11_vfy.specs.Surveying.Bits.{has, limit_of}
 use Rattle.f11_vfy.specs.declared.findings.reading.Reading.{Reading}
 use Rattle.f11_vfy.specs.declared.survey.bits.Bits.{Bits}
 use Rattle.f11_vfy.proofs.Reclaiming.Course.{shown-so, slot-count, swept-so, idle-was, was-idle, told-so, places-two, reclaimed-so}
 use Rattle.f11_vfy.proofs.Reclaiming.Places.{reclaiming-then}
-
--- a property that holds of the same numbers
-counts-same : (P Q : ℕ → Type 0) (n count : ℕ) → ((m : ℕ) → P m → Q m) → ((m : ℕ) → Q m → P m) → Counts P n count → Counts Q n count
-counts-same P Q n count to from none = none
-counts-same P Q n count to from (such k c counts holds) = such k c (counts-same P Q k c to from counts) (to (k + 1) holds)
-counts-same P Q n count to from (other k c counts fails) = other k c (counts-same P Q k c to from counts) (λ holds. fails (from (k + 1) holds))
+use Rattle.f11_vfy.proofs.Reclaiming.Storage.{counts-same, counts-since, storage-then}
 
 module _ (index : Index) (bitmap : Bitmap) (r : Reading) (before : Bits) (d0 : Disk) where
   abbrev K : HomeFields → Image → Type 0
@@ -31,9 +26,11 @@ module _ (index : Index) (bitmap : Bitmap) (r : Reading) (before : Bits) (d0 : D
   abbrev P : Image → Type 0
   P = Moment K d0
 
-  costs : (home : HomeFields) → K home d0.image → (n orphans m idle most : ℕ) → Counts (IsOrphan (table_of d0.image home)) n orphans → n ≤ slots index
-      → Counts (IsIdle (table_of d0.image home)) m idle → m ≤ slots index → most ≤ 2 * orphans + idle + 2 * length bitmap.places → Costs home d0.image 0 most
-  costs home is n orphans m idle most orphans_are low idle_are high few =
+  costs : (home : HomeFields) → K home d0.image → (new : Image) (n orphans m idle blocks changed faults most : ℕ)
+      → Counts (IsOrphan (table_of d0.image home)) n orphans → n ≤ slots index → Counts (IsIdle (table_of d0.image home)) m idle → m ≤ slots index
+      → Counts (IsChangedBlock bitmap d0.image new) blocks changed → blocks ≤ length bitmap.places
+      → most ≤ 2 * orphans + idle + length bitmap.places + changed + faults → Costs home d0.image new 0 faults most
+  costs home is new n orphans m idle blocks changed faults most orphans_are low idle_are high changed_are within few =
       let count = slot-count index bitmap r home d0.image is in
       let size = ap (λ (b : Bitmap). length b.places) is.frame.bitmap_is in
       record {
@@ -45,6 +42,10 @@ module _ (index : Index) (bitmap : Bitmap) (r : Reading) (before : Bits) (d0 : D
         idle = idle;
         idle_are = idle_are;
         idle_within = omega (arith, high, count);
+        bitmap_blocks = blocks;
+        changed = changed;
+        changed_are = subst (λ (b : Bitmap). Counts (IsChangedBlock b d0.image new) blocks changed) is.frame.bitmap_is changed_are;
+        changed_within = omega (arith, within, size);
         few = omega (arith, few, size);
       }
 
@@ -53,7 +54,8 @@ module _ (index : Index) (bitmap : Bitmap) (r : Reading) (before : Bits) (d0 : D
   fails-first d1 fails = record {
     most = 2 * fails.count;
     few = λ honest home is.
-        costs home is fails.upto fails.count 0 0 (2 * fails.count) (fails.counts honest home (shown-so index bitmap r home d0.image is)) fails.within none (omega arith) (omega arith);
+        costs home is d1.image fails.upto fails.count 0 0 0 0 1 (2 * fails.count)
+        (fails.counts honest home (shown-so index bitmap r home d0.image is)) fails.within none (omega arith) none (omega arith) (omega arith);
     went = went_weaker (Moment (IsShown index r) d0) P (λ image stands honest home is. stands honest home (shown-so index bitmap r home d0.image is)) fails.went;
   }
 
@@ -78,7 +80,8 @@ module _ (index : Index) (bitmap : Bitmap) (r : Reading) (before : Bits) (d0 : D
         → Counts (IsIdle (table_of d0.image home)) n count
     idle-count home honest is n count =
         counts-same (IsIdle (table_of d1.image home)) (IsIdle (table_of d0.image home)) n count
-        (idle-was index bitmap r home d0.image is before unreferenced d1.image (so-one home honest is)) (was-idle index bitmap r home d0.image is before unreferenced d1.image (so-one home honest is))
+        (λ m low. idle-was index bitmap r home d0.image is before unreferenced d1.image (so-one home honest is) (m + 1))
+        (λ m low. was-idle index bitmap r home d0.image is before unreferenced d1.image (so-one home honest is) (m + 1))
 
     orphan-count : (home : HomeFields) → IsTrue d0.honest → K home d0.image → Counts (IsOrphan (table_of d0.image home)) (slots index) one.count
     orphan-count home honest is = one.counts honest home (shown-so index bitmap r home d0.image is)
@@ -88,8 +91,9 @@ module _ (index : Index) (bitmap : Bitmap) (r : Reading) (before : Bits) (d0 : D
     fails-second d2 fails = record {
       most = 2 * one.count + fails.count;
       few = λ honest home is.
-          costs home is (slots index) one.count fails.upto fails.count (2 * one.count + fails.count) (orphan-count home honest is) (omega arith)
-          (idle-count home honest is fails.upto fails.count (fails.counts (still-one honest) home (swept home honest is))) fails.within (omega arith);
+          costs home is d2.image (slots index) one.count fails.upto fails.count 0 0 1 (2 * one.count + fails.count) (orphan-count home honest is) (omega arith)
+          (idle-count home honest is fails.upto fails.count (fails.counts (still-one honest) home (swept home honest is))) fails.within
+          none (omega arith) (omega arith);
       went = went_more P went-one (went_weaker (Moment (IsSwept index r) d1) P stands-two fails.went);
     }
 
@@ -110,27 +114,34 @@ module _ (index : Index) (bitmap : Bitmap) (r : Reading) (before : Bits) (d0 : D
           (places-two index bitmap r home d0.image is before unreferenced d1.image (so-one home honest is) after d2.image (so-two home honest is))
           (stands (still-two honest) home (told home honest is))
 
-      cost : ℕ
-      cost = 2 * one.count + two.count + 2 * length bitmap.places
+      -- no block of the storage bitmap was changed so far
+      storage-two : (home : HomeFields) → IsTrue d0.honest → K home d0.image → KeepsBitmap bitmap d0.image d2.image
+      storage-two home honest is =
+          subst (λ (b : Bitmap). KeepsBitmap b d0.image d2.image) (sym is.frame.bitmap_is)
+          (storage-then d0.image d1.image d2.image home (so-one home honest is).places.bitmap (so-one home honest is).storage (so-two home honest is).storage)
 
-      costs-all : (home : HomeFields) → IsTrue d0.honest → K home d0.image → Costs home d0.image 0 cost
-      unfolding cost
-      costs-all home honest is =
-          costs home is (slots index) one.count (slots index) two.count cost (orphan-count home honest is) (omega arith)
-          (idle-count home honest is (slots index) two.count (two.counts (still-one honest) home (swept home honest is))) (omega arith) (omega arith)
-
-      goes : (d3 : Disk) (faults : ℕ) → Went (Moment (IsTold bitmap r.survey.tally.once unreferenced) d2) d2 d3 (2 * length bitmap.places) faults → GoesOn K (λ home. 0) d0 d3 faults
-      unfolding cost
-      goes d3 faults went = record {
-        most = cost;
-        few = λ honest home is. costs-all home honest is;
+      -- some of them were then
+      goes : (d3 : Disk) (faults blocks changed most : ℕ) → Went (Moment (IsTold bitmap r.survey.tally.once unreferenced) d2) d2 d3 most faults
+          → ((home : HomeFields) → IsTrue d2.honest → IsTold bitmap r.survey.tally.once unreferenced home d2.image
+          → Counts (IsChangedBlock bitmap d2.image d3.image) blocks changed)
+          → blocks ≤ length bitmap.places → most ≤ length bitmap.places + changed + faults → GoesOn K (λ home. 0) d0 d3 faults
+      goes d3 faults blocks changed most went counts within few = record {
+        most = 2 * one.count + two.count + most;
+        few = λ honest home is.
+            costs home is d3.image (slots index) one.count (slots index) two.count blocks changed faults (2 * one.count + two.count + most)
+            (orphan-count home honest is) (omega arith)
+            (idle-count home honest is (slots index) two.count (two.counts (still-one honest) home (swept home honest is))) (omega arith)
+            (counts-since bitmap d0.image d2.image d3.image blocks changed within (storage-two home honest is)
+            (counts home (still-two honest) (told home honest is))) within (omega (arith, few));
         went = went_more P (went_more P went-one (went_weaker (Moment (IsSwept index r) d1) P stands-two two.went))
             (went_weaker (Moment (IsTold bitmap r.survey.tally.once unreferenced) d2) P stands-three went);
       }
 
       -- they did; not all blocks became free
       pub fails-third : (d3 : Disk) → FailsToFree bitmap r.survey.tally.once unreferenced d2 d3 → GoesOn K (λ home. 0) d0 d3 1
-      fails-third d3 fails = goes d3 1 fails
+      fails-third d3 fails =
+          goes d3 1 fails.upto fails.count (fails.upto + fails.count + 2) fails.went (λ home honest is. fails.counts honest home is)
+          (omega (arith, fails.within)) (omega (arith, fails.within))
 
       -- they did
       pub gives-back : (d3 : Disk) → bitmap.size ≤ 4096 * length bitmap.places → FreesUnnamed bitmap r.survey.tally.once unreferenced (length bitmap.places) d2 d3
@@ -139,5 +150,6 @@ module _ (index : Index) (bitmap : Bitmap) (r : Reading) (before : Bits) (d0 : D
         reclaimed = λ honest home is.
             reclaimed-so index bitmap r home d0.image is before unreferenced d1.image (so-one home honest is) after d2.image (so-two home honest is) d3.image covered
             (three.frees (still-two honest) home (told home honest is));
-        goes = goes d3 0 three.went;
+        goes = goes d3 0 (length bitmap.places) three.count (length bitmap.places + three.count) three.went
+            (λ home honest is. three.counts honest home is) (omega arith) (omega arith);
       }

@@ -1,5 +1,6 @@
 -- Which images stand while a volume is reclaimed (profile).
-use Rattle.std.specs.Prelude.{◌≡◌, ℕ, Bool, true, [], IsTrue}
+use Rattle.std.specs.Prelude.{◌≡◌, ℕ, ◌*◌, ◌<◌, ◌≤◌, Bool, true, [], IsTrue, length}
+use Rattle.f11_bits.specs.Bitmap.{Bitmap, bitmap_bit}
 use Rattle.f11_dev.specs.Disk.{Disk}
 use Rattle.f11_dev.specs.Image.{Image}
 use Rattle.f11_home.specs.Home.{HomeFields}
@@ -15,14 +16,20 @@ use Rattle.f11_volume.specs.Space.{storage_bitmap}
 abbrev pub any_header : ℕ → Bool
 any_header n = true
 
+-- the bits of a storage bitmap past the volume's size are as they were
+abbrev pub KeepsPast : Bitmap → Image → Image → Type 0
+KeepsPast bitmap old image =
+    (k : ℕ) → bitmap.size ≤ k → k < 4096 * length bitmap.places → bitmap_bit image bitmap k ≡ bitmap_bit old bitmap k
+
 -- An image that stands meanwhile: its volume is sound, its store has the files of this one, with no less free, and no block is changed but
 -- headers, and blocks of the index bitmap and of the storage bitmap. Each header is as it was, but for orphans that are killed, and where a
--- slot has left use its header is dead.
+-- slot has left use its header is dead. The bits of the storage bitmap past the volume's size are as they were.
 pub record IsReclaiming (home : HomeFields) (old image : Image) : Type 0 where
   pub freeing : IsFreeing home (store_of old home) image
   pub spares : Spares any_header (index_of old home) (storage_bitmap old home) [] old image
   pub headers : KeepsOrKills (table_of old home) (table_of image home)
   pub left : LeavesDead (table_of old home) (table_of image home)
+  pub past : KeepsPast (storage_bitmap old home) old image
 
 -- One in which index file and storage bitmap are where they were.
 pub record KeepsPlaces (home : HomeFields) (old new : Image) : Type 0 where

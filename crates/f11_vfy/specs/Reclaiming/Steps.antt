@@ -1,6 +1,7 @@
 -- The three parts of reclaiming (profile): orphans are killed, idle slots leave use, and blocks that no header names become free.
-use Rattle.std.specs.Prelude.{◌≡◌, ◌↔◌, ℕ, ◌*◌, ◌<◌, ◌≤◌, ◌||◌, Bool, true, not, IsTrue, List, Contains, length, slice_set}
-use Rattle.f11_bits.specs.Bitmap.{Bitmap, is_free}
+use Rattle.std.specs.Prelude.{◌≡◌, ◌↔◌, ℕ, ◌+◌, ◌-◌, ◌*◌, ◌<◌, ◌≤◌, ◌||◌, Bool, true, not, IsTrue, List, Contains, length, slice_set}
+use Rattle.f11_bits.specs.Bitmap.{Bitmap, is_free, KeepsBitmap}
+use Rattle.f11_bits.specs.Replacing.{BitmapBlockChanges}
 use Rattle.f11_dev.specs.Disk.{Disk}
 use Rattle.f11_dev.specs.Image.{Image}
 use Rattle.f11_dev.specs.Went.{Went}
@@ -56,12 +57,13 @@ pub record IsShown (index : Index) (r : Reading) (home : HomeFields) (image : Im
   pub index_is : index ≡ index_of image home
   pub shows : ShowsVolume (volume_of image home) r
 
--- the orphans among headers 1 to n were killed
+-- the orphans among headers 1 to n were killed, and no block of the storage bitmap was changed
 pub record HasKilledUpTo (n : ℕ) (before after : Bits) (home : HomeFields) (old new : Image) : Type 0 where
   pub places : KeepsPlaces home old new
   pub index : index_of new home ≡ index_of old home
   pub table : KillsUpTo n (table_of old home) (table_of new home)
   pub puts : Puts (IsOfOrphan (table_of old home) n) before after
+  pub storage : KeepsBitmap (storage_bitmap old home) old new
 
 -- The orphans among headers 1 to n were killed, in order, each by a read and a write.
 pub record KillsOrphans (index : Index) (r : Reading) (n : ℕ) (before after : Bits) (old new : Disk) : Type 0 where
@@ -91,11 +93,12 @@ pub record SamePlaces (old new : Index) : Type 0 where
   pub bitmap_lbn : new.bitmap_lbn ≡ old.bitmap_lbn
   pub blocks : length new.bitmap ≡ length old.bitmap
 
--- the idle ones of slots 1 to n left use, so that the index file says this
+-- the idle ones of slots 1 to n left use, so that the index file says this, and no block of the storage bitmap was changed
 pub record HasClearedUpTo (n : ℕ) (after : Index) (home : HomeFields) (old new : Image) : Type 0 where
   pub places : KeepsPlaces home old new
   pub index_is : after ≡ index_of new home
   pub table : ClearsUpTo n (table_of old home) (table_of new home)
+  pub storage : KeepsBitmap (storage_bitmap old home) old new
 
 -- The idle ones of slots 1 to n left use, in order, each by a write.
 pub record ClearsIdle (index : Index) (r : Reading) (n : ℕ) (after : Index) (old new : Disk) : Type 0 where
@@ -123,18 +126,30 @@ pub record IsTold (bitmap : Bitmap) (named unreferenced : Bits) (home : HomeFiel
   pub bitmap_is : bitmap ≡ storage_bitmap image home
   pub tells : (lbn : ℕ) → lbn < bitmap.size → may_be_free named unreferenced lbn ≡ true ↔ (¬ IsNamed (table_of image home) lbn)
 
--- each block that no header names is free, of those whose bits are in the first so many bitmap blocks
+-- block i of a storage bitmap, from 1, is another than it was
+abbrev pub IsChangedBlock : Bitmap → Image → Image → ℕ → Type 0
+IsChangedBlock bitmap old new i = BitmapBlockChanges bitmap (i - 1) old new
+
+-- each block that no header names is free, of those whose bits are in the first so many bitmap blocks, and the other bitmap blocks are as
+-- they were
 pub record HasFreedUpTo (n : ℕ) (bitmap : Bitmap) (home : HomeFields) (old new : Image) : Type 0 where
   pub places : KeepsPlaces home old new
   pub table : table_of new home ≡ table_of old home
   pub free : (lbn : ℕ) → lbn < 4096 * n → lbn < bitmap.size → ¬ IsNamed (table_of old home) lbn → is_free new bitmap lbn ≡ true
+  pub rest : (i : ℕ) → n < i → i ≤ length bitmap.places → ¬ IsChangedBlock bitmap old new i
 
--- Each block that no header names became free, of those whose bits are in the first so many bitmap blocks, each read once and written at
--- most once.
+-- Each block that no header names became free, of those whose bits are in the first so many bitmap blocks, each read once, and written
+-- once where it is another than it was.
 pub record FreesUnnamed (bitmap : Bitmap) (named unreferenced : Bits) (n : ℕ) (old new : Disk) : Type 0 where
   pub frees : Where (IsTold bitmap named unreferenced) old (λ home. HasFreedUpTo n bitmap home old.image new.image)
-  pub went : Went (Moment (IsTold bitmap named unreferenced) old) old new (2 * n) 0
+  pub count : ℕ
+  pub counts : Where (IsTold bitmap named unreferenced) old (λ home. Counts (IsChangedBlock bitmap old.image new.image) n count)
+  pub went : Went (Moment (IsTold bitmap named unreferenced) old) old new (n + count) 0
 
--- A transfer failed.
-abbrev pub FailsToFree : Bitmap → Bits → Bits → Disk → Disk → Type 0
-FailsToFree bitmap named unreferenced old new = Went (Moment (IsTold bitmap named unreferenced) old) old new (2 * length bitmap.places) 1
+-- A transfer failed: the read or the write of the bitmap block behind the first so many.
+pub record FailsToFree (bitmap : Bitmap) (named unreferenced : Bits) (old new : Disk) : Type 0 where
+  pub upto : ℕ
+  pub within : upto < length bitmap.places
+  pub count : ℕ
+  pub counts : Where (IsTold bitmap named unreferenced) old (λ home. Counts (IsChangedBlock bitmap old.image new.image) upto count)
+  pub went : Went (Moment (IsTold bitmap named unreferenced) old) old new (upto + count + 2) 1

@@ -12,6 +12,7 @@ use Rattle.f11_index.specs.Table.{Table, table_of}
 use Rattle.f11_vfy.specs.Frames.Frame.{frame_reads}
 use Rattle.f11_vfy.specs.Reclaiming.Moments.{IsReclaiming, Where, Moment}
 use Rattle.f11_vfy.specs.Reclaiming.Slots.{Counts, IsOrphan, IsIdle}
+use Rattle.f11_vfy.specs.Reclaiming.Steps.{IsChangedBlock}
 use Rattle.f11_vfy.specs.Scanning.Reading.{most_read, ShowsVolume}
 use Rattle.f11_vfy.specs.declared.findings.reading.Reading.{Reading}
 use Rattle.f11_vfy.specs.declared.verifier.VfyError.{VfyError}
@@ -43,9 +44,10 @@ pub record HasReclaimed (home : HomeFields) (old new : Image) : Type 0 where
   pub slots : UsedAreOfFiles (table_of new home)
   pub no_note : (code a b : ℕ) → code ≤ 3 → ¬ IsNote new code a b
 
--- At most so many transfers were made besides so many reads: an orphan is read and written, a slot that leaves use costs a write, and a
--- block of the storage bitmap a read and a write.
-pub record Costs (home : HomeFields) (image : Image) (reads most : ℕ) : Type 0 where
+-- At most so many transfers were made besides so many reads: an orphan is read and written, a slot that leaves use costs a write, a block
+-- of the storage bitmap a read, and one that is another than it was a write. Where transfers failed, that many more may have been made: the
+-- write of a bitmap block may have failed and left it.
+pub record Costs (home : HomeFields) (image new : Image) (reads faults most : ℕ) : Type 0 where
   pub orphan_slots : ℕ
   pub orphans : ℕ
   pub orphans_are : Counts (IsOrphan (table_of image home)) orphan_slots orphans
@@ -54,12 +56,16 @@ pub record Costs (home : HomeFields) (image : Image) (reads most : ℕ) : Type 0
   pub idle : ℕ
   pub idle_are : Counts (IsIdle (table_of image home)) idle_slots idle
   pub idle_within : idle_slots ≤ (table_of image home).slots
-  pub few : most ≤ reads + 2 * orphans + idle + 2 * length (storage_bitmap image home).places
+  pub bitmap_blocks : ℕ
+  pub changed : ℕ
+  pub changed_are : Counts (IsChangedBlock (storage_bitmap image home) image new) bitmap_blocks changed
+  pub changed_within : bitmap_blocks ≤ length (storage_bitmap image home).places
+  pub few : most ≤ reads + 2 * orphans + idle + length (storage_bitmap image home).places + changed + faults
 
 -- So many transfers failed, of those at most. Each image that stood meanwhile is sound and has the files that there were.
 pub record GoesOn (K : HomeFields → Image → Type 0) (reads : HomeFields → ℕ) (old new : Disk) (faults : ℕ) : Type 0 where
   pub most : ℕ
-  pub few : Where K old (λ home. Costs home old.image (reads home) most)
+  pub few : Where K old (λ home. Costs home old.image new.image (reads home) faults most)
   pub went : Went (Moment K old) old new most faults
 
 -- The volume was reclaimed.

@@ -15,4 +15,4 @@ returns-in_err-replace_free-clause-failed g c =
 
 pub loop-i-preserved : goal.loop-i-preserved
 loop-i-preserved g c =
-    space-more (bitmap_at c.args.places.now c.args.size) _ _ c.loop-i.i _ _ _ c.loop-i.invariant c.wanted_bits-wanted.ensures _ c.in_ok-replace_free.ensures.replaced
+    space-more (bitmap_at c.args.places.now c.args.size) _ _ c.loop-i.i _ _ _ c.loop-i.invariant c.wanted_bits-wanted.ensures (omega (arith, c.loop-i-test.true, c.loop-i.auto.i-end)) _ c.in_ok-replace_free.ensures.replaced
