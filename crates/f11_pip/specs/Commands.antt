@@ -55,6 +55,25 @@ vfy_app = with_rule (with_rule (new_app (codes "vfy")) (flag_rule (codes "update
 abbrev pub option_rule : Text → Bool → Rule
 option_rule name needed = record (new_rule name) { long = Some name; required = needed; action = Some Set }
 
+-- a copy's command with its mode; the words of a file of a Files-11 volume, and those of one of an RT-11 volume
+abbrev pub copy_app : Text → App
+copy_app name = with_rule (new_app name) (option_rule (codes "mode") true)
+
+abbrev pub with_file_words : App → App
+with_file_words app = with_rule (with_rule (with_rule app (needed_rule (codes "image"))) (needed_rule (codes "uic")))
+    (needed_rule (codes "name"))
+
+abbrev pub with_rt_words : App → App
+with_rt_words app = with_rule (with_rule app (needed_rule (codes "rt"))) (needed_rule (codes "rt-name"))
+
+-- `flx-from-rt --mode M RT RTNAME IMAGE UIC NAME`
+abbrev pub from_rt_app : App
+from_rt_app = with_file_words (with_rt_words (copy_app (codes "flx-from-rt")))
+
+-- `flx-to-rt --mode M IMAGE UIC NAME RT RTNAME`
+abbrev pub to_rt_app : App
+to_rt_app = with_rt_words (with_file_words (copy_app (codes "flx-to-rt")))
+
 -- `init` with the words that have to be there behind a name of theirs
 abbrev pub init_options : App
 init_options = with_rule (with_rule (with_rule (new_app (codes "init")) (option_rule (codes "blocks") true))
@@ -84,9 +103,10 @@ files_app = with_subcommand (with_subcommand (with_subcommand
     (with_subcommand (with_subcommand (with_subcommand (with_subcommand (new_app (codes "f11_pip")) home_app.top)
     name_app.top) rights_app.top) dump_app.top) vfy_app.top) init_app.top) run_app.top
 
--- and those on RT-11 volumes
+-- those on RT-11 volumes, and the copies between the two
 abbrev pub program_app : App
-program_app = with_subcommand (with_subcommand (with_subcommand files_app rt_init_app.top) rt_list_app.top) rt_vfy_app.top
+program_app = with_subcommand (with_subcommand (with_subcommand (with_subcommand (with_subcommand files_app rt_init_app.top)
+    rt_list_app.top) rt_vfy_app.top) to_rt_app.top) from_rt_app.top
 
 -- the name of the command that was met, and its word of this name
 abbrev pub command_and_word : Text → Option (Text × List Row) → Option (Text × Option Text)
@@ -131,12 +151,20 @@ words_in ids rows = map (λ id. first_of id rows) ids
 abbrev pub command_and_words : List Text → Option (Text × List Row) → Option (Text × List (Option Text))
 command_and_words ids = option_map (λ p. (p.0, words_in ids p.1))
 
--- the names of the words of `init`, and of those of `rt-init`
+-- the names of the words of a copy, of those of `init`, and of those of `rt-init`
+abbrev pub copy_names : List Text
+copy_names = codes "mode" ∷ codes "image" ∷ codes "uic" ∷ codes "name" ∷ codes "rt" ∷ codes "rt-name" ∷ []
+
 abbrev pub init_names : List Text
 init_names = codes "blocks" ∷ codes "slots" ∷ codes "label" ∷ codes "max" ∷ codes "image" ∷ []
 
 abbrev pub rt_init_names : List Text
 rt_init_names = codes "blocks" ∷ codes "segments" ∷ codes "image" ∷ []
+
+-- this command of a copy was met, with these words
+abbrev pub MeetsCopy : Text → Text → Text → Text → Text → Text → Text → Option (Text × List Row) → Type 0
+MeetsCopy command mode image uic name rt rt_name met = command_and_words copy_names met ≡
+    Some (command, Some mode ∷ Some image ∷ Some uic ∷ Some name ∷ Some rt ∷ Some rt_name ∷ [])
 
 -- `init` was met, with these words, the greatest number of files among them or not
 abbrev pub MeetsInit : Text → Text → Text → Option Text → Text → Option (Text × List Row) → Type 0
@@ -169,6 +197,15 @@ HasVfyWords update image given = HasWord (codes "image") image given ×
 -- `run` has these two words
 abbrev pub HasRunWords : Text → Text → ArgMatches → Type 0
 HasRunWords image script given = HasWord (codes "image") image given × HasWord (codes "script") script given
+
+-- a copy has these words
+pub record HasCopyWords (mode image uic name rt rt_name : Text) (given : ArgMatches) : Type 0 where
+  pub mode_is : HasWord (codes "mode") mode given
+  pub image_is : HasWord (codes "image") image given
+  pub uic_is : HasWord (codes "uic") uic given
+  pub name_is : HasWord (codes "name") name given
+  pub rt_is : HasWord (codes "rt") rt given
+  pub rt_name_is : HasWord (codes "rt-name") rt_name given
 
 -- `init` has these words, the greatest number of files among them or not
 pub record HasInitWords (blocks slots label : Text) (max : Option Text) (image : Text) (given : ArgMatches) : Type 0 where

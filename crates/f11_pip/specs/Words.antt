@@ -1,12 +1,14 @@
 -- The words of the command line (profile).
 use Rattle.std.specs.Prelude.{◌≡◌, ◌⊎◌, ℕ, ◌==◌, All, Bool, true, false, List, [], ◌∷◌, Option, Some, None, codes}
+use Rattle.f11_flx.specs.declared.mode.CopyMode.{CopyMode}
+use Rattle.f11_flx.specs.declared.mode.CopyMode.TheVariants.{Image, Text}
 use Rattle.f11_store.specs.declared.callers.Uic.{Uic}
 use Rattle.f11_numbers.specs.Decimal.{IsCount, IsNumber, SpellsNumber, SpellsCount}
 use Rattle.f11_numbers.specs.Octal.{IsProtection, SpellsProtection, SpellsUic}
 use Rattle.f11_pip.specs.declared.outcome.Failure.{Failure}
 use Rattle.f11_pip.specs.declared.outcome.Failure.TheVariants.{NoMemory}
 use Rattle.f11_pip.specs.declared.words.Words.{Words}
-use Rattle.f11_pip.specs.declared.words.Words.TheVariants.{Dump, Home, Init, Name, Rights, RtInit, RtList, RtVfy, Run, Vfy}
+use Rattle.f11_pip.specs.declared.words.Words.TheVariants.{Dump, FlxFromRt, FlxToRt, Home, Init, Name, Rights, RtInit, RtList, RtVfy, Run, Vfy}
 
 -- a word that begins with a hyphen (45) is an option
 abbrev pub is_option : List ℕ → Bool
@@ -16,6 +18,8 @@ is_option (b ∷ bs) = b == 45
 -- A command, with its words. `init` isn't among them.
 pub data CommandLine : Type 0 where
   dump_line : (image number : List ℕ) → CommandLine
+  from_rt_line : (mode rt rt_name image uic name : List ℕ) → CommandLine
+  to_rt_line : (mode image uic name rt rt_name : List ℕ) → CommandLine
   home_line : (image : List ℕ) → CommandLine
   name_line : (text : List ℕ) → CommandLine
   rights_line : (caller owner word : List ℕ) → CommandLine
@@ -29,6 +33,10 @@ pub data CommandLine : Type 0 where
 -- the words of a command line behind the program's name, in the order of the usage text
 abbrev pub words_given : CommandLine → List (List ℕ)
 words_given (dump_line image number) = codes "dump" ∷ image ∷ number ∷ []
+words_given (from_rt_line mode rt rt_name image uic name) =
+    codes "flx-from-rt" ∷ codes "--mode" ∷ mode ∷ rt ∷ rt_name ∷ image ∷ uic ∷ name ∷ []
+words_given (to_rt_line mode image uic name rt rt_name) =
+    codes "flx-to-rt" ∷ codes "--mode" ∷ mode ∷ image ∷ uic ∷ name ∷ rt ∷ rt_name ∷ []
 words_given (home_line image) = codes "home" ∷ image ∷ []
 words_given (name_line text) = codes "name" ∷ text ∷ []
 words_given (rights_line caller owner word) = codes "rights" ∷ caller ∷ owner ∷ word ∷ []
@@ -42,6 +50,8 @@ words_given (update_line image) = codes "vfy" ∷ codes "--update" ∷ image ∷
 -- those of its words that no rule names
 abbrev pub texts_of : CommandLine → List (List ℕ)
 texts_of (dump_line image number) = image ∷ number ∷ []
+texts_of (from_rt_line mode rt rt_name image uic name) = mode ∷ rt ∷ rt_name ∷ image ∷ uic ∷ name ∷ []
+texts_of (to_rt_line mode image uic name rt rt_name) = mode ∷ image ∷ uic ∷ name ∷ rt ∷ rt_name ∷ []
 texts_of (home_line image) = image ∷ []
 texts_of (name_line text) = text ∷ []
 texts_of (rights_line caller owner word) = caller ∷ owner ∷ word ∷ []
@@ -62,6 +72,27 @@ pub record IsLineOf (command : CommandLine) (line : List (List ℕ)) : Type 0 wh
 abbrev pub AsksDump : List ℕ → List ℕ → Words → Type 0
 AsksDump name text (Dump image number) = (image.now ≡ name) × SpellsNumber text number
 AsksDump name text _ = ⊥
+
+-- a mode of a copy is `image` or `text`
+abbrev pub IsMode : List ℕ → Type 0
+IsMode text = (text ≡ codes "image") ⊎ (text ≡ codes "text")
+
+-- a text spells this mode of a copy
+abbrev pub SpellsMode : List ℕ → CopyMode → Type 0
+SpellsMode text Image = text ≡ codes "image"
+SpellsMode text Text = text ≡ codes "text"
+
+-- the words ask that this file of this RT-11 volume be copied, in this mode, to a file of this name in this directory of this image
+abbrev pub AsksFromRt : List ℕ → List ℕ → List ℕ → List ℕ → List ℕ → List ℕ → Words → Type 0
+AsksFromRt mode rt rt_name image uic name (FlxFromRt in_mode from from_file to directory file) = SpellsMode mode in_mode ×
+    (from.now ≡ rt) × (from_file.now ≡ rt_name) × (to.now ≡ image) × SpellsUic uic directory × (file.now ≡ name)
+AsksFromRt mode rt rt_name image uic name _ = ⊥
+
+-- the words ask that this file in this directory of this image be copied, in this mode, to a file of this name of this RT-11 volume
+abbrev pub AsksToRt : List ℕ → List ℕ → List ℕ → List ℕ → List ℕ → List ℕ → Words → Type 0
+AsksToRt mode image uic name rt rt_name (FlxToRt in_mode from directory file to to_file) = SpellsMode mode in_mode ×
+    (from.now ≡ image) × SpellsUic uic directory × (file.now ≡ name) × (to.now ≡ rt) × (to_file.now ≡ rt_name)
+AsksToRt mode image uic name rt rt_name _ = ⊥
 
 -- the words ask for the home block of this image
 abbrev pub AsksHome : List ℕ → Words → Type 0
@@ -118,6 +149,8 @@ AsksRights caller owner word _ = ⊥
 -- the words ask what the command line says
 abbrev pub Asks : CommandLine → Words → Type 0
 Asks (dump_line image number) words = AsksDump image number words
+Asks (from_rt_line mode rt rt_name image uic name) words = AsksFromRt mode rt rt_name image uic name words
+Asks (to_rt_line mode image uic name rt rt_name) words = AsksToRt mode image uic name rt rt_name words
 Asks (home_line image) words = AsksHome image words
 Asks (name_line text) words = AsksName text words
 Asks (rights_line caller owner word) words = AsksRights caller owner word words
@@ -141,9 +174,15 @@ IsNoMax (Some text) = ¬ IsNumber text
 abbrev pub IsNoInit : List ℕ → List ℕ → Option (List ℕ) → Type 0
 IsNoInit blocks slots max = ¬ IsCount blocks ⊎ (¬ IsNumber slots ⊎ IsNoMax max)
 
+-- a copy's mode isn't one, or its user's code
+abbrev pub IsNoCopy : List ℕ → List ℕ → Type 0
+IsNoCopy mode uic = ¬ IsMode mode ⊎ IsNoUic uic
+
 -- one of its texts isn't as it has to be
 abbrev pub IsUnreadable : CommandLine → Type 0
 IsUnreadable (dump_line image number) = ¬ IsNumber number
+IsUnreadable (from_rt_line mode rt rt_name image uic name) = IsNoCopy mode uic
+IsUnreadable (to_rt_line mode image uic name rt rt_name) = IsNoCopy mode uic
 IsUnreadable (home_line image) = ⊥
 IsUnreadable (name_line text) = ⊥
 IsUnreadable (rights_line caller owner word) = IsNoUic caller ⊎ (IsNoUic owner ⊎ ¬ IsProtection word)

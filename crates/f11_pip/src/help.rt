@@ -11,11 +11,21 @@ struct Synopsis {
 /// The program's name and version, and what it was proved and built with.
 const VERSION: &str = "f11_pip 0.1, proved and built with Rattle, logic dac8208d650f15bf";
 
-const COMMANDS: [Synopsis; 10] = [
+const COMMANDS: [Synopsis; 12] = [
     Synopsis {
         name: "dump",
         words: "f11_pip dump IMAGE NUMBER",
         does: "shows the file header of this number of a Files-11 volume",
+    },
+    Synopsis {
+        name: "flx-from-rt",
+        words: "f11_pip flx-from-rt --mode M RT RTNAME IMAGE UIC NAME",
+        does: "copies a file of an RT-11 volume to a Files-11 one, as it is or as text: M is image or text, UIC names the directory",
+    },
+    Synopsis {
+        name: "flx-to-rt",
+        words: "f11_pip flx-to-rt --mode M IMAGE UIC NAME RT RTNAME",
+        does: "copies a file of a Files-11 volume to an RT-11 one, as it is or as text: M is image or text, UIC names the directory",
     },
     Synopsis {
         name: "home",

@@ -134,6 +134,8 @@ fn run<'a, W: Write>(
             let answer = print_header(rt.alloc(), &mut device, writer, number)?;
             Ok(looked(rt, image, answer, remark))
         }
+        Words::FlxFromRt { .. } => Err(Failure::Usage),
+        Words::FlxToRt { .. } => Err(Failure::Usage),
         Words::Home { image } => {
             let mut device = opened(FileImage::open_to_read(rt, image), image, remark)?;
             let answer = print_home(&mut device, writer)?;

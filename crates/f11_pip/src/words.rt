@@ -2,13 +2,14 @@
 ghost use Rattle.std.specs.Prelude.{◌≡◌, ◌≤◌, ◌⊎◌, length, ℕ, Bool, List, false, codes, map, option_map, Option, None, IfOk, IfErr, IsErr, IsOkAnd, MatchResult};
 ghost use Rattle.std.specs.Result.{result_ok};
 ghost use Rattle.clap.specs.Words.{app_of, first_value, found_of, rule_of, subcommand_rows_of};
-ghost use Rattle.f11_pip.specs.Words.{Asks, AsksDump, AsksHome, AsksInit, AsksName, AsksRights, AsksRtInit, AsksRtList, AsksRtVfy, AsksRun, AsksVfy, CommandLine, FailsToAsk, IsLineOf, IsNoInit, IsNoMax, IsNoUic, IsUnreadable, SpellsMax, rights_line, rt_init_line};
-ghost use Rattle.f11_pip.specs.Commands.{HasDumpWords, HasInitWords, HasRightsWords, HasRtInitWords, HasRunWords, HasVfyWords, HasWord, MeetsDump, MeetsInit, MeetsRights, MeetsRtInit, MeetsRun, MeetsVfy, MeetsWord, dump_app, files_app, flag_rule, home_app, init_app, init_options, name_app, needed_rule, option_rule, program_app, rights_app, rt_init_app, rt_list_app, rt_vfy_app, run_app, vfy_app};
+ghost use Rattle.f11_pip.specs.Words.{Asks, AsksDump, AsksFromRt, AsksHome, AsksInit, AsksName, AsksRights, AsksRtInit, AsksRtList, AsksRtVfy, AsksRun, AsksToRt, AsksVfy, CommandLine, FailsToAsk, IsLineOf, IsMode, IsNoCopy, IsNoInit, IsNoMax, IsNoUic, IsUnreadable, SpellsMax, SpellsMode, rights_line, rt_init_line};
+ghost use Rattle.f11_pip.specs.Commands.{HasCopyWords, HasDumpWords, HasInitWords, HasRightsWords, HasRtInitWords, HasRunWords, HasVfyWords, HasWord, MeetsCopy, MeetsDump, MeetsInit, MeetsRights, MeetsRtInit, MeetsRun, MeetsVfy, MeetsWord, copy_app, dump_app, files_app, flag_rule, from_rt_app, home_app, init_app, init_options, name_app, needed_rule, option_rule, program_app, rights_app, rt_init_app, rt_list_app, rt_vfy_app, run_app, to_rt_app, vfy_app, with_file_words, with_rt_words};
 ghost use Rattle.f11_numbers.specs.Decimal.{IsNumber, SpellsNumber};
 ghost use Rattle.f11_numbers.specs.Octal.{IsProtection, SpellsProtection, SpellsUic};
 
 use crate::outcome::Failure;
 use clap::{Arg, ArgAction, ArgMatches, Command};
+use f11_flx::CopyMode;
 use f11_numbers::{read_count, read_number, read_protection, read_uic};
 use f11_store::Uic;
 use std::alloc::{AllocError, Global};
@@ -21,6 +22,24 @@ pub enum Words<'a> {
     Dump {
         image: &'a str,
         number: u16,
+    },
+    /// `flx-from-rt --mode M RT RTNAME IMAGE UIC NAME`: how a file of an RT-11 volume is copied to which file in which directory
+    FlxFromRt {
+        mode: CopyMode,
+        rt: &'a str,
+        rt_name: &'a str,
+        image: &'a str,
+        directory: Uic,
+        name: &'a str,
+    },
+    /// `flx-to-rt --mode M IMAGE UIC NAME RT RTNAME`: how which file in which directory is copied to a file of an RT-11 volume
+    FlxToRt {
+        mode: CopyMode,
+        image: &'a str,
+        directory: Uic,
+        name: &'a str,
+        rt: &'a str,
+        rt_name: &'a str,
     },
     /// `home IMAGE`
     Home {
@@ -76,7 +95,7 @@ const MAX_FILES: u16 = 4000;
 /// Reads the words of a command line, of which the first is the program's name.
 ///
 /// Words that don't parse, that ask for help, or that are none at all are [`Failure::Usage`], and so are numbers, users' codes and
-/// protection words that [`read_number`], [`read_uic`] and [`read_protection`] don't read.
+/// protection words that [`read_number`], [`read_uic`] and [`read_protection`] don't read, and modes of a copy but `image` and `text`.
 pub fn parse<'a, S: AsStr>(alloc: Global, words: &'a [S]) -> Result<Words<'a>, Failure>
     ensures asks { (command : CommandLine) → IsLineOf command (map S.text words.entry.now)
         → MatchResult result (Asks command) (FailsToAsk command) }
@@ -95,7 +114,9 @@ fn program<'a>(alloc: Global) -> Result<Command<'a>, AllocError>
     files(alloc)?
         .subcommand(rt_init(alloc)?)?
         .subcommand(rt_list(alloc)?)?
-        .subcommand(rt_vfy(alloc)?)
+        .subcommand(rt_vfy(alloc)?)?
+        .subcommand(to_rt(alloc)?)?
+        .subcommand(from_rt(alloc)?)
 }
 
 /// The commands on Files-11 volumes.
@@ -117,6 +138,16 @@ fn command_of<'a>(matches: &ArgMatches<'a>) -> Result<Words<'a>, Failure>
     ensures dump { (image number : List ℕ)
         → MeetsDump image number (subcommand_rows_of matches.now)
         → MatchResult result (AsksDump image number) (λ _. ¬ IsNumber number) }
+    ensures from_rt { (mode rt rt_name image uic name : List ℕ)
+        → MeetsCopy (codes "flx-from-rt") mode image uic name rt rt_name
+        (subcommand_rows_of matches.now)
+        → MatchResult result (AsksFromRt mode rt rt_name image uic name)
+        (λ _. IsNoCopy mode uic) }
+    ensures to_rt { (mode image uic name rt rt_name : List ℕ)
+        → MeetsCopy (codes "flx-to-rt") mode image uic name rt rt_name
+        (subcommand_rows_of matches.now)
+        → MatchResult result (AsksToRt mode image uic name rt rt_name)
+        (λ _. IsNoCopy mode uic) }
     ensures home { (image : List ℕ)
         → MeetsWord (codes "home") (codes "image") image (subcommand_rows_of matches.now)
         → IsOkAnd result (AsksHome image) }
@@ -152,6 +183,8 @@ fn command_of<'a>(matches: &ArgMatches<'a>) -> Result<Words<'a>, Failure>
 {
     match matches.subcommand() {
         Some(("dump", given)) => dump_of(given),
+        Some(("flx-from-rt", given)) => from_rt_of(given),
+        Some(("flx-to-rt", given)) => to_rt_of(given),
         Some(("home", given)) => home_of(given),
         Some(("init", given)) => init_of(given),
         Some(("name", given)) => name_of(given),
@@ -191,6 +224,91 @@ fn number_of(given: &ArgMatches<'_>) -> Result<u16, Failure>
     ensures usage { IfErr result (λ failure. failure ≡ Failure.Usage) }
 {
     read_number(word_of(given, "number")?).ok_or(Failure::Usage)
+}
+
+fn from_rt<'a>(alloc: Global) -> Result<Command<'a>, AllocError>
+    ensures { IfOk result (λ command. app_of command ≡ from_rt_app) }
+{
+    with_file(alloc, with_rt_file(alloc, copy(alloc, "flx-from-rt")?)?)
+}
+
+fn from_rt_of<'a>(given: &ArgMatches<'a>) -> Result<Words<'a>, Failure>
+    ensures from_rt { (mode rt rt_name image uic name : List ℕ)
+        → HasCopyWords mode image uic name rt rt_name given.now
+        → MatchResult result (AsksFromRt mode rt rt_name image uic name)
+        (λ _. IsNoCopy mode uic) }
+    ensures usage { IfErr result (λ failure. failure ≡ Failure.Usage) }
+{
+    Ok(Words::FlxFromRt {
+        mode: mode_of(given)?,
+        rt: word_of(given, "rt")?,
+        rt_name: word_of(given, "rt-name")?,
+        image: word_of(given, "image")?,
+        directory: uic_of(given, "uic")?,
+        name: word_of(given, "name")?,
+    })
+}
+
+fn to_rt<'a>(alloc: Global) -> Result<Command<'a>, AllocError>
+    ensures { IfOk result (λ command. app_of command ≡ to_rt_app) }
+{
+    with_rt_file(alloc, with_file(alloc, copy(alloc, "flx-to-rt")?)?)
+}
+
+fn to_rt_of<'a>(given: &ArgMatches<'a>) -> Result<Words<'a>, Failure>
+    ensures to_rt { (mode image uic name rt rt_name : List ℕ)
+        → HasCopyWords mode image uic name rt rt_name given.now
+        → MatchResult result (AsksToRt mode image uic name rt rt_name)
+        (λ _. IsNoCopy mode uic) }
+    ensures usage { IfErr result (λ failure. failure ≡ Failure.Usage) }
+{
+    Ok(Words::FlxToRt {
+        mode: mode_of(given)?,
+        image: word_of(given, "image")?,
+        directory: uic_of(given, "uic")?,
+        name: word_of(given, "name")?,
+        rt: word_of(given, "rt")?,
+        rt_name: word_of(given, "rt-name")?,
+    })
+}
+
+/// A copy's command, with its mode.
+fn copy<'a>(alloc: Global, name: &'a str) -> Result<Command<'a>, AllocError>
+    ensures { IfOk result (λ command. app_of command ≡ copy_app name.entry.now) }
+{
+    Command::new(alloc, name).arg(option(alloc, "mode", true))
+}
+
+/// The command with the words of a file of a Files-11 volume: the image, the directory and the name.
+fn with_file<'a>(alloc: Global, command: Command<'a>) -> Result<Command<'a>, AllocError>
+    ensures { IfOk result (λ made. app_of made ≡ with_file_words (app_of command.entry)) }
+{
+    command
+        .arg(needed(alloc, "image"))?
+        .arg(needed(alloc, "uic"))?
+        .arg(needed(alloc, "name"))
+}
+
+/// The command with the words of a file of an RT-11 volume: the image and the name.
+fn with_rt_file<'a>(alloc: Global, command: Command<'a>) -> Result<Command<'a>, AllocError>
+    ensures { IfOk result (λ made. app_of made ≡ with_rt_words (app_of command.entry)) }
+{
+    command
+        .arg(needed(alloc, "rt"))?
+        .arg(needed(alloc, "rt-name"))
+}
+
+/// The mode of a copy among the words.
+fn mode_of(given: &ArgMatches<'_>) -> Result<CopyMode, Failure>
+    ensures mode { (text : List ℕ) → HasWord (codes "mode") text given.now
+        → MatchResult result (SpellsMode text) (λ _. ¬ IsMode text) }
+    ensures usage { IfErr result (λ failure. failure ≡ Failure.Usage) }
+{
+    match word_of(given, "mode")? {
+        "image" => Ok(CopyMode::Image),
+        "text" => Ok(CopyMode::Text),
+        _ => Err(Failure::Usage),
+    }
 }
 
 fn home<'a>(alloc: Global) -> Result<Command<'a>, AllocError>

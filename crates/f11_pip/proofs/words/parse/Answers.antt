@@ -1,8 +1,8 @@
 use Rattle.std.proofs.Common.{[], arith, ◌∙◌, ap, ap₂, codes, false, map, true}
 use Rattle.clap.specs.Words.{is_simple, subcommand_of, takes}
-use Rattle.f11_pip.specs.Commands.{command_and_flag, command_and_word, command_and_words, rt_init_names}
-use Rattle.f11_pip.specs.Words.{Asks, IsUnreadable, dump_line, home_line, name_line, rights_line, rt_init_line, rt_list_line, rt_vfy_line, run_line, update_line, vfy_line}
-use Rattle.f11_pip.proofs.LineLemmas.{takes-line, subcommand_of-rt_init}
+use Rattle.f11_pip.specs.Commands.{command_and_flag, command_and_word, command_and_words, copy_names, rt_init_names}
+use Rattle.f11_pip.specs.Words.{Asks, IsUnreadable, dump_line, from_rt_line, home_line, name_line, rights_line, rt_init_line, rt_list_line, rt_vfy_line, run_line, to_rt_line, update_line, vfy_line}
+use Rattle.f11_pip.proofs.LineLemmas.{takes-line, subcommand_of-from_rt, subcommand_of-rt_init, subcommand_of-to_rt}
 use Rattle.f11_pip.proofs.WordsLemmas.{failure_out_of_memory, match_ok, no_memory_or_none, none_or_no_memory, subcommand_of-rt_list, subcommand_of-rt_vfy, subcommand_of-run, subcommand_of-update, subcommand_of-vfy, subcommand_of-dump, subcommand_of-home, subcommand_of-name, subcommand_of-rights, subcommand_of-none, is_simple-program}
 use Rattle.f11_pip.proofs.words.parse.Goals as goal
 
@@ -73,6 +73,18 @@ returns-clause-asks g c (rt_init_line blocks segments image) line =
     none_or_no_memory (Asks (rt_init_line blocks segments image)) (IsUnreadable (rt_init_line blocks segments image)) c.command_of.result
     (c.command_of.ensures.rt_init blocks segments image (ap (command_and_words rt_init_names) met
     ∙ subcommand_of-rt_init line.program blocks segments image (line.plain 0 [] (omega arith)) (line.plain 1 [] (omega arith)) (line.plain 2 [] (omega arith))))
+returns-clause-asks g c (from_rt_line mode rt rt_name image uic name) line =
+    let simple = ap is_simple c.in_ok-program.ensures ∙ is_simple-program in
+    let met = (c.in_ok-matches.ensures.matches simple).1 ∙ ap₂ subcommand_of c.in_ok-program.ensures line.is_line in
+    none_or_no_memory (Asks (from_rt_line mode rt rt_name image uic name)) (IsUnreadable (from_rt_line mode rt rt_name image uic name)) c.command_of.result
+    (c.command_of.ensures.from_rt mode rt rt_name image uic name (ap (command_and_words copy_names) met
+    ∙ subcommand_of-from_rt line.program mode rt rt_name image uic name line.plain))
+returns-clause-asks g c (to_rt_line mode image uic name rt rt_name) line =
+    let simple = ap is_simple c.in_ok-program.ensures ∙ is_simple-program in
+    let met = (c.in_ok-matches.ensures.matches simple).1 ∙ ap₂ subcommand_of c.in_ok-program.ensures line.is_line in
+    none_or_no_memory (Asks (to_rt_line mode image uic name rt rt_name)) (IsUnreadable (to_rt_line mode image uic name rt rt_name)) c.command_of.result
+    (c.command_of.ensures.to_rt mode image uic name rt rt_name (ap (command_and_words copy_names) met
+    ∙ subcommand_of-to_rt line.program mode image uic name rt rt_name line.plain))
 
 pub returns-clause-none : goal.returns-clause-none
 returns-clause-none g c few =
