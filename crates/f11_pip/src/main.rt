@@ -11,10 +11,12 @@ mod remarks;
 mod words;
 
 use f11_commands::{
-    Answer, print_header, print_home, print_init, print_name, print_rights, print_rt_init,
-    print_rt_list, print_rt_vfy, print_run, print_vfy, print_vfy_update, refuse_init,
+    Answer, CopyAnswer, Copying, Direction, System, print_copy, print_header, print_home,
+    print_init, print_name, print_rights, print_rt_init, print_rt_list, print_rt_vfy, print_run,
+    print_vfy, print_vfy_update, read_names, refuse_init, refuse_names,
 };
 use f11_dev::{CannotOpen, FileImage};
+use f11_flx::CopyMode;
 use f11_store::Uic;
 use f11_vfy::{InitParams, MOST_BLOCKS};
 use outcome::{Failure, status};
@@ -134,8 +136,44 @@ fn run<'a, W: Write>(
             let answer = print_header(rt.alloc(), &mut device, writer, number)?;
             Ok(looked(rt, image, answer, remark))
         }
-        Words::FlxFromRt { .. } => Err(Failure::Usage),
-        Words::FlxToRt { .. } => Err(Failure::Usage),
+        Words::FlxFromRt {
+            mode,
+            rt: rt_image,
+            rt_name,
+            image,
+            directory,
+            name,
+        } => {
+            let asked = Asked {
+                direction: Direction::FromRt,
+                mode,
+                directory,
+                image,
+                name,
+                rt_image,
+                rt_name,
+            };
+            copy(rt, &asked, writer, remark)
+        }
+        Words::FlxToRt {
+            mode,
+            image,
+            directory,
+            name,
+            rt: rt_image,
+            rt_name,
+        } => {
+            let asked = Asked {
+                direction: Direction::ToRt,
+                mode,
+                directory,
+                image,
+                name,
+                rt_image,
+                rt_name,
+            };
+            copy(rt, &asked, writer, remark)
+        }
         Words::Home { image } => {
             let mut device = opened(FileImage::open_to_read(rt, image), image, remark)?;
             let answer = print_home(&mut device, writer)?;
@@ -215,6 +253,82 @@ fn vfy<'a, W: Write>(
         answer?
     };
     Ok(looked(rt, image, answer, remark))
+}
+
+/// What a command that copies is asked.
+#[derive(Clone, Copy)]
+struct Asked<'a> {
+    direction: Direction,
+    mode: CopyMode,
+    directory: Uic,
+    image: &'a str,
+    name: &'a str,
+    rt_image: &'a str,
+    rt_name: &'a str,
+}
+
+/// Copies a file between two volumes. The image that is copied from is opened to be read alone.
+fn copy<'a, W: Write>(
+    rt: &HostRuntime,
+    asked: &Asked<'a>,
+    writer: &mut W,
+    remark: &mut Option<Remark<'a>>,
+) -> Result<Answer, Failure> {
+    let Some((name, rt_name)) = read_names(asked.name, asked.rt_name) else {
+        return Ok(refuse_names(writer)?);
+    };
+    let copying = Copying {
+        direction: asked.direction,
+        mode: asked.mode,
+        directory: asked.directory,
+        name,
+        rt_name,
+    };
+    let (files, rt_volume) = opened_both(rt, asked, remark)?;
+    let (_, _, answer) = print_copy(rt.alloc(), files, rt_volume, &copying, writer);
+    Ok(copied(rt, asked, answer?, remark))
+}
+
+/// The images of a copy, which are opened in the order of the words: the one that is copied from first, and to be read alone.
+fn opened_both<'a>(
+    rt: &HostRuntime,
+    asked: &Asked<'a>,
+    remark: &mut Option<Remark<'a>>,
+) -> Result<(FileImage<File>, FileImage<File>), Failure> {
+    let (image, rt_image) = (asked.image, asked.rt_image);
+    match asked.direction {
+        Direction::ToRt => {
+            let files = opened(FileImage::open_to_read(rt, image), image, remark)?;
+            let target = opened(FileImage::open(rt, rt_image), rt_image, remark)?;
+            Ok((files, target))
+        }
+        Direction::FromRt => {
+            let source = opened(FileImage::open_to_read(rt, rt_image), rt_image, remark)?;
+            let files = opened(FileImage::open(rt, image), image, remark)?;
+            Ok((files, source))
+        }
+    }
+}
+
+/// The answer of a copy, and a remark on the file of the volume that has a fault, or of either where there is one.
+fn copied<'a>(
+    rt: &HostRuntime,
+    asked: &Asked<'a>,
+    answer: CopyAnswer,
+    remark: &mut Option<Remark<'a>>,
+) -> Answer {
+    *remark = match answer {
+        CopyAnswer::Faulty(System::Files11) => remarks::of_image(rt, asked.image, true),
+        CopyAnswer::Faulty(System::Rt11) => remarks::of_image(rt, asked.rt_image, true),
+        CopyAnswer::Copied | CopyAnswer::Refused => {
+            remarks::of_image(rt, asked.image, false)
+                .or(remarks::of_image(rt, asked.rt_image, false))
+        }
+    };
+    match answer {
+        CopyAnswer::Copied => Answer::Done,
+        CopyAnswer::Refused | CopyAnswer::Faulty(_) => Answer::Fault,
+    }
 }
 
 /// What was opened under a word, and where nothing could be, a remark why.
