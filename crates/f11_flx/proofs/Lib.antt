@@ -46,3 +46,4 @@ pub mod UndoneLemmas
 pub mod VolumeLemmas
 pub mod WalkLemmas
 pub mod WritingLemmas
+mod WholeLemmas

@@ -20,7 +20,7 @@ use Rattle.f11_flx.specs.RtOutcome.{LeavesRt}
 use Rattle.f11_flx.specs.Seen.{IsSeenPlain}
 use Rattle.f11_flx.specs.Target.{rt_disk, rt_store}
 use Rattle.f11_flx.specs.ToRt.{CopiesFile, FailsToCopyFile}
-use Rattle.f11_flx.specs.CopyToRt.{CopiesToRt, FailsToCopyToRt, reading, reading_of}
+use Rattle.f11_flx.specs.CopyToRt.{CopiesToRt, FailsToCopyToRt, reading, reading_of, HasWholeBlocks}
 use Rattle.f11_flx.specs.declared.mode.CopyMode.{CopyMode}
 use Rattle.f11_flx.specs.declared.refusal.FlxRefusal.{FlxRefusal}
 
@@ -80,3 +80,7 @@ abbrev pub RefusedLeavesRt : {V E : Type 0} {met : Ghosts E} → Service V → (
 RefusedLeavesRt {V} {E} {met} S disk rt =
     (m : CopyMode) (who : Who) (lun : ℕ) (file : FileId) (name : List ℕ) (day : ℕ) (e : FlxRefusal) (old new : V) (rt' : RtAccepted E met) →
     FailsToCopyFile m S disk who lun file name day e old new rt rt' → LeavesRt disk name e rt rt'
+
+-- each block of a store's files has 512 bytes
+abbrev pub BlocksAreWhole : Store → Type 0
+BlocksAreWhole s = (id : FileId) → HasWholeBlocks (file_named s id)
