@@ -35,6 +35,7 @@ use Rattle.f11_flx.specs.ToRt.{CopiesFile, CopiesLocked, CountsAs, FailsLocked, 
 use Rattle.rt11_volume.specs.Files.{is_fault as rt_fault}
 use Rattle.rt11_volume.specs.declared.volume.RtAccepted.{RtAccepted}
 use Rattle.f11_flx.proofs.CopyingLemmas.{not-lethal, seen-plain}
+use Rattle.f11_flx.proofs.KeptToRtLemmas.{copied-keeps, uncopied-keeps}
 use Rattle.f11_flx.proofs.RefusedLemmas.{copied-stays, refused-stays}
 
 -- Things were asked of a volume, and whether the last of them met a device fault, and failed the volume.
@@ -395,6 +396,7 @@ module _ {D : Type 0} {met : Ghosts D} (who : Who) (lun : ℕ) (name : List ℕ)
         let h = p.0 in
         record {
           fares = record { failures = h.failures; quiet = h.quiet; honest = h.honest; next = h.next; spent = h.spent; accepted = p.1 };
+          keeps = copied-keeps who disk lun file name day m old new rt rt' count made;
           asked = record { asked = h.asked; tried = h.tried; only = h.only };
           stays = λ sound whole. copied-stays of_volume store_of_volume is_sound seen-plain who lun file name (store_of_volume old) disk day m count old new rt rt' refl sound made;
         }
@@ -403,6 +405,7 @@ module _ {D : Type 0} {met : Ghosts D} (who : Who) (lun : ℕ) (name : List ℕ)
         let h = p.0 in
         record {
           fares = record { failures = h.failures; quiet = h.quiet; honest = h.honest; next = h.next; spent = h.spent; accepted = p.1 };
+          keeps = uncopied-keeps who disk lun file name day m old new rt rt' e failed;
           asked = record { asked = h.asked; tried = h.tried; only = h.only };
           stays = λ sound whole. refused-stays of_volume store_of_volume is_sound seen-plain who lun file name (store_of_volume old) disk day m e old new rt rt' refl sound (not-lethal (is_lethal e) whole) failed;
         }

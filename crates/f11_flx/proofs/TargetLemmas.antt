@@ -54,6 +54,13 @@ module _ {E : Type 0} {met : Ghosts E} (disk : E → Disk) (old new : RtAccepted
   pub unfailed-of : {T : Type 0} (e : RtRefusal) → AnswersRt {T = T} disk (Err e) old new → has_failed old ≡ false → e ≢ rt.Failed
   unfailed-of {T = T} e a alive is = let h : has_failed old ≡ true = a.failed.0 (ap (as-err {T = T}) is) in absurd (cc)
 
+  -- a volume that had failed answers so, and nothing is done
+  pub dead-of : {T : Type 0} (e : RtRefusal) → AnswersRt {T = T} disk (Err e) old new → has_failed old ≡ true → (e ≡ rt.Failed) × (rt_disk disk new ≡ rt_disk disk old)
+  dead-of {T = T} e a failed = (same (a.failed.1 failed), a.untouched failed)
+    where
+      same : as-err {T = T} e ≡ as-err rt.Failed → e ≡ rt.Failed
+      same is = cc
+
   pub deletes : (name : List ℕ) (P : Image → Type 0) (most : ℕ) (result : Result Unit RtRefusal) → AnswersRt disk result old new →
       Went P (rt_disk disk old) (rt_disk disk new) most (faults_in result) →
       OnOk result (IsSoundDisk (rt_disk disk old) → DeletesFile name (rt_disk disk old).image (rt_disk disk new).image) →
