@@ -1,15 +1,13 @@
 -- A volume that a copy asks, seen as the plain store.
-use Rattle.std.proofs.Common.{◌≡◌, ◌⊎◌, inl, inr, ℕ, ◌+◌, ◌<◌, ◌≤◌, ◌&&◌, ◌||◌, Bool, true, false, not, nat_lt, IsTrue, if◌then◌else◌, List, [], ◌∷◌, Option, Some, None, Result, Ok, Err, IfErr, IfOk, refl, sym, ap, ◌∙◌, subst, arith}
+use Rattle.std.proofs.Common.{◌≡◌, ◌⊎◌, inl, inr, ℕ, ◌&&◌, ◌||◌, Bool, true, false, not, IsTrue, List, [], ◌∷◌, Some, None, Result, Ok, Err, IfErr, IfOk, refl, sym, ◌∙◌, subst}
 use Rattle.f11_dev.specs.Disk.{Disk}
 use Rattle.f11_dev.specs.declared.device.Device.{Ghosts}
 use Rattle.f11_store.specs.Run.{Answer, Call}
-use Rattle.f11_store.specs.Store.{Store}
 use Rattle.f11_store.specs.declared.files.FileId.{FileId}
 use Rattle.rt11_volume.specs.Files.{is_fault}
 use Rattle.rt11_volume.specs.Verifying.Verdict.{IsSoundDisk}
 use Rattle.rt11_volume.specs.declared.volume.RtAccepted.{RtAccepted}
 use Rattle.f11_store.specs.declared.refusals.Refusal.{Refusal}
-use Rattle.f11_store.specs.declared.requests.Reply.{Reply}
 use Rattle.f11_store.specs.declared.requests.Request.TheVariants as request
 use Rattle.f11_runs.specs.Each.{Steps, answer_with, call_with}
 use Rattle.f11_store.specs.Causes.{◌⇐◌, first_of, holds_none}
@@ -19,8 +17,8 @@ use Rattle.f11_fcp.specs.Handles.{store_at}
 use Rattle.f11_fcp.specs.Lists.{ServesCall, is_sound, store_of_volume}
 use Rattle.f11_fcp.specs.Serving.{is_spent, state_in}
 use Rattle.f11_fcp.specs.declared.volume.Volume.{Volume}
-use Rattle.f11_flx.specs.Asking.{Answers, Asking, Denies, Grants, IsMeasured, Who, asks, counts, plain, reads, told, writes}
-use Rattle.f11_flx.specs.Copying.{FaresRt, IsAskedLength, KeepsFailed, MakesRtFile, WhereSound, is_whole, of_rt, of_volume}
+use Rattle.f11_flx.specs.Asking.{Asking, Denies, Grants, Who, asks, counts, plain, reads, told, writes}
+use Rattle.f11_flx.specs.Copying.{FaresRt, KeepsFailed, MakesRtFile, WhereSound, is_whole, of_rt, of_volume}
 use Rattle.f11_flx.specs.CopyToRt.{CopiesToRt, FailsToCopyToRt}
 use Rattle.f11_flx.specs.EndedToRt.{EndsToRt}
 use Rattle.f11_flx.specs.Refusal.{is_lethal}

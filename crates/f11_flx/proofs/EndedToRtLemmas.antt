@@ -147,21 +147,22 @@ module _ {V : Type 0} (S : Service V) (who : Who) (lun : ℕ) (name : List ℕ) 
   module _ {W : Type 0} (K : Taking W) (R : Refusing W)
       (rt : (e : FlxRefusal) (place : ℕ) (last : List ℕ) (a b : W) → R name place last e a b → (r : RtRefusal) × (e ≡ Rt r))
     where
-    taken-came : (e : FlxRefusal) (place : ℕ) (last : List ℕ) (a b : W) (v w : V) → R name place last e a b → Holds S who v w → Came S who e v w
-    taken-came e place last a b v w r h = let k = rt e place last a b r in came-as S who e (Rt k.0) v w k.1 (ends-held S who v w h)
+      taken-came : (e : FlxRefusal) (place : ℕ) (last : List ℕ) (a b : W) (v w : V) → R name place last e a b → Holds S who v w → Came S who e v w
+      taken-came e place last a b v w r h = let k = rt e place last a b r in came-as S who e (Rt k.0) v w k.1 (ends-held S who v w h)
 
-    text-came : (text : ToText) (count : ℕ) (e : FlxRefusal) (v w : V) (t t' : W) → FailsToCopyText S K R who lun name text count e v w t t' → Came S who e v w
-    text-came text count e v w t t' (inl d) = came-as S who e (Files d.refusal) v w d.is (broke-reads S who lun 0 d.given d.refusal v w d.breaks)
-    text-came text count e v w t t' (inr (inl d)) = came-as S who e BadRecord v w d.is (ends-held S who v w (held-reads S who lun 0 d.given v w d.asked))
-    text-came text count e v w t t' (inr (inr d)) =
-        taken-came e (length d.pieces) d.last d.between t' v w d.refused (held-reads S who lun 0 d.given v w d.asked)
+      text-came : (text : ToText) (count : ℕ) (e : FlxRefusal) (v w : V) (t t' : W) → FailsToCopyText S K R who lun name text count e v w t t' →
+          Came S who e v w
+      text-came text count e v w t t' (inl d) = came-as S who e (Files d.refusal) v w d.is (broke-reads S who lun 0 d.given d.refusal v w d.breaks)
+      text-came text count e v w t t' (inr (inl d)) = came-as S who e BadRecord v w d.is (ends-held S who v w (held-reads S who lun 0 d.given v w d.asked))
+      text-came text count e v w t t' (inr (inr d)) =
+          taken-came e (length d.pieces) d.last d.between t' v w d.refused (held-reads S who lun 0 d.given v w d.asked)
 
-    fails-came : (m : CopyMode) (attr : List ℕ) (n : ℕ) (e : FlxRefusal) (v w : V) (t t' : W) → FailsAs m S K R who lun name attr n e v w t t' →
-        Came S who e v w
-    fails-came Image attr n e v w t t' (inl d) = came-as S who e (Files d.refusal) v w d.is (broke-reads S who lun 0 d.given d.refusal v w d.breaks)
-    fails-came Image attr n e v w t t' (inr d) = taken-came e (length d.pieces) d.last d.between t' v w d.refused (held-reads S who lun 0 d.given v w d.asked)
-    fails-came Text attr n e v w t t' (inl k) = came-as S who e BadRecord v w k.is (ends-held S who v w (held-none S who v w k.stays))
-    fails-came Text attr n e v w t t' (inr k) = text-came k.0 (up_to_end attr n) e v w t t' k.2
+      fails-came : (m : CopyMode) (attr : List ℕ) (n : ℕ) (e : FlxRefusal) (v w : V) (t t' : W) → FailsAs m S K R who lun name attr n e v w t t' →
+          Came S who e v w
+      fails-came Image attr n e v w t t' (inl d) = came-as S who e (Files d.refusal) v w d.is (broke-reads S who lun 0 d.given d.refusal v w d.breaks)
+      fails-came Image attr n e v w t t' (inr d) = taken-came e (length d.pieces) d.last d.between t' v w d.refused (held-reads S who lun 0 d.given v w d.asked)
+      fails-came Text attr n e v w t t' (inl k) = came-as S who e BadRecord v w k.is (ends-held S who v w (held-none S who v w k.stays))
+      fails-came Text attr n e v w t t' (inr k) = text-came k.0 (up_to_end attr n) e v w t t' k.2
 
   copies-held : {W : Type 0} (K : Taking W) (m : CopyMode) (attr : List ℕ) (n count : ℕ) (v w : V) (t t' : W) →
       CopiesAs m S K who lun name attr n count v w t t' → Holds S who v w
@@ -266,31 +267,31 @@ module _ {V : Type 0} (S : Service V) (who : Who) (lun : ℕ) (name : List ℕ) 
           by (inr (inr d)) = absurd (files-rt r d.refused.refusal d.refused.is)
 
       fill-left : (m : CopyMode) (attr : List ℕ) (n count : ℕ) (r : Refusal) (v w : V) (a b : RtAccepted E met) → is_lethal (Files r) ≡ true →
-          FailsToFill m S disk who lun name attr n count day (Files r) v w a b → IsMadeInPart disk name a b
+          FailsToFill m S disk who lun name attr n count day (Files r) v w a b → IsMadeInPart disk name day a b
       fill-left m attr n count r v w a b lethal (inl h) = absurd (files-rt r h.refusal h.is)
       fill-left m attr n count r v w a b lethal (inr h) =
           let u = undo-left h.refusal (Files r) r h.stopped b refl lethal h.undoes in
           let fails = subst (λ x. FailsAs m S (rt_takes disk) (rt_refuses disk) who lun name attr n x v w h.made h.stopped) u.0 h.fails in
           let t = took-files m attr n r v w h.made h.stopped fails in
-          subst (λ x. IsMadeInPart disk name a x) (sym u.1) (record { blocks = count; day = day; made = h.made; makes = h.makes; pieces = t.0; took = t.1 })
+          subst (λ x. IsMadeInPart disk name day a x) (sym u.1) (record { blocks = count; made = h.made; makes = h.makes; pieces = t.0; took = t.1 })
 
       locked-left : (m : CopyMode) (r : Refusal) (v w : V) (a b : RtAccepted E met) → is_lethal (Files r) ≡ true →
-          FailsLocked m S disk who lun file name day (Files r) v w a b → (b ≡ a) ⊎ (IsMadeInPart disk name a b)
+          FailsLocked m S disk who lun file name day (Files r) v w a b → (b ≡ a) ⊎ (IsMadeInPart disk name day a b)
       locked-left m r v w a b lethal (inl k) = inl k.left
       locked-left m r v w a b lethal (inr (inl k)) = inl k.left
       locked-left m r v w a b lethal (inr (inr k)) = inr (fill-left m k.attr k.blocks k.count r k.walked w a b lethal k.fails)
 
       unclosed-left : (m : CopyMode) (r : Refusal) (v w : V) (a b : RtAccepted E met) → is_lethal (Files r) ≡ true →
-          IsNotClosed m S disk who lun file name day (Files r) v w a b → IsMadeInPart disk name a b
+          IsNotClosed m S disk who lun file name day (Files r) v w a b → IsMadeInPart disk name day a b
       unclosed-left m r v w a b lethal k =
           let u = undo-left (Files k.refusal) (Files r) r k.filled b refl lethal k.undoes in
           let f = k.copies.fills in
           let t = copies-some disk name S who lun m k.copies.attr k.copies.blocks f.taken k.copies.walked k.left f.made k.filled f.copies in
-          subst (λ x. IsMadeInPart disk name a x) (sym u.1) (record { blocks = k.count; day = day; made = f.made; makes = f.makes; pieces = t.0; took = t.1 })
+          subst (λ x. IsMadeInPart disk name day a x) (sym u.1) (record { blocks = k.count; made = f.made; makes = f.makes; pieces = t.0; took = t.1 })
 
       -- an answer by which the copy ended
       came-ends : (m : CopyMode) (e : FlxRefusal) (v w : V) (a b : RtAccepted E met) → Came S who e v w →
-          ((r : Refusal) → e ≡ Files r → (b ≡ a) ⊎ (IsMadeInPart disk name a b)) →
+          ((r : Refusal) → e ≡ Files r → (b ≡ a) ⊎ (IsMadeInPart disk name day a b)) →
           EndsToRt m S disk who lun file name day e v w a b
       came-ends m (Files r) v w a b h left = record { files = broke-ends S who r v w h; target = inl (left r refl) }
       came-ends m (Rt r) v w a b h left = h

@@ -107,26 +107,26 @@ module _ {D : Type 0} {met : Ghosts D} (who : Who) where
   module _ {E : Type 0} {met' : Ghosts E} (disk : E → Disk) (lun : ℕ) (file : FileId) (name : List ℕ) (day : ℕ) (m : CopyMode)
       (v w : Volume D met) (a b : RtAccepted E met')
     where
-    pub copied-keeps : (count : ℕ) → CopiesFile m of_volume disk who lun file name count day v w a b → KeepsSpent (given count) v w
-    copied-keeps count h =
-        let alive = granted-unspent who (asks (request.Access file access.Locked lun)) v h.opened h.opens in
-        record {
-          only = λ is. absurd (no-answer count (Files VolumeFailed) is);
-          refused = λ dead. true-false (sym dead ∙ alive);
-          untouched = λ dead. absurd (true-false (sym dead ∙ alive));
-        }
+      pub copied-keeps : (count : ℕ) → CopiesFile m of_volume disk who lun file name count day v w a b → KeepsSpent (given count) v w
+      copied-keeps count h =
+          let alive = granted-unspent who (asks (request.Access file access.Locked lun)) v h.opened h.opens in
+          record {
+            only = λ is. absurd (no-answer count (Files VolumeFailed) is);
+            refused = λ dead. true-false (sym dead ∙ alive);
+            untouched = λ dead. absurd (true-false (sym dead ∙ alive));
+          }
 
-    pub uncopied-keeps : (e : FlxRefusal) → FailsToCopyFile m of_volume disk who lun file name day e v w a b → KeepsSpent (refused e) v w
-    uncopied-keeps e (inl k) =
-        subst (λ x. KeepsSpent (refused x) v w) (sym k.is) (first-keeps who (request.Access file access.Locked lun) k.refusal v w k.denied)
-    uncopied-keeps e (inr (inl k)) =
-        let x = asks (request.Access file access.Locked lun) in
-        let came = locked-came of_volume who lun name file disk day m k.refusal k.opened k.stopped a b k.fails in
-        let live = came-live k.refusal k.opened k.stopped (stays-unspent who x v k.opened k.opens) came in
-        keeps-live e v w (granted-unspent who x v k.opened k.opens) (gave-other lun k.refusal e k.stopped w live k.gives)
-    uncopied-keeps e (inr (inr k)) =
-        let alive = granted-unspent who (asks (request.Access file access.Locked lun)) v k.opened k.opens in
-        keeps-live e v w alive (came-live e v w alive (unclosed-came of_volume who lun name file disk day m e v w a b k)).other
+      pub uncopied-keeps : (e : FlxRefusal) → FailsToCopyFile m of_volume disk who lun file name day e v w a b → KeepsSpent (refused e) v w
+      uncopied-keeps e (inl k) =
+          subst (λ x. KeepsSpent (refused x) v w) (sym k.is) (first-keeps who (request.Access file access.Locked lun) k.refusal v w k.denied)
+      uncopied-keeps e (inr (inl k)) =
+          let x = asks (request.Access file access.Locked lun) in
+          let came = locked-came of_volume who lun name file disk day m k.refusal k.opened k.stopped a b k.fails in
+          let live = came-live k.refusal k.opened k.stopped (stays-unspent who x v k.opened k.opens) came in
+          keeps-live e v w (granted-unspent who x v k.opened k.opens) (gave-other lun k.refusal e k.stopped w live k.gives)
+      uncopied-keeps e (inr (inr k)) =
+          let alive = granted-unspent who (asks (request.Access file access.Locked lun)) v k.opened k.opens in
+          keeps-live e v w alive (came-live e v w alive (unclosed-came of_volume who lun name file disk day m e v w a b k)).other
 
 -- and of the RT-11 volume
 module _ {E : Type 0} {met : Ghosts E} (disk : E → Disk) where

@@ -1,6 +1,6 @@
 -- What asking a volume leaves of it, on any device.
-use Rattle.std.proofs.Common.{◌≡◌, ◌⊎◌, inl, inr, ℕ, ◌+◌, ◌<◌, ◌≤◌, ◌&&◌, ◌||◌, Bool, true, false, not, IsTrue, if◌then◌else◌, List, [], ◌∷◌, ◌++◌, length, suc, All, Result, Ok, Err, IfErr, IfOk, refl, sym, ap, ◌∙◌, subst, arith}
-use Rattle.std.proofs.lemmas.List.Elements.{All-append, All-cons, All-head, All-nil, All-tail}
+use Rattle.std.proofs.Common.{◌≡◌, ◌⊎◌, inl, inr, ℕ, ◌+◌, ◌<◌, ◌&&◌, ◌||◌, Bool, true, false, not, IsTrue, if◌then◌else◌, List, [], ◌∷◌, ◌++◌, length, suc, All, Result, Ok, Err, IfErr, IfOk, refl, sym, ap, ◌∙◌, subst, arith}
+use Rattle.std.proofs.lemmas.List.Elements.{All-append, All-cons, All-nil}
 use Rattle.f11_dev.specs.Disk.{Disk}
 use Rattle.f11_dev.specs.Looked.{Looked}
 use Rattle.f11_dev.specs.declared.device.Device.{Ghosts}
@@ -20,7 +20,7 @@ use Rattle.f11_fcp.specs.Lists.{ServesCall, failures_of, is_sound, store_of_volu
 use Rattle.f11_fcp.specs.Serving.{StaysAccepted, is_spent, state_in}
 use Rattle.f11_fcp.specs.declared.volume.Volume.{Volume}
 use Rattle.f11_flx.specs.Asking.{Asking, BreaksOff, Denies, Granted, Grants, Tried, Who, asks, counts, reads, reads_of, told, writes}
-use Rattle.f11_flx.specs.Copying.{AsksOnly, FaresFiles, IsAskedLength, ReadsFiles, is_reading, of_files, of_volume}
+use Rattle.f11_flx.specs.Copying.{IsAskedLength, ReadsFiles, is_reading, of_files, of_volume}
 use Rattle.rt11_volume.specs.declared.refusal.RtRefusal.{RtRefusal}
 use Rattle.f11_flx.specs.Copies.{FailsToCopyText}
 use Rattle.f11_flx.specs.Filling.{Refusing, Taking}

@@ -1,5 +1,5 @@
 -- What the calls on an RT-11 volume tell of a file that is made.
-use Rattle.std.proofs.Common.{◌≡◌, ◌≢◌, ℕ, ◌+◌, ◌<◌, ◌≤◌, ◌||◌, Bool, true, false, nat_lt, if◌then◌else◌, List, [], ◌∷◌, length, slice_index_or, Result, Ok, Err, OnOk, OnErr, IfErr, IsErrOf, refl, sym, ◌∙◌, ap, subst, arith}
+use Rattle.std.proofs.Common.{◌≡◌, ◌≢◌, ℕ, ◌<◌, ◌≤◌, Bool, true, false, if◌then◌else◌, List, [], ◌∷◌, length, slice_index_or, Result, Ok, Err, OnOk, OnErr, IfErr, refl, sym, ◌∙◌, ap, subst, arith}
 use Rattle.std.proofs.lemmas.List.{length-map}
 use Rattle.std.proofs.lemmas.List.FromFn.{length-range_with_len}
 use Rattle.f11_dev.specs.Disk.{Disk}
@@ -7,20 +7,18 @@ use Rattle.f11_dev.specs.Image.{Image}
 use Rattle.f11_dev.specs.Looked.{Looked}
 use Rattle.f11_dev.specs.Went.{Went}
 use Rattle.f11_dev.specs.declared.device.Device.{Ghosts}
-use Rattle.rt11_volume.specs.Calls.{has_failed, volume_device}
-use Rattle.rt11_volume.specs.Files.{AnswersRt, CreatesFile, DeletesFile, FailsToCreate, FailsToDelete, FailsToReach, HasBlockWritten, WritesBlock, faults_in, file_area, is_device_fault, is_fault}
-use Rattle.rt11_volume.specs.Laws.{HasGone, HasMade, HasReplaced}
+use Rattle.rt11_volume.specs.Calls.{has_failed}
+use Rattle.rt11_volume.specs.Files.{AnswersRt, CreatesFile, DeletesFile, FailsToDelete, FailsToReach, HasBlockWritten, faults_in, file_area, is_device_fault, is_fault}
 use Rattle.rt11_volume.specs.Named.{files_named}
 use Rattle.rt11_volume.specs.RtName.{IsRtName}
-use Rattle.rt11_volume.specs.Entry.{area_length}
-use Rattle.rt11_volume.specs.Segment.{Segment, area_start}
-use Rattle.rt11_volume.specs.Store.{Area, RtStore, area_at, rt_store_of}
+use Rattle.rt11_volume.specs.Segment.{Segment}
+use Rattle.rt11_volume.specs.Store.{Area, RtStore, area_at}
 use Rattle.rt11_volume.specs.Verifying.Verdict.{IsSoundDisk}
 use Rattle.rt11_volume.specs.declared.refusal.RtRefusal.{RtRefusal}
 use Rattle.rt11_volume.specs.declared.refusal.RtRefusal.TheVariants as rt
 use Rattle.rt11_volume.specs.declared.volume.RtAccepted.{RtAccepted}
 use Rattle.rt11_volume.proofs.Named.Laws.{created-made, deleted-gone, written-replaced, file-first, no-file}
-use Rattle.f11_flx.specs.Target.{Deletes, FailsDeleting, FailsMaking, FailsPutting, Fares, HasPlaces, Makes, Puts, Refused, Replaces, rt_disk, rt_store}
+use Rattle.f11_flx.specs.Target.{Deletes, FailsDeleting, FailsPutting, Fares, HasPlaces, Makes, Puts, Refused, rt_disk, rt_store}
 
 abbrev pub as-ok : {T : Type 0} → T → Result T RtRefusal
 as-ok x = Ok x

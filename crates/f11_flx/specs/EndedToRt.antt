@@ -45,13 +45,14 @@ pub record EndsHeld {V : Type 0} (S : Service V) (who : Who) (old new : V) : Typ
   pub last : (new ≡ at) ⊎ ((x : Asking) × (e : Refusal) × (is_lethal (refusal.Files e) ≡ false) × Denies S who x e at new)
 
 -- A file was made on the RT-11 volume, and its first blocks were written; it stays.
-pub record IsMadeInPart {E : Type 0} {met : Ghosts E} (disk : E → Disk) (name : List ℕ) (old new : RtAccepted E met) : Type 0 where
-  pub blocks : ℕ
-  pub day : ℕ
-  pub made : RtAccepted E met
-  pub makes : Makes disk name blocks day old made
-  pub pieces : List (List ℕ)
-  pub took : Took (rt_takes disk) name 0 pieces made new
+pub record IsMadeInPart {E : Type 0} {met : Ghosts E} (disk : E → Disk) (name : List ℕ) (day : ℕ) (old new : RtAccepted E met) :
+    Type 0
+  where
+    pub blocks : ℕ
+    pub made : RtAccepted E met
+    pub makes : Makes disk name blocks day old made
+    pub pieces : List (List ℕ)
+    pub took : Took (rt_takes disk) name 0 pieces made new
 
 -- The copy had been refused, for no device fault or Damaged, and its file was undone; giving up the source is what was asked last.
 pub record WasRefused {V E : Type 0} {met : Ghosts E} (m : CopyMode) (S : Service V) (disk : E → Disk) (who : Who) (lun : ℕ)
@@ -69,7 +70,7 @@ pub record WasRefused {V E : Type 0} {met : Ghosts E} (m : CopyMode) (S : Servic
 pub record EndsOnFiles {V E : Type 0} {met : Ghosts E} (m : CopyMode) (S : Service V) (disk : E → Disk) (who : Who) (lun : ℕ)
     (file : FileId) (name : List ℕ) (day : ℕ) (e : Refusal) (old new : V) (rt rt' : RtAccepted E met) : Type 0 where
   pub files : EndsDenied S who e old new
-  pub target : ((rt' ≡ rt) ⊎ (IsMadeInPart disk name rt rt')) ⊎ (WasRefused m S disk who lun file name day e old new rt rt')
+  pub target : ((rt' ≡ rt) ⊎ (IsMadeInPart disk name day rt rt')) ⊎ (WasRefused m S disk who lun file name day e old new rt rt')
 
 -- how a copy to an RT-11 volume ends by a refusal that is a device fault or Damaged
 abbrev pub EndsToRt : {V E : Type 0} {met : Ghosts E} → CopyMode → Service V → (E → Disk) → Who → ℕ → FileId → List ℕ → ℕ → FlxRefusal →
