@@ -1,15 +1,13 @@
 -- A volume that a copy asks, seen as the plain store.
-use Rattle.std.proofs.Common.{◌≡◌, ◌⊎◌, inl, inr, ℕ, ◌+◌, ◌<◌, ◌≤◌, ◌&&◌, ◌||◌, Bool, true, false, not, nat_lt, IsTrue, if◌then◌else◌, List, [], ◌∷◌, Option, Some, None, Result, Ok, Err, IfErr, IfOk, refl, sym, ap, ◌∙◌, subst, arith}
+use Rattle.std.proofs.Common.{◌≡◌, ◌⊎◌, inl, inr, ℕ, ◌&&◌, ◌||◌, Bool, true, false, not, IsTrue, List, [], ◌∷◌, Some, None, Result, Ok, Err, IfErr, IfOk, refl, sym, ◌∙◌, subst}
 use Rattle.f11_dev.specs.Disk.{Disk}
 use Rattle.f11_dev.specs.declared.device.Device.{Ghosts}
 use Rattle.f11_store.specs.Run.{Answer, Call}
-use Rattle.f11_store.specs.Store.{Store}
 use Rattle.f11_store.specs.declared.files.FileId.{FileId}
 use Rattle.rt11_volume.specs.Files.{is_fault}
 use Rattle.rt11_volume.specs.Verifying.Verdict.{IsSoundDisk}
 use Rattle.rt11_volume.specs.declared.volume.RtAccepted.{RtAccepted}
 use Rattle.f11_store.specs.declared.refusals.Refusal.{Refusal}
-use Rattle.f11_store.specs.declared.requests.Reply.{Reply}
 use Rattle.f11_store.specs.declared.requests.Request.TheVariants as request
 use Rattle.f11_runs.specs.Each.{Steps, answer_with, call_with}
 use Rattle.f11_store.specs.Causes.{◌⇐◌, first_of, holds_none}
@@ -19,9 +17,10 @@ use Rattle.f11_fcp.specs.Handles.{store_at}
 use Rattle.f11_fcp.specs.Lists.{ServesCall, is_sound, store_of_volume}
 use Rattle.f11_fcp.specs.Serving.{is_spent, state_in}
 use Rattle.f11_fcp.specs.declared.volume.Volume.{Volume}
-use Rattle.f11_flx.specs.Asking.{Answers, Asking, Denies, Grants, IsMeasured, Who, asks, counts, plain, reads, told, writes}
-use Rattle.f11_flx.specs.Copying.{FaresRt, IsAskedLength, MakesRtFile, WhereSound, is_whole, of_rt, of_volume}
+use Rattle.f11_flx.specs.Asking.{Asking, Denies, Grants, Who, asks, counts, plain, reads, told, writes}
+use Rattle.f11_flx.specs.Copying.{FaresRt, KeepsFailed, MakesRtFile, WhereSound, is_whole, of_rt, of_volume}
 use Rattle.f11_flx.specs.CopyToRt.{CopiesToRt, FailsToCopyToRt}
+use Rattle.f11_flx.specs.EndedToRt.{EndsToRt}
 use Rattle.f11_flx.specs.Refusal.{is_lethal}
 use Rattle.f11_flx.specs.RtOutcome.{LeavesRt, is_rt_fault}
 use Rattle.f11_flx.specs.Seen.{IsSeenPlain}
@@ -31,6 +30,8 @@ use Rattle.f11_flx.specs.declared.mode.CopyMode.{CopyMode}
 use Rattle.f11_flx.specs.declared.refusal.FlxRefusal.{FlxRefusal}
 use Rattle.f11_flx.specs.declared.refusal.FlxRefusal.TheVariants.{BadRecord, Files, LineTooLong, Rt}
 use Rattle.f11_flx.proofs.CopiedLemmas.{copied}
+use Rattle.f11_flx.proofs.EndedToRtLemmas.{copy-ends-to-rt}
+use Rattle.f11_flx.proofs.KeptToRtLemmas.{made-keeps, unmade-keeps}
 use Rattle.f11_flx.proofs.RefusedLemmas.{refused}
 use Rattle.f11_flx.proofs.RtOutcomeLemmas.{file-leaves, file-made}
 
@@ -138,16 +139,19 @@ module _ {E : Type 0} {met : Ghosts E} (disk : E → Disk) (name : List ℕ) (ol
   fares-rt : (r : as-result ℕ) → Fares disk (of_rt is_fault r) old new → FaresRt disk r old new
   fares-rt r f = record { failures = f.failures; quiet = f.quiet; honest = f.honest; next = f.next }
 
-  target-made : (x : ℕ) → Fares disk false old new → (IsSoundDisk (rt_disk disk old) → IsSoundDisk (rt_disk disk new)) → MakesRtFile disk (let r : as-result ℕ = Ok x in r) name old new
-  target-made x f sound = record {
+  target-made : (x : ℕ) → Fares disk false old new → (IsSoundDisk (rt_disk disk old) → IsSoundDisk (rt_disk disk new)) → KeepsFailed disk (let r : as-result ℕ = Ok x in r) old new →
+      MakesRtFile disk (let r : as-result ℕ = Ok x in r) name old new
+  target-made x f sound kept = record {
     fares = fares-rt (Ok x) f;
+    keeps = kept;
     undone = λ e same. absurd (no-error x e (Ok x) refl same);
     sound = λ s whole. sound s;
   }
 
-  target-left : (e : FlxRefusal) → LeavesRt disk name e old new → MakesRtFile disk (let r : as-result ℕ = Err e in r) name old new
-  target-left e l = record {
+  target-left : (e : FlxRefusal) → LeavesRt disk name e old new → KeepsFailed disk (let r : as-result ℕ = Err e in r) old new → MakesRtFile disk (let r : as-result ℕ = Err e in r) name old new
+  target-left e l kept = record {
     fares = fares-rt (Err e) (subst (λ b. Fares disk b old new) (sym (fault-is e)) l.fares);
+    keeps = kept;
     undone = λ x same s whole. let k = l.same (not-lethal (is_lethal e) whole) s in record { named = k.named; others = k.others };
     sound = λ s whole. l.sound (not-lethal (is_lethal e) whole) s;
   }
@@ -159,8 +163,11 @@ module _ {D E : Type 0} {met : Ghosts D} {met' : Ghosts E} (disk : E → Disk) (
     pub target : (r : as-result ℕ) → IfOk r (λ count. CopiesFile m of_volume disk who lun file name count day old new rt rt') →
         IfErr r (λ e. FailsToCopyFile m of_volume disk who lun file name day e old new rt rt') → MakesRtFile disk r name rt rt'
     target (Ok count) made failed =
-        let f = file-made disk name of_volume who lun file day m count old new rt rt' made in target-made disk name rt rt' count f.0 f.1
-    target (Err e) made failed = target-left disk name rt rt' e (file-leaves disk name of_volume who lun file day m e old new rt rt' failed)
+        let f = file-made disk name of_volume who lun file day m count old new rt rt' made in
+        target-made disk name rt rt' count f.0 f.1 (made-keeps of_volume disk who lun name file day m count old new rt rt' made)
+    target (Err e) made failed =
+        target-left disk name rt rt' e (file-leaves disk name of_volume who lun file day m e old new rt rt' failed)
+        (unmade-keeps of_volume disk who lun name file day m e old new rt rt' failed)
 
     pub copies : (r : as-result ℕ) → IfOk r (λ count. CopiesFile m of_volume disk who lun file name count day old new rt rt') →
         IfOk r (λ count. WhereSound disk old rt (CopiesToRt m who lun file name day count (store_of_volume old) (store_of_volume new) (rt_store disk rt) (rt_store disk rt')))
@@ -172,3 +179,8 @@ module _ {D E : Type 0} {met : Ghosts D} {met' : Ghosts E} (disk : E → Disk) (
     refuses (Ok count) failed = tt
     refuses (Err e) failed = λ whole sound sound'.
         refused of_volume store_of_volume is_sound seen-plain who lun file name (store_of_volume old) disk day rt sound' m e old new rt' refl sound (not-lethal (is_lethal e) whole) failed
+
+    pub ends : (r : as-result ℕ) → IfErr r (λ e. FailsToCopyFile m of_volume disk who lun file name day e old new rt rt') →
+        IfErr r (λ e. is_lethal e ≡ true → EndsToRt m of_volume disk who lun file name day e old new rt rt')
+    ends (Ok count) failed = tt
+    ends (Err e) failed = copy-ends-to-rt of_volume who lun name file disk day m e old new rt rt' failed

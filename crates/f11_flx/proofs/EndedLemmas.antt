@@ -28,7 +28,7 @@ abbrev builds : Asking → Type 0
 builds x = is_building x ≡ true
 
 -- Such things were asked, none refused as a device fault or Damaged.
-record Cleanly {V : Type 0} (S : Service V) (who : Who) (v w : V) : Type 0 where
+pub record Cleanly {V : Type 0} (S : Service V) (who : Who) (v w : V) : Type 0 where
   pub asked : List Asking
   pub tried : TriedCleanly S who asked v w
 
@@ -45,16 +45,16 @@ module _ {V : Type 0} (S : Service V) (who : Who) where
   tried-then [] ys u v w h k = subst (λ x. TriedCleanly S who ys x w) h k
   tried-then (x ∷ xs) ys u v w h k = (h.0, h.1, tried-then xs ys h.0 v w h.2 k)
 
-  cleanly-then : (u v w : V) → Cleanly S who u v → Cleanly S who v w → Cleanly S who u w
+  pub cleanly-then : (u v w : V) → Cleanly S who u v → Cleanly S who v w → Cleanly S who u w
   cleanly-then u v w h k = record { asked = h.asked ++ k.asked; tried = tried-then h.asked k.asked u v w h.tried k.tried }
 
   cleanly-one : (x : Asking) (v w : V) → Grants S who x v w → Cleanly S who v w
   cleanly-one x v w h = record { asked = x ∷ []; tried = (w, inl h, refl) }
 
-  cleanly-denied : (x : Asking) (e : Refusal) (v w : V) → is_lethal (Files e) ≡ false → Denies S who x e v w → Cleanly S who v w
+  pub cleanly-denied : (x : Asking) (e : Refusal) (v w : V) → is_lethal (Files e) ≡ false → Denies S who x e v w → Cleanly S who v w
   cleanly-denied x e v w clean h = record { asked = x ∷ []; tried = (w, inr (e, clean, h), refl) }
 
-  cleanly-all : (xs : List Asking) (v w : V) → Granted S who xs v w → Cleanly S who v w
+  pub cleanly-all : (xs : List Asking) (v w : V) → Granted S who xs v w → Cleanly S who v w
   cleanly-all [] v w h = subst (λ x. Cleanly S who v x) (sym h) (cleanly-none v)
   cleanly-all (x ∷ xs) v w h = cleanly-then v h.0 w (cleanly-one x v h.0 h.1) (cleanly-all xs h.0 w h.2)
 

@@ -1,5 +1,5 @@
 -- What a copy from RT-11 answers where one of the volumes had failed before.
-use Rattle.std.proofs.Common.{◌≡◌, inl, inr, ℕ, ◌||◌, Bool, true, false, if◌then◌else◌, List, [], ◌∷◌, ◌++◌, Result, Ok, Err, refl, sym, ap, ◌∙◌, subst}
+use Rattle.std.proofs.Common.{◌≡◌, ◌≢◌, inl, inr, ℕ, ◌||◌, Bool, true, false, if◌then◌else◌, List, [], ◌∷◌, ◌++◌, Result, Ok, Err, refl, sym, ap, ◌∙◌, subst}
 use Rattle.f11_dev.specs.Disk.{Disk}
 use Rattle.f11_dev.specs.declared.device.Device.{Ghosts}
 use Rattle.f11_store.specs.Ident.{ident_with}
@@ -19,7 +19,7 @@ use Rattle.f11_fcp.specs.Lengths.{AnswersLength}
 use Rattle.f11_fcp.specs.Lists.{ServesCall}
 use Rattle.f11_fcp.specs.Serving.{is_spent, state_in}
 use Rattle.f11_fcp.specs.declared.volume.Volume.{Volume}
-use Rattle.rt11_volume.specs.Calls.{has_failed}
+use Rattle.rt11_volume.specs.Calls.{has_failed, volume_device}
 use Rattle.rt11_volume.specs.declared.refusal.RtRefusal.{RtRefusal}
 use Rattle.rt11_volume.specs.declared.refusal.RtRefusal.TheVariants.{Failed}
 use Rattle.rt11_volume.specs.declared.volume.RtAccepted.{RtAccepted}
@@ -36,22 +36,22 @@ use Rattle.f11_flx.specs.declared.refusal.FlxRefusal.TheVariants.{BadRecord, Fil
 use Rattle.f11_flx.proofs.PassLemmas.{stays-alive}
 use Rattle.f11_flx.proofs.VolumeLemmas.{denied-fared, granted-fared}
 
-abbrev given : ℕ → Result ℕ FlxRefusal
+abbrev pub given : ℕ → Result ℕ FlxRefusal
 given n = Ok n
 
-abbrev refused : FlxRefusal → Result ℕ FlxRefusal
+abbrev pub refused : FlxRefusal → Result ℕ FlxRefusal
 refused f = Err f
 
-no-answer : (n : ℕ) (f : FlxRefusal) → given n ≡ refused f → ⊥
+pub no-answer : (n : ℕ) (f : FlxRefusal) → given n ≡ refused f → ⊥
 no-answer n f is = cc
 
-same-refusal : (f g : FlxRefusal) → refused f ≡ refused g → f ≡ g
+pub same-refusal : (f g : FlxRefusal) → refused f ≡ refused g → f ≡ g
 same-refusal f g is = cc
 
 files-apart : (e : RtRefusal) (d : Refusal) → Rt e ≡ Files d → ⊥
 files-apart e d is = cc
 
-rt-apart : (e : Refusal) (d : RtRefusal) → Files e ≡ Rt d → ⊥
+pub rt-apart : (e : Refusal) (d : RtRefusal) → Files e ≡ Rt d → ⊥
 rt-apart e d is = cc
 
 abbrev answer : Reply → Result Reply Refusal
@@ -115,7 +115,7 @@ module _ {D : Type 0} {met : Ghosts D} where
   granted-unspent who (writes lun vbn block) v w h = serves-unspent v w _ _ h.0 refl h.2
   granted-unspent who (counts lun blocks) v w h = measures-unspent v w who.task lun blocks h.0
 
-  stays-unspent : (who : Who) (x : Asking) (v w : Volume D met) → Grants of_volume who x v w → is_spent w ≡ false
+  pub stays-unspent : (who : Who) (x : Asking) (v w : Volume D met) → Grants of_volume who x v w → is_spent w ≡ false
   stays-unspent who x v w h = (granted-fared who x v w h).next ∙ ap (λ b. b || false) (granted-unspent who x v w h)
 
   denied-asks : (who : Who) (r : Request) (v w : Volume D met) → Denies of_volume who (asks r) VolumeFailed v w → is_spent v ≡ true
@@ -143,7 +143,7 @@ module _ {D : Type 0} {met : Ghosts D} where
     pub other : f ≡ Files VolumeFailed → ⊥
     pub alive : is_lethal f ≡ false → is_spent v ≡ false
 
-  denied-live : (who : Who) (x : Asking) (e : Refusal) (v w : Volume D met) → is_spent v ≡ false → Denies of_volume who x e v w → IsLive (Files e) w
+  pub denied-live : (who : Who) (x : Asking) (e : Refusal) (v w : Volume D met) → is_spent v ≡ false → Denies of_volume who x e v w → IsLive (Files e) w
   denied-live who x e v w alive h = record {
     other = λ is. by e h (same is);
     alive = λ clean. (denied-fared who x e v w h).next ∙ ap (λ b. b || is_lethal (Files e)) alive ∙ clean;
@@ -155,7 +155,7 @@ module _ {D : Type 0} {met : Ghosts D} where
       by : (e : Refusal) → Denies of_volume who x e v w → e ≡ VolumeFailed → ⊥
       by e h is = true-false (sym (denied-spent who x v w (subst (λ d. Denies of_volume who x d v w) is h)) ∙ alive)
 
-  all-unspent : (who : Who) (xs : List Asking) (v w : Volume D met) → is_spent v ≡ false → Granted of_volume who xs v w → is_spent w ≡ false
+  pub all-unspent : (who : Who) (xs : List Asking) (v w : Volume D met) → is_spent v ≡ false → Granted of_volume who xs v w → is_spent w ≡ false
   all-unspent who [] v w alive h = ap is_spent h ∙ alive
   all-unspent who (x ∷ xs) v w alive h = all-unspent who xs h.0 w (stays-unspent who x v h.0 h.1) h.2
 
@@ -177,22 +177,26 @@ module _ {D : Type 0} {met : Ghosts D} where
       by false is (inr h) = subst (λ x. IsLive x w) (sym h.answer) (chosen h.e (is_lethal (Files h.e)) is refl (denied-live who (asks r) h.e v w (l.alive is) h.denied))
 
   -- of a making of which the file was created
-  keeps-live : (f : FlxRefusal) (v w : Volume D met) → is_spent v ≡ false → (f ≡ Files VolumeFailed → ⊥) → KeepsSpent (refused f) v w
+  pub keeps-live : (f : FlxRefusal) (v w : Volume D met) → is_spent v ≡ false → (f ≡ Files VolumeFailed → ⊥) → KeepsSpent (refused f) v w
   keeps-live f v w alive other = record {
     only = λ is. absurd (other (same-refusal f (Files VolumeFailed) is));
     refused = λ dead. absurd (true-false (sym dead ∙ alive));
     untouched = λ dead. absurd (true-false (sym dead ∙ alive));
   }
 
-  uncreated-keeps : (who : Who) (making : Making) (e : Refusal) (v w : Volume D met) → Fails of_volume who is_created (request.Create 0 (ident_with making.name) making.attr) e v w → KeepsSpent (refused (Files e)) v w
-  uncreated-keeps who making e v w (inl h) = record {
-    only = λ is. denied-asks who (request.Create 0 (ident_with making.name) making.attr) v w (subst (λ d. Denies of_volume who (asks (request.Create 0 (ident_with making.name) making.attr)) d v w) (same (same-refusal (Files e) (Files VolumeFailed) is)) h);
-    refused = λ dead. (dead-asks who (request.Create 0 (ident_with making.name) making.attr) e v w dead h).0;
-    untouched = λ dead. (dead-asks who (request.Create 0 (ident_with making.name) making.attr) e v w dead h).1;
+  -- of one that is refused before anything else is asked
+  pub first-keeps : (who : Who) (r : Request) (e : Refusal) (v w : Volume D met) → Denies of_volume who (asks r) e v w → KeepsSpent (refused (Files e)) v w
+  first-keeps who r e v w h = record {
+    only = λ is. denied-asks who r v w (subst (λ d. Denies of_volume who (asks r) d v w) (same (same-refusal (Files e) (Files VolumeFailed) is)) h);
+    refused = λ dead. (dead-asks who r e v w dead h).0;
+    untouched = λ dead. (dead-asks who r e v w dead h).1;
   }
     where
       same : Files e ≡ Files VolumeFailed → e ≡ VolumeFailed
       same is = cc
+
+  uncreated-keeps : (who : Who) (making : Making) (e : Refusal) (v w : Volume D met) → Fails of_volume who is_created (request.Create 0 (ident_with making.name) making.attr) e v w → KeepsSpent (refused (Files e)) v w
+  uncreated-keeps who making e v w (inl h) = first-keeps who (request.Create 0 (ident_with making.name) making.attr) e v w h
   uncreated-keeps who making e v w (inr h) = keeps-live (Files e) v w (granted-unspent who (told (request.Create 0 (ident_with making.name) making.attr) h.0) v w h.3) (λ is. differ (sym (ap Files h.2) ∙ is))
     where
       differ : Files Damaged ≡ Files VolumeFailed → ⊥
@@ -265,6 +269,29 @@ module _ {V : Type 0} (S : Service V) (who : Who) where
       by false (inr h) is = chosen h.e (is_lethal (Files h.e)) (sym h.answer ∙ is)
 
 -- and what it tells of the RT-11 volume
+module _ {E : Type 0} {met : Ghosts E} (disk : E → Disk) where
+  pub alive-keeps : (r : Result ℕ FlxRefusal) (a b : RtAccepted E met) → has_failed a ≡ false → (r ≡ Err (Rt Failed) → ⊥) → KeepsFailed disk r a b
+  alive-keeps r a b alive other = record {
+    only = λ is. absurd (other is);
+    refused = λ dead. absurd (true-false (sym dead ∙ alive));
+    untouched = λ dead. absurd (true-false (sym dead ∙ alive));
+  }
+
+  pub refused-keeps : (e : RtRefusal) (a b : RtAccepted E met) → (has_failed a ≡ false → e ≢ Failed) →
+      (has_failed a ≡ true → (e ≡ Failed) × (disk (volume_device b) ≡ disk (volume_device a))) → KeepsFailed disk (refused (Rt e)) a b
+  refused-keeps e a b alive dead = record {
+    only = λ is. by (has_failed a) refl (same (same-refusal (Rt e) (Rt Failed) is));
+    refused = λ is. (dead is).0;
+    untouched = λ is. (dead is).1;
+  }
+    where
+      same : Rt e ≡ Rt Failed → e ≡ Failed
+      same is = cc
+
+      by : (x : Bool) → has_failed a ≡ x → e ≡ Failed → has_failed a ≡ true
+      by true is failed = is
+      by false is failed = absurd (alive is failed)
+
 module _ {V E : Type 0} {met : Ghosts E} (S : Service V) (disk : E → Disk) (m : CopyMode) (who : Who) (lun : ℕ) (name : List ℕ) where
   fill-unfailed : (f : FlxRefusal) (many n : ℕ) (a b : RtAccepted E met) (v w : V) → has_failed a ≡ false → FailsToFill S disk m who lun name many n f a b v w → f ≡ Rt Failed → ⊥
   fill-unfailed (Files e) many n a b v w alive h is = rt-apart e Failed is
@@ -287,39 +314,21 @@ module _ {V E : Type 0} {met : Ghosts E} (S : Service V) (disk : E → Disk) (m 
       by (inr k) s = unfailed-undoing S who (request.Deaccess lun) k.f h.f k.left h.left (fill-unfailed k.f many n a b k.between k.left alive k.fails) k.undoes s
   make-unfailed f many n making a b v w alive (inr (inr h)) is = unfailed-undoing S who (request.Delete h.id) (Files h.e) f h.left w (rt-apart h.e Failed) h.undoes is
 
-  alive-keeps : (r : Result ℕ FlxRefusal) (a b : RtAccepted E met) → has_failed a ≡ false → (r ≡ Err (Rt Failed) → ⊥) → KeepsFailed disk r a b
-  alive-keeps r a b alive other = record {
-    only = λ is. absurd (other is);
-    refused = λ dead. absurd (true-false (sym dead ∙ alive));
-    untouched = λ dead. absurd (true-false (sym dead ∙ alive));
-  }
-
   plan-unfailed : (f : FlxRefusal) (a b : RtAccepted E met) → FailsToPlan disk m name f a b → KeepsFailed disk (refused f) a b
   plan-unfailed (Files e) a b h = absurd h
-  plan-unfailed (Rt e) a b h = record {
-    only = λ is. by (has_failed a) refl (same (same-refusal (Rt e) (Rt Failed) is));
-    refused = λ dead. (h.dead dead).0;
-    untouched = λ dead. (h.dead dead).1;
-  }
-    where
-      same : Rt e ≡ Rt Failed → e ≡ Failed
-      same is = cc
-
-      by : (x : Bool) → has_failed a ≡ x → e ≡ Failed → has_failed a ≡ true
-      by true dead is = dead
-      by false alive is = absurd (h.alive alive is)
+  plan-unfailed (Rt e) a b h = refused-keeps disk e a b h.alive h.dead
   plan-unfailed BadRecord a b h = absurd h
-  plan-unfailed LineTooLong a b h = alive-keeps (refused LineTooLong) a b h.alive (λ is. differ (same-refusal LineTooLong (Rt Failed) is))
+  plan-unfailed LineTooLong a b h = alive-keeps disk (refused LineTooLong) a b h.alive (λ is. differ (same-refusal LineTooLong (Rt Failed) is))
     where
       differ : LineTooLong ≡ Rt Failed → ⊥
       differ is = cc
 
   pub copies-unfailed : (dir : FileId) (to : List ℕ) (protection blocks : ℕ) (a b : RtAccepted E met) (v w : V) → CopiesFrom S disk m who lun name dir to protection blocks a b v w → KeepsFailed disk (given blocks) a b
-  copies-unfailed dir to protection blocks a b v w h = alive-keeps (given blocks) a b h.plans.alive (no-answer blocks (Rt Failed))
+  copies-unfailed dir to protection blocks a b v w h = alive-keeps disk (given blocks) a b h.plans.alive (no-answer blocks (Rt Failed))
 
   pub fails-unfailed : (f : FlxRefusal) (dir : FileId) (to : List ℕ) (protection : ℕ) (a b : RtAccepted E met) (v w : V) → FailsToCopyFrom S disk m who lun name dir to protection f a b v w → KeepsFailed disk (refused f) a b
   fails-unfailed f dir to protection a b v w (inl h) = plan-unfailed f a b h.fails
   fails-unfailed f dir to protection a b v w (inr h) =
       let making : Making = as_file to dir protection h.attr [] in
-      alive-keeps (refused f) a b h.plans.alive
+      alive-keeps disk (refused f) a b h.plans.alive
       (λ is. make-unfailed f h.many h.blocks making h.between b v w (stays-alive disk a h.between h.plans.looks h.plans.alive) (h.fails []) (same-refusal f (Rt Failed) is))

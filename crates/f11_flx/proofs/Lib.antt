@@ -15,12 +15,14 @@ pub mod CopyingLemmas
 pub mod CrLemmas
 pub mod EndLemmas
 pub mod EndedLemmas
+pub mod EndedToRtLemmas
 pub mod EnteredLemmas
 pub mod FaredLemmas
 pub mod FromRtLemmas
 pub mod FromVolumeLemmas
 pub mod GiveLemmas
 pub mod KeptLemmas
+pub mod KeptToRtLemmas
 pub mod LeavesLemmas
 pub mod LineLemmas
 pub mod LooksLemmas

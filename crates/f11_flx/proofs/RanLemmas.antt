@@ -1,6 +1,6 @@
 -- What asking a volume leaves of it, on any device.
-use Rattle.std.proofs.Common.{◌≡◌, ◌⊎◌, inl, inr, ℕ, ◌+◌, ◌<◌, ◌≤◌, ◌&&◌, ◌||◌, Bool, true, false, not, IsTrue, if◌then◌else◌, List, [], ◌∷◌, ◌++◌, length, suc, All, Result, Ok, Err, IfErr, IfOk, refl, sym, ap, ◌∙◌, subst, arith}
-use Rattle.std.proofs.lemmas.List.Elements.{All-append, All-cons, All-head, All-nil, All-tail}
+use Rattle.std.proofs.Common.{◌≡◌, ◌⊎◌, inl, inr, ℕ, ◌+◌, ◌<◌, ◌&&◌, ◌||◌, Bool, true, false, not, IsTrue, if◌then◌else◌, List, [], ◌∷◌, ◌++◌, length, suc, All, Result, Ok, Err, IfErr, IfOk, refl, sym, ap, ◌∙◌, subst, arith}
+use Rattle.std.proofs.lemmas.List.Elements.{All-append, All-cons, All-nil}
 use Rattle.f11_dev.specs.Disk.{Disk}
 use Rattle.f11_dev.specs.Looked.{Looked}
 use Rattle.f11_dev.specs.declared.device.Device.{Ghosts}
@@ -20,7 +20,7 @@ use Rattle.f11_fcp.specs.Lists.{ServesCall, failures_of, is_sound, store_of_volu
 use Rattle.f11_fcp.specs.Serving.{StaysAccepted, is_spent, state_in}
 use Rattle.f11_fcp.specs.declared.volume.Volume.{Volume}
 use Rattle.f11_flx.specs.Asking.{Asking, BreaksOff, Denies, Granted, Grants, Tried, Who, asks, counts, reads, reads_of, told, writes}
-use Rattle.f11_flx.specs.Copying.{AsksOnly, FaresFiles, IsAskedLength, ReadsFiles, is_reading, of_files, of_volume}
+use Rattle.f11_flx.specs.Copying.{IsAskedLength, ReadsFiles, is_reading, of_files, of_volume}
 use Rattle.rt11_volume.specs.declared.refusal.RtRefusal.{RtRefusal}
 use Rattle.f11_flx.specs.Copies.{FailsToCopyText}
 use Rattle.f11_flx.specs.Filling.{Refusing, Taking}
@@ -35,6 +35,7 @@ use Rattle.f11_flx.specs.ToRt.{CopiesFile, CopiesLocked, CountsAs, FailsLocked, 
 use Rattle.rt11_volume.specs.Files.{is_fault as rt_fault}
 use Rattle.rt11_volume.specs.declared.volume.RtAccepted.{RtAccepted}
 use Rattle.f11_flx.proofs.CopyingLemmas.{not-lethal, seen-plain}
+use Rattle.f11_flx.proofs.KeptToRtLemmas.{copied-keeps, uncopied-keeps}
 use Rattle.f11_flx.proofs.RefusedLemmas.{copied-stays, refused-stays}
 
 -- Things were asked of a volume, and whether the last of them met a device fault, and failed the volume.
@@ -395,6 +396,7 @@ module _ {D : Type 0} {met : Ghosts D} (who : Who) (lun : ℕ) (name : List ℕ)
         let h = p.0 in
         record {
           fares = record { failures = h.failures; quiet = h.quiet; honest = h.honest; next = h.next; spent = h.spent; accepted = p.1 };
+          keeps = copied-keeps who disk lun file name day m old new rt rt' count made;
           asked = record { asked = h.asked; tried = h.tried; only = h.only };
           stays = λ sound whole. copied-stays of_volume store_of_volume is_sound seen-plain who lun file name (store_of_volume old) disk day m count old new rt rt' refl sound made;
         }
@@ -403,6 +405,7 @@ module _ {D : Type 0} {met : Ghosts D} (who : Who) (lun : ℕ) (name : List ℕ)
         let h = p.0 in
         record {
           fares = record { failures = h.failures; quiet = h.quiet; honest = h.honest; next = h.next; spent = h.spent; accepted = p.1 };
+          keeps = uncopied-keeps who disk lun file name day m old new rt rt' e failed;
           asked = record { asked = h.asked; tried = h.tried; only = h.only };
           stays = λ sound whole. refused-stays of_volume store_of_volume is_sound seen-plain who lun file name (store_of_volume old) disk day m e old new rt rt' refl sound (not-lethal (is_lethal e) whole) failed;
         }

@@ -100,7 +100,7 @@ module _ {E : Type 0} {met : Ghosts E} (disk : E → Disk) (name : List ℕ) whe
         by (inr (inl d)) = took-some e d.pieces old new (ap is_rt_fault d.is) d.took
         by (inr (inr d)) = refused-some e (length d.pieces) d.last d.pieces old d.between new d.took d.refused
 
-    copies-some : (m : CopyMode) (attr : List ℕ) (n count : ℕ) (v w : V) (old new : RtAccepted E met) → CopiesAs m S (rt_takes disk) who lun name attr n count v w old new → (pieces : List (List ℕ)) × Took (rt_takes disk) name 0 pieces old new
+    pub copies-some : (m : CopyMode) (attr : List ℕ) (n count : ℕ) (v w : V) (old new : RtAccepted E met) → CopiesAs m S (rt_takes disk) who lun name attr n count v w old new → (pieces : List (List ℕ)) × Took (rt_takes disk) name 0 pieces old new
     copies-some Image attr n count v w old new h = (h.1.given, h.1.took)
     copies-some Text attr n count v w old new h = (h.2.pieces, h.2.took)
 

@@ -16,7 +16,7 @@ use Rattle.rt11_volume.proofs.Verifying.Sound.{sound_from}
 use Rattle.f11_flx.specs.RtSource.{FailsToReadPlace, FindsFile, FindsNoFile, HasContents, Looks, ReadsPlace}
 use Rattle.f11_flx.specs.Target.{rt_disk, rt_store}
 use Rattle.f11_flx.proofs.RtBlockLemmas.{contents-whole}
-use Rattle.f11_flx.proofs.TargetLemmas.{alive-of, area-length, as-err, unfailed-of}
+use Rattle.f11_flx.proofs.TargetLemmas.{alive-of, area-length, as-err, dead-of, unfailed-of}
 
 -- the file of a name is one
 pub area-is : (name : List ℕ) (t : RtStore) (f g : HasFile name t) → file_area f ≡ file_area g
@@ -100,9 +100,6 @@ module _ {E : Type 0} {met : Ghosts E} (disk : E → Disk) where
   finds-no-file name most e old new a w why = record {
     looks = looks-of most (as-err {T = ℕ × ℕ} e) old new a w;
     alive = unfailed-of disk old new {T = ℕ × ℕ} e a;
-    dead = λ failed. (same-refusal (a.failed.1 failed), a.untouched failed);
+    dead = dead-of disk old new {T = ℕ × ℕ} e a;
     why = why;
   }
-    where
-      same-refusal : as-err {T = ℕ × ℕ} e ≡ as-err rt.Failed → e ≡ rt.Failed
-      same-refusal is = cc

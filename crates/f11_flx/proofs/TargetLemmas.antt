@@ -1,5 +1,5 @@
 -- What the calls on an RT-11 volume tell of a file that is made.
-use Rattle.std.proofs.Common.{◌≡◌, ◌≢◌, ℕ, ◌+◌, ◌<◌, ◌≤◌, ◌||◌, Bool, true, false, nat_lt, if◌then◌else◌, List, [], ◌∷◌, length, slice_index_or, Result, Ok, Err, OnOk, OnErr, IfErr, IsErrOf, refl, sym, ◌∙◌, ap, subst, arith}
+use Rattle.std.proofs.Common.{◌≡◌, ◌≢◌, ℕ, ◌<◌, ◌≤◌, Bool, true, false, if◌then◌else◌, List, [], ◌∷◌, length, slice_index_or, Result, Ok, Err, OnOk, OnErr, IfErr, refl, sym, ◌∙◌, ap, subst, arith}
 use Rattle.std.proofs.lemmas.List.{length-map}
 use Rattle.std.proofs.lemmas.List.FromFn.{length-range_with_len}
 use Rattle.f11_dev.specs.Disk.{Disk}
@@ -7,20 +7,18 @@ use Rattle.f11_dev.specs.Image.{Image}
 use Rattle.f11_dev.specs.Looked.{Looked}
 use Rattle.f11_dev.specs.Went.{Went}
 use Rattle.f11_dev.specs.declared.device.Device.{Ghosts}
-use Rattle.rt11_volume.specs.Calls.{has_failed, volume_device}
-use Rattle.rt11_volume.specs.Files.{AnswersRt, CreatesFile, DeletesFile, FailsToCreate, FailsToDelete, FailsToReach, HasBlockWritten, WritesBlock, faults_in, file_area, is_device_fault, is_fault}
-use Rattle.rt11_volume.specs.Laws.{HasGone, HasMade, HasReplaced}
+use Rattle.rt11_volume.specs.Calls.{has_failed}
+use Rattle.rt11_volume.specs.Files.{AnswersRt, CreatesFile, DeletesFile, FailsToDelete, FailsToReach, HasBlockWritten, faults_in, file_area, is_device_fault, is_fault}
 use Rattle.rt11_volume.specs.Named.{files_named}
 use Rattle.rt11_volume.specs.RtName.{IsRtName}
-use Rattle.rt11_volume.specs.Entry.{area_length}
-use Rattle.rt11_volume.specs.Segment.{Segment, area_start}
-use Rattle.rt11_volume.specs.Store.{Area, RtStore, area_at, rt_store_of}
+use Rattle.rt11_volume.specs.Segment.{Segment}
+use Rattle.rt11_volume.specs.Store.{Area, RtStore, area_at}
 use Rattle.rt11_volume.specs.Verifying.Verdict.{IsSoundDisk}
 use Rattle.rt11_volume.specs.declared.refusal.RtRefusal.{RtRefusal}
 use Rattle.rt11_volume.specs.declared.refusal.RtRefusal.TheVariants as rt
 use Rattle.rt11_volume.specs.declared.volume.RtAccepted.{RtAccepted}
 use Rattle.rt11_volume.proofs.Named.Laws.{created-made, deleted-gone, written-replaced, file-first, no-file}
-use Rattle.f11_flx.specs.Target.{Deletes, FailsDeleting, FailsMaking, FailsPutting, Fares, HasPlaces, Makes, Puts, Refused, Replaces, rt_disk, rt_store}
+use Rattle.f11_flx.specs.Target.{Deletes, FailsDeleting, FailsPutting, Fares, HasPlaces, Makes, Puts, Refused, rt_disk, rt_store}
 
 abbrev pub as-ok : {T : Type 0} → T → Result T RtRefusal
 as-ok x = Ok x
@@ -53,6 +51,13 @@ module _ {E : Type 0} {met : Ghosts E} (disk : E → Disk) (old new : RtAccepted
 
   pub unfailed-of : {T : Type 0} (e : RtRefusal) → AnswersRt {T = T} disk (Err e) old new → has_failed old ≡ false → e ≢ rt.Failed
   unfailed-of {T = T} e a alive is = let h : has_failed old ≡ true = a.failed.0 (ap (as-err {T = T}) is) in absurd (cc)
+
+  -- a volume that had failed answers so, and nothing is done
+  pub dead-of : {T : Type 0} (e : RtRefusal) → AnswersRt {T = T} disk (Err e) old new → has_failed old ≡ true → (e ≡ rt.Failed) × (rt_disk disk new ≡ rt_disk disk old)
+  dead-of {T = T} e a failed = (same (a.failed.1 failed), a.untouched failed)
+    where
+      same : as-err {T = T} e ≡ as-err rt.Failed → e ≡ rt.Failed
+      same is = cc
 
   pub deletes : (name : List ℕ) (P : Image → Type 0) (most : ℕ) (result : Result Unit RtRefusal) → AnswersRt disk result old new →
       Went P (rt_disk disk old) (rt_disk disk new) most (faults_in result) →

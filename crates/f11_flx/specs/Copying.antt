@@ -13,9 +13,7 @@ use Rattle.f11_fcp.specs.Serving.{StaysAccepted, is_spent, state_in}
 use Rattle.f11_fcp.specs.declared.volume.Volume.{Volume}
 use Rattle.rt11_volume.specs.Calls.{has_failed, volume_device}
 use Rattle.rt11_volume.specs.Files.{is_fault as is_rt_fault}
-use Rattle.rt11_volume.specs.Laws.{KeepsOtherNames}
-use Rattle.rt11_volume.specs.Named.{files_named}
-use Rattle.rt11_volume.specs.Store.{RtStore, rt_store_of}
+use Rattle.rt11_volume.specs.Store.{rt_store_of}
 use Rattle.rt11_volume.specs.Verifying.Verdict.{IsSoundDisk}
 use Rattle.rt11_volume.specs.declared.refusal.RtRefusal.{RtRefusal}
 use Rattle.rt11_volume.specs.declared.refusal.RtRefusal.TheVariants.{Failed}
@@ -138,9 +136,11 @@ is_making (reads lun vbn block) = false
 is_making (writes lun vbn block) = true
 is_making (counts lun blocks) = false
 
--- The volume was read, whatever the answer is; it is as before unless a device fault or Damaged was met.
+-- The volume was read, whatever the answer is; it is as before unless a device fault or Damaged was met. On one that had failed nothing is
+-- done.
 pub record ReadsFiles {D T : Type 0} {met : Ghosts D} (result : Result T FlxRefusal) (who : Who) (old new : Volume D met) : Type 0 where
   pub fares : FaresFiles result old new
+  pub keeps : KeepsSpent result old new
   pub asked : AsksOnly is_reading who old new
   pub stays : is_sound old ≡ true → is_whole result ≡ true → store_of_volume new ≡ store_of_volume old
 
@@ -152,10 +152,12 @@ pub record MakesFile {D T : Type 0} {met : Ghosts D} (result : Result T FlxRefus
   pub undone : (e : FlxRefusal) → result ≡ Err e → is_sound old ≡ true → is_whole result ≡ true →
       IsAsBefore (store_of_volume old) (store_of_volume new)
 
--- A file was made on the RT-11 volume, or not, and then it has the files that it had unless a device fault or Damaged was met.
+-- A file was made on the RT-11 volume, or not, and then it has the files that it had unless a device fault or Damaged was met. On one that
+-- had failed nothing is done.
 pub record MakesRtFile {E T : Type 0} {met : Ghosts E} (disk : E → Disk) (result : Result T FlxRefusal) (name : List ℕ)
     (old new : RtAccepted E met) : Type 0 where
   pub fares : FaresRt disk result old new
+  pub keeps : KeepsFailed disk result old new
   pub undone : (e : FlxRefusal) → result ≡ Err e → IsSoundDisk (disk (volume_device old)) → is_whole result ≡ true →
       HasSameFiles name (rt_store_of (disk (volume_device old)).image) (rt_store_of (disk (volume_device new)).image)
   pub sound : IsSoundDisk (disk (volume_device old)) → is_whole result ≡ true → IsSoundDisk (disk (volume_device new))

@@ -1,4 +1,4 @@
--- What was asked where a device fault or Damaged ended a copy from an RT-11 volume: nothing follows it (profile).
+-- What was asked where a device fault or Damaged ended a copy between two volumes: nothing follows it (profile).
 use Rattle.std.specs.Prelude.{◌≡◌, ◌⊎◌, ⊤, Bool, true, false, List, [], ◌∷◌, All}
 use Rattle.f11_store.specs.declared.refusals.Refusal.{Refusal}
 use Rattle.f11_store.specs.declared.refusals.Refusal.TheVariants.{Damaged}
@@ -8,6 +8,7 @@ use Rattle.f11_store.specs.declared.requests.Request.TheVariants as request
 use Rattle.f11_flx.specs.Asking.{Asking, Denies, Granted, Grants, Service, Who, asks, counts, reads, told, writes}
 use Rattle.f11_flx.specs.Making.{is_created}
 use Rattle.f11_flx.specs.Refusal.{is_lethal}
+use Rattle.f11_flx.specs.Source.{is_attr}
 use Rattle.f11_flx.specs.declared.refusal.FlxRefusal.{FlxRefusal}
 use Rattle.f11_flx.specs.declared.refusal.FlxRefusal.TheVariants as refusal
 
@@ -18,11 +19,17 @@ TriedCleanly {V} S who (x ∷ xs) old new =
     (between : V) × ((Grants S who x old between) ⊎ ((e : Refusal) × (is_lethal (refusal.Files e) ≡ false) × Denies S who x e old between))
     × (TriedCleanly S who xs between new)
 
--- it was refused so, or, as no honest device gives, a file was created and had another reply
+-- whether a request may have such a reply
+abbrev pub is_reply_to : Request → Reply → Bool
+is_reply_to (request.Create protection ident attr) a = is_created a
+is_reply_to (request.ReadAttr id) a = is_attr a
+is_reply_to _ a = true
+
+-- it was refused so, or had a reply of another kind, as no honest device gives
 abbrev pub IsLast : {V : Type 0} → Service V → Who → Asking → Refusal → V → V → Type 0
 IsLast S who x e old new =
     (Denies S who x e old new)
-    ⊎ ((r : Request) × (a : Reply) × (x ≡ told r a) × (is_created a ≡ false) × (e ≡ Damaged) × Grants S who x old new)
+    ⊎ ((r : Request) × (a : Reply) × (x ≡ told r a) × (is_reply_to r a ≡ false) × (e ≡ Damaged) × Grants S who x old new)
 
 -- The volume's refusal is of what was asked last.
 pub record EndsDenied {V : Type 0} (S : Service V) (who : Who) (e : Refusal) (old new : V) : Type 0 where
@@ -52,7 +59,7 @@ pub record EndsUnread {V : Type 0} (S : Service V) (who : Who) (old new : V) : T
   pub granted : Granted S who asked old new
   pub building : All (λ x. is_building x ≡ true) asked
 
--- how a copy ends by a refusal that is a device fault or Damaged
+-- how a copy from an RT-11 volume ends by a refusal that is a device fault or Damaged
 abbrev pub Ends : {V : Type 0} → Service V → Who → FlxRefusal → V → V → Type 0
 Ends S who (refusal.Files e) old new = EndsDenied S who e old new
 Ends S who (refusal.Rt e) old new = EndsUnread S who old new

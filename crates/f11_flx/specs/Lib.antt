@@ -7,6 +7,7 @@ pub mod CopyToRt
 pub mod Copying
 pub mod Dry
 pub mod Ended
+pub mod EndedToRt
 pub mod Filling
 pub mod FromRt
 pub mod Laws

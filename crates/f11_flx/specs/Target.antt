@@ -1,5 +1,5 @@
 -- What making, writing and deleting a file tells of an RT-11 volume (profile).
-use Rattle.std.specs.Prelude.{◌≡◌, ◌≢◌, ℕ, ◌+◌, ◌≤◌, suc, ◌||◌, Bool, true, false, if◌then◌else◌, List, [], ◌∷◌, length, Result}
+use Rattle.std.specs.Prelude.{◌≡◌, ◌≢◌, ℕ, ◌+◌, ◌≤◌, suc, ◌||◌, Bool, true, false, if◌then◌else◌, List, [], ◌∷◌, length}
 use Rattle.f11_dev.specs.Disk.{Disk}
 use Rattle.f11_dev.specs.declared.device.Device.{Ghosts}
 use Rattle.rt11_volume.specs.Calls.{has_failed, volume_device}
@@ -55,10 +55,11 @@ pub record Refused {E : Type 0} {met : Ghosts E} (disk : E → Disk) (e : RtRefu
   pub stays : is_fault e ≡ false → (rt_disk disk new).image ≡ (rt_disk disk old).image
   pub alive : has_failed old ≡ false → e ≢ Failed
 
--- No file was made.
+-- No file was made; on a volume that had failed nothing is done.
 pub record FailsMaking {E : Type 0} {met : Ghosts E} (disk : E → Disk) (name : List ℕ) (blocks : ℕ) (e : RtRefusal)
     (old new : RtAccepted E met) : Type 0 where
   pub refused : Refused disk e old new
+  pub dead : has_failed old ≡ true → (e ≡ Failed) × (rt_disk disk new ≡ rt_disk disk old)
   pub why : FailsToMake e name blocks (rt_disk disk old)
 
 -- Blocks of the file were written, from this place on.

@@ -3,7 +3,9 @@ ghost use Rattle.std.specs.Prelude.{◌≡◌, true, IfOk, IfErr, Err};
 ghost use Rattle.f11_fcp.specs.Lists.{store_of_volume};
 ghost use Rattle.rt11_volume.specs.Calls.{volume_device};
 ghost use Rattle.rt11_volume.specs.Store.{rt_store_of};
-ghost use Rattle.f11_flx.specs.Copying.{MakesRtFile, ReadsFiles, WhereSound, is_whole};
+ghost use Rattle.f11_flx.specs.Copying.{MakesRtFile, ReadsFiles, WhereSound, is_whole, of_volume};
+ghost use Rattle.f11_flx.specs.EndedToRt.{EndsToRt};
+ghost use Rattle.f11_flx.specs.Refusal.{is_lethal};
 ghost use Rattle.f11_flx.specs.Asking.{who_asks};
 ghost use Rattle.f11_flx.specs.CopyToRt.{CopiesToRt, FailsToCopyToRt};
 
@@ -41,6 +43,8 @@ pub fn copy_to_rt<D: Device, E: Device>(
 ) -> Result<u32, FlxRefusal>
     ensures files { ReadsFiles result (who_asks task uic) vol.old vol.new }
     ensures target { MakesRtFile E.disk result name.now rt.old rt.new }
+    ensures ended { IfErr result (λ e. is_lethal e ≡ true → EndsToRt mode of_volume E.disk
+        (who_asks task uic) lun source name.now date e vol.old vol.new rt.old rt.new) }
     ensures copied { IfOk result (λ blocks. WhereSound E.disk vol.old rt.old
         (CopiesToRt mode (who_asks task uic) lun source name.now date blocks
         (store_of_volume vol.old) (store_of_volume vol.new)
