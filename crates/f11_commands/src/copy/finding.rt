@@ -1,5 +1,5 @@
 //! Files that are found by their names.
-ghost use Rattle.std.specs.Prelude.{◌≡◌, IfOk, IfErr};
+ghost use Rattle.std.specs.Prelude.{◌≡◌, ◌+◌, ◌%◌, ◌/◌, ◌++◌, IfOk, IfErr};
 ghost use Rattle.f11_commands.specs.Copying.{directory_name, operator, three_octal};
 ghost use Rattle.f11_commands.specs.Finding.{is_found};
 ghost use Rattle.f11_flx.specs.Asking.{Fails, Grants, told};

@@ -16,12 +16,13 @@ pub fn read_names(name: &str, rt_name: &str) -> Option<(Name, RtName)>
     ensures every { (words rt_words : List ℕ) → Spells name.now words → RtSpells rt_name.now rt_words
         → result ≡ Some (words, rt_words) }
 {
-    match (
-        Name::parse(name.as_bytes()),
-        RtName::parse(rt_name.as_bytes()),
-    ) {
-        (Ok(name), Ok(rt_name)) => Some((name, rt_name)),
-        _ => None,
+    let name = match Name::parse(name.as_bytes()) {
+        Ok(name) => name,
+        Err(_) => return None,
+    };
+    match RtName::parse(rt_name.as_bytes()) {
+        Ok(rt_name) => Some((name, rt_name)),
+        Err(_) => None,
     }
 }
 

@@ -1,4 +1,5 @@
 //! How the answer of a copy is told.
+ghost use Rattle.std.specs.Prelude.{◌≡◌};
 ghost use Rattle.f11_commands.specs.CopyCommand.{Tells, TellsRefusal, failure_of_refusal};
 
 use crate::copy::CopyAnswer;
