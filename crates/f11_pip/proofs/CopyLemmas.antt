@@ -1,9 +1,9 @@
 -- What clap makes of the words of a copy.
-use Rattle.std.proofs.Common.{All, arith, ap, ◌∙◌, ◌≡◌, ◌&&◌, List, [], ◌∷◌, Bool, Option, Some, true, false, codes, fold, refl}
+use Rattle.std.proofs.Common.{All, arith, ap, ◌∙◌, ◌≡◌, ◌&&◌, List, [], ◌∷◌, Bool, Some, true, false, codes, fold, refl}
 use Rattle.std.specs.List.{list_all}
-use Rattle.clap.specs.Simple.{App, Shape, built, built_leaf, entered, names_of}
+use Rattle.clap.specs.Simple.{Shape, built, built_leaf, entered, names_of}
 use Rattle.clap.specs.Takes.{built_takes, default_passes, is_valid, level_passes, settle_passes, walk_passes}
-use Rattle.clap.specs.Walk.{Held, Rule, Text, Walk, finished, nothing_held, option, walk, walk_from, walked}
+use Rattle.clap.specs.Walk.{Held, Text, Walk, finished, nothing_held, option, walk, walk_from, walked}
 use Rattle.clap.specs.Words.{subcommand_of, takes}
 use Rattle.clap.proofs.OnLiterals.{clap_on_literals}
 use Rattle.f11_pip.specs.Commands.{MeetsCopy, command_and_words, copy_names, from_rt_app, program_app, to_rt_app, words_in}

@@ -1,5 +1,5 @@
 -- What clap makes of words that are no options, word by word, and of a command's words as a whole.
-use Rattle.std.proofs.Common.{ap, ◌∙◌, sym, ◌≡◌, ◌&&◌, ◌++◌, ℕ, Bool, List, [], ◌∷◌, Option, Some, None, true, false, codes, fold, is_some, refl}
+use Rattle.std.proofs.Common.{ap, ◌∙◌, sym, ◌≡◌, ◌&&◌, ◌++◌, ℕ, List, [], ◌∷◌, Some, None, true, false, codes, fold, is_some, refl}
 use Rattle.std.proofs.lemmas.List.{append-nil, append_assoc}
 use Rattle.std.specs.List.{list_all}
 use Rattle.std.specs.Str.{bytes_eq}
@@ -10,7 +10,6 @@ use Rattle.clap.specs.Walk.{
   Held,
   Names,
   Rule,
-  Step,
   Text,
   Waiting,
   Walk,
