@@ -104,7 +104,8 @@ takes-to_rt program mode image uic name rt rt_name plain =
     refl refl (level-to_rt mode image uic name rt rt_name plain) refl
 
 pub subcommand_of-to_rt : (program mode image uic name rt rt_name : Text) → ArePlain (texts_of (to_rt_line mode image uic name rt rt_name))
-    → MeetsCopy (codes "flx-to-rt") mode image uic name rt rt_name (subcommand_of program_app (program ∷ words_given (to_rt_line mode image uic name rt rt_name)))
+    → MeetsCopy (codes "flx-to-rt") mode image uic name rt rt_name
+    (subcommand_of program_app (program ∷ words_given (to_rt_line mode image uic name rt rt_name)))
 subcommand_of-to_rt program mode image uic name rt rt_name plain =
     ap (λ (w : Walk). command_and_words copy_names (entered (built program_app) w.stopped))
     (walk-command (built program_app).top.rules (names_of (built program_app)) nothing_held (codes "flx-to-rt")
@@ -171,7 +172,8 @@ level-from_rt mode rt rt_name image uic name plain =
     && (settle_passes from_rt_shape.rules from_rt_shape.args_override_self w.held && (list_all default_passes from_rt_shape.rules
     && is_valid from_rt_shape (finished from_rt_shape.rules w.held) false))) (walk-from_rt mode rt rt_name image uic name plain)
     ∙ ap (λ (p : Bool). p && (settle_passes from_rt_shape.rules from_rt_shape.args_override_self (from_rt-6 mode rt rt_name image uic name).held
-    && (list_all default_passes from_rt_shape.rules && is_valid from_rt_shape (finished from_rt_shape.rules (from_rt-6 mode rt rt_name image uic name).held) false)))
+    && (list_all default_passes from_rt_shape.rules
+    && is_valid from_rt_shape (finished from_rt_shape.rules (from_rt-6 mode rt rt_name image uic name).held) false)))
     (passes-from_rt mode rt rt_name image uic name plain)
 
 pub takes-from_rt : (program mode rt rt_name image uic name : Text) → ArePlain (texts_of (from_rt_line mode rt rt_name image uic name))
@@ -182,9 +184,11 @@ takes-from_rt program mode rt rt_name image uic name plain =
     refl refl (level-from_rt mode rt rt_name image uic name plain) refl
 
 pub subcommand_of-from_rt : (program mode rt rt_name image uic name : Text) → ArePlain (texts_of (from_rt_line mode rt rt_name image uic name))
-    → MeetsCopy (codes "flx-from-rt") mode image uic name rt rt_name (subcommand_of program_app (program ∷ words_given (from_rt_line mode rt rt_name image uic name)))
+    → MeetsCopy (codes "flx-from-rt") mode image uic name rt rt_name
+    (subcommand_of program_app (program ∷ words_given (from_rt_line mode rt rt_name image uic name)))
 subcommand_of-from_rt program mode rt rt_name image uic name plain =
     ap (λ (w : Walk). command_and_words copy_names (entered (built program_app) w.stopped))
     (walk-command (built program_app).top.rules (names_of (built program_app)) nothing_held (codes "flx-from-rt")
     (codes "--mode" ∷ mode ∷ rt ∷ rt_name ∷ image ∷ uic ∷ name ∷ []) refl)
-    ∙ ap (λ (w : Walk). Some (codes "flx-from-rt", words_in copy_names (finished from_rt_shape.rules w.held))) (walk-from_rt mode rt rt_name image uic name plain)
+    ∙ ap (λ (w : Walk). Some (codes "flx-from-rt", words_in copy_names (finished from_rt_shape.rules w.held)))
+    (walk-from_rt mode rt rt_name image uic name plain)
