@@ -1,2 +1,4 @@
+mod CopyLemmas
 mod LineLemmas
+mod PlainLemmas
 pub mod WordsLemmas

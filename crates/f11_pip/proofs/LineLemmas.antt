@@ -1,21 +1,29 @@
--- What clap makes of the words of `rt-init` and of a copy, and of each command's.
-use Rattle.std.proofs.Common.{All, arith, ◌≡◌, [], ◌∷◌, None, true, false, codes, refl}
-use Rattle.std.specs.Str.{bytes_eq}
-use Rattle.clap.specs.Lexer.{strip_byte}
+-- What clap makes of the words of `rt-init`, and of each command's.
+use Rattle.std.proofs.Common.{All, arith, ◌≡◌, [], ◌∷◌, true, false, codes, refl}
 use Rattle.clap.specs.Words.{Text, subcommand_of, takes}
 use Rattle.clap.proofs.OnLiterals.{clap_on_literals}
-use Rattle.f11_pip.specs.Commands.{MeetsCopy, MeetsRtInit, program_app}
-use Rattle.f11_pip.specs.Words.{CommandLine, dump_line, from_rt_line, home_line, is_option, name_line, rights_line, rt_init_line, rt_list_line, rt_vfy_line, run_line, texts_of, to_rt_line, update_line, vfy_line, words_given}
+use Rattle.f11_pip.specs.Commands.{MeetsRtInit, program_app}
+use Rattle.f11_pip.specs.Words.{
+  CommandLine,
+  dump_line,
+  from_rt_line,
+  home_line,
+  is_option,
+  name_line,
+  rights_line,
+  rt_init_line,
+  rt_list_line,
+  rt_vfy_line,
+  run_line,
+  texts_of,
+  to_rt_line,
+  update_line,
+  vfy_line,
+  words_given,
+}
+use Rattle.f11_pip.proofs.CopyLemmas.{takes-from_rt, takes-to_rt}
+use Rattle.f11_pip.proofs.PlainLemmas.{no_hyphens, not_two}
 use Rattle.f11_pip.proofs.WordsLemmas.{takes-dump, takes-home, takes-name, takes-rights, takes-rt_list, takes-rt_vfy, takes-run, takes-update, takes-vfy}
-
--- a word that is no option begins with no hyphen, and isn't two of them
-pub no_hyphens : (word : Text) → is_option word ≡ false → strip_byte 45 word ≡ None
-no_hyphens [] plain = refl
-no_hyphens (b ∷ bs) plain = rw plain refl
-
-pub not_two : (word : Text) → is_option word ≡ false → bytes_eq word (45 ∷ 45 ∷ []) ≡ false
-not_two [] plain = refl
-not_two (b ∷ bs) plain = rw plain refl
 
 pub takes-rt_init : (program blocks segments image : Text) → is_option blocks ≡ false → is_option segments ≡ false → is_option image ≡ false
     → takes program_app (program ∷ codes "rt-init" ∷ codes "--blocks" ∷ blocks ∷ codes "--segments" ∷ segments ∷ image ∷ []) ≡ true
@@ -26,62 +34,6 @@ pub subcommand_of-rt_init : (program blocks segments image : Text) → is_option
     → MeetsRtInit blocks segments image (subcommand_of program_app (program ∷ codes "rt-init" ∷ codes "--blocks" ∷ blocks ∷ codes "--segments" ∷ segments ∷ image ∷ []))
 unfolding clap_on_literals
 subcommand_of-rt_init program blocks segments image p q r = rw (not_two blocks p, no_hyphens blocks p, no_hyphens blocks p, not_two segments q, no_hyphens segments q, no_hyphens segments q, not_two image r, no_hyphens image r, no_hyphens image r) refl
-
--- no word is an option
-abbrev ArePlain : List Text → Type 0
-ArePlain words = All (λ text. is_option text ≡ false) words
-
-pub takes-to_rt : (program mode image uic name rt rt_name : Text) → ArePlain (texts_of (to_rt_line mode image uic name rt rt_name))
-    → takes program_app (program ∷ words_given (to_rt_line mode image uic name rt rt_name)) ≡ true
-unfolding clap_on_literals
-takes-to_rt program mode image uic name rt rt_name plain =
-    rw (
-      not_two mode (plain 0 [] (omega arith)), no_hyphens mode (plain 0 [] (omega arith)), no_hyphens mode (plain 0 [] (omega arith)),
-      not_two image (plain 1 [] (omega arith)), no_hyphens image (plain 1 [] (omega arith)), no_hyphens image (plain 1 [] (omega arith)),
-      not_two uic (plain 2 [] (omega arith)), no_hyphens uic (plain 2 [] (omega arith)), no_hyphens uic (plain 2 [] (omega arith)),
-      not_two name (plain 3 [] (omega arith)), no_hyphens name (plain 3 [] (omega arith)), no_hyphens name (plain 3 [] (omega arith)),
-      not_two rt (plain 4 [] (omega arith)), no_hyphens rt (plain 4 [] (omega arith)), no_hyphens rt (plain 4 [] (omega arith)),
-      not_two rt_name (plain 5 [] (omega arith)), no_hyphens rt_name (plain 5 [] (omega arith)), no_hyphens rt_name (plain 5 [] (omega arith)),
-    ) refl
-
-pub subcommand_of-to_rt : (program mode image uic name rt rt_name : Text) → ArePlain (texts_of (to_rt_line mode image uic name rt rt_name))
-    → MeetsCopy (codes "flx-to-rt") mode image uic name rt rt_name (subcommand_of program_app (program ∷ words_given (to_rt_line mode image uic name rt rt_name)))
-unfolding clap_on_literals
-subcommand_of-to_rt program mode image uic name rt rt_name plain =
-    rw (
-      not_two mode (plain 0 [] (omega arith)), no_hyphens mode (plain 0 [] (omega arith)), no_hyphens mode (plain 0 [] (omega arith)),
-      not_two image (plain 1 [] (omega arith)), no_hyphens image (plain 1 [] (omega arith)), no_hyphens image (plain 1 [] (omega arith)),
-      not_two uic (plain 2 [] (omega arith)), no_hyphens uic (plain 2 [] (omega arith)), no_hyphens uic (plain 2 [] (omega arith)),
-      not_two name (plain 3 [] (omega arith)), no_hyphens name (plain 3 [] (omega arith)), no_hyphens name (plain 3 [] (omega arith)),
-      not_two rt (plain 4 [] (omega arith)), no_hyphens rt (plain 4 [] (omega arith)), no_hyphens rt (plain 4 [] (omega arith)),
-      not_two rt_name (plain 5 [] (omega arith)), no_hyphens rt_name (plain 5 [] (omega arith)), no_hyphens rt_name (plain 5 [] (omega arith)),
-    ) refl
-
-pub takes-from_rt : (program mode rt rt_name image uic name : Text) → ArePlain (texts_of (from_rt_line mode rt rt_name image uic name))
-    → takes program_app (program ∷ words_given (from_rt_line mode rt rt_name image uic name)) ≡ true
-unfolding clap_on_literals
-takes-from_rt program mode rt rt_name image uic name plain =
-    rw (
-      not_two mode (plain 0 [] (omega arith)), no_hyphens mode (plain 0 [] (omega arith)), no_hyphens mode (plain 0 [] (omega arith)),
-      not_two rt (plain 1 [] (omega arith)), no_hyphens rt (plain 1 [] (omega arith)), no_hyphens rt (plain 1 [] (omega arith)),
-      not_two rt_name (plain 2 [] (omega arith)), no_hyphens rt_name (plain 2 [] (omega arith)), no_hyphens rt_name (plain 2 [] (omega arith)),
-      not_two image (plain 3 [] (omega arith)), no_hyphens image (plain 3 [] (omega arith)), no_hyphens image (plain 3 [] (omega arith)),
-      not_two uic (plain 4 [] (omega arith)), no_hyphens uic (plain 4 [] (omega arith)), no_hyphens uic (plain 4 [] (omega arith)),
-      not_two name (plain 5 [] (omega arith)), no_hyphens name (plain 5 [] (omega arith)), no_hyphens name (plain 5 [] (omega arith)),
-    ) refl
-
-pub subcommand_of-from_rt : (program mode rt rt_name image uic name : Text) → ArePlain (texts_of (from_rt_line mode rt rt_name image uic name))
-    → MeetsCopy (codes "flx-from-rt") mode image uic name rt rt_name (subcommand_of program_app (program ∷ words_given (from_rt_line mode rt rt_name image uic name)))
-unfolding clap_on_literals
-subcommand_of-from_rt program mode rt rt_name image uic name plain =
-    rw (
-      not_two mode (plain 0 [] (omega arith)), no_hyphens mode (plain 0 [] (omega arith)), no_hyphens mode (plain 0 [] (omega arith)),
-      not_two rt (plain 1 [] (omega arith)), no_hyphens rt (plain 1 [] (omega arith)), no_hyphens rt (plain 1 [] (omega arith)),
-      not_two rt_name (plain 2 [] (omega arith)), no_hyphens rt_name (plain 2 [] (omega arith)), no_hyphens rt_name (plain 2 [] (omega arith)),
-      not_two image (plain 3 [] (omega arith)), no_hyphens image (plain 3 [] (omega arith)), no_hyphens image (plain 3 [] (omega arith)),
-      not_two uic (plain 4 [] (omega arith)), no_hyphens uic (plain 4 [] (omega arith)), no_hyphens uic (plain 4 [] (omega arith)),
-      not_two name (plain 5 [] (omega arith)), no_hyphens name (plain 5 [] (omega arith)), no_hyphens name (plain 5 [] (omega arith)),
-    ) refl
 
 -- clap takes the words of a command line
 pub takes-line : (command : CommandLine) (program : Text) → All (λ text. is_option text ≡ false) (texts_of command)

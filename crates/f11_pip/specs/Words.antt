@@ -8,7 +8,20 @@ use Rattle.f11_numbers.specs.Octal.{IsProtection, SpellsProtection, SpellsUic}
 use Rattle.f11_pip.specs.declared.outcome.Failure.{Failure}
 use Rattle.f11_pip.specs.declared.outcome.Failure.TheVariants.{NoMemory}
 use Rattle.f11_pip.specs.declared.words.Words.{Words}
-use Rattle.f11_pip.specs.declared.words.Words.TheVariants.{Dump, FlxFromRt, FlxToRt, Home, Init, Name, Rights, RtInit, RtList, RtVfy, Run, Vfy}
+use Rattle.f11_pip.specs.declared.words.Words.TheVariants.{
+  Dump,
+  FlxFromRt,
+  FlxToRt,
+  Home,
+  Init,
+  Name,
+  Rights,
+  RtInit,
+  RtList,
+  RtVfy,
+  Run,
+  Vfy,
+}
 
 -- a word that begins with a hyphen (45) is an option
 abbrev pub is_option : List ℕ → Bool

@@ -183,8 +183,6 @@ fn command_of<'a>(matches: &ArgMatches<'a>) -> Result<Words<'a>, Failure>
 {
     match matches.subcommand() {
         Some(("dump", given)) => dump_of(given),
-        Some(("flx-from-rt", given)) => from_rt_of(given),
-        Some(("flx-to-rt", given)) => to_rt_of(given),
         Some(("home", given)) => home_of(given),
         Some(("init", given)) => init_of(given),
         Some(("name", given)) => name_of(given),
@@ -194,6 +192,28 @@ fn command_of<'a>(matches: &ArgMatches<'a>) -> Result<Words<'a>, Failure>
         Some(("rt-vfy", given)) => rt_vfy_of(given),
         Some(("run", given)) => run_of(given),
         Some(("vfy", given)) => vfy_of(given),
+        _ => copy_of(matches),
+    }
+}
+
+/// The copy that the words named.
+fn copy_of<'a>(matches: &ArgMatches<'a>) -> Result<Words<'a>, Failure>
+    ensures from_rt { (mode rt rt_name image uic name : List ℕ)
+        → MeetsCopy (codes "flx-from-rt") mode image uic name rt rt_name
+        (subcommand_rows_of matches.now)
+        → MatchResult result (AsksFromRt mode rt rt_name image uic name)
+        (λ _. IsNoCopy mode uic) }
+    ensures to_rt { (mode image uic name rt rt_name : List ℕ)
+        → MeetsCopy (codes "flx-to-rt") mode image uic name rt rt_name
+        (subcommand_rows_of matches.now)
+        → MatchResult result (AsksToRt mode image uic name rt rt_name)
+        (λ _. IsNoCopy mode uic) }
+    ensures none { subcommand_rows_of matches.now ≡ None → IsErr result }
+    ensures usage { IfErr result (λ failure. failure ≡ Failure.Usage) }
+{
+    match matches.subcommand() {
+        Some(("flx-from-rt", given)) => from_rt_of(given),
+        Some(("flx-to-rt", given)) => to_rt_of(given),
         _ => Err(Failure::Usage),
     }
 }
@@ -304,11 +324,12 @@ fn mode_of(given: &ArgMatches<'_>) -> Result<CopyMode, Failure>
         → MatchResult result (SpellsMode text) (λ _. ¬ IsMode text) }
     ensures usage { IfErr result (λ failure. failure ≡ Failure.Usage) }
 {
-    match word_of(given, "mode")? {
-        "image" => Ok(CopyMode::Image),
-        "text" => Ok(CopyMode::Text),
-        _ => Err(Failure::Usage),
-    }
+    let mode = match word_of(given, "mode")? {
+        "image" => CopyMode::Image,
+        "text" => CopyMode::Text,
+        _ => return Err(Failure::Usage),
+    };
+    Ok(mode)
 }
 
 fn home<'a>(alloc: Global) -> Result<Command<'a>, AllocError>

@@ -1,8 +1,24 @@
 use Rattle.std.proofs.Common.{[], arith, ◌∙◌, ap, ap₂, codes, false, map, true}
 use Rattle.clap.specs.Words.{is_simple, subcommand_of, takes}
 use Rattle.f11_pip.specs.Commands.{command_and_flag, command_and_word, command_and_words, copy_names, rt_init_names}
-use Rattle.f11_pip.specs.Words.{Asks, IsUnreadable, dump_line, from_rt_line, home_line, name_line, rights_line, rt_init_line, rt_list_line, rt_vfy_line, run_line, to_rt_line, update_line, vfy_line}
-use Rattle.f11_pip.proofs.LineLemmas.{takes-line, subcommand_of-from_rt, subcommand_of-rt_init, subcommand_of-to_rt}
+use Rattle.f11_pip.specs.Words.{
+  Asks,
+  IsUnreadable,
+  dump_line,
+  from_rt_line,
+  home_line,
+  name_line,
+  rights_line,
+  rt_init_line,
+  rt_list_line,
+  rt_vfy_line,
+  run_line,
+  to_rt_line,
+  update_line,
+  vfy_line,
+}
+use Rattle.f11_pip.proofs.CopyLemmas.{subcommand_of-from_rt, subcommand_of-to_rt}
+use Rattle.f11_pip.proofs.LineLemmas.{takes-line, subcommand_of-rt_init}
 use Rattle.f11_pip.proofs.WordsLemmas.{failure_out_of_memory, match_ok, no_memory_or_none, none_or_no_memory, subcommand_of-rt_list, subcommand_of-rt_vfy, subcommand_of-run, subcommand_of-update, subcommand_of-vfy, subcommand_of-dump, subcommand_of-home, subcommand_of-name, subcommand_of-rights, subcommand_of-none, is_simple-program}
 use Rattle.f11_pip.proofs.words.parse.Goals as goal
 
