@@ -98,8 +98,8 @@ module _ {D : Type 0} {met : Ghosts D} where
       one (inr d) =
           let fared = denied-fared who x d.0 v h.0 d.1 in
           by-bool (is_fatal d.0) (λ fatal.
-            let fault = fault-of d.0 fatal (denied-undamaged who x d.0 v h.0 alive honest d.1) in
-            let more = fared.failures ∙ ap (λ b. failures_of v + (if b then 1 else 0)) fault in
-            let rest = tried-more who xs h.0 w h.2 in
-            omega (arith, more, rest))
+          let fault = fault-of d.0 fatal (denied-undamaged who x d.0 v h.0 alive honest d.1) in
+          let more = fared.failures ∙ ap (λ b. failures_of v + (if b then 1 else 0)) fault in
+          let rest = tried-more who xs h.0 w h.2 in
+          omega (arith, more, rest))
           (λ clean. behind (is_fault d.0) (subst (λ b. IsFared (is_fault d.0) b v h.0) clean fared))

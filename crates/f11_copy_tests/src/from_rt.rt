@@ -50,12 +50,14 @@ fn fails_files(alloc: Global, mode: CopyMode, at: u64, lands: bool) -> Result<bo
     let is_told = copied == Err(FlxRefusal::Files(Refusal::DeviceFault))
         && later == Err(Refusal::VolumeFailed);
     let is_kept = are_alike(source.device(), rt_with_source(alloc)?)?;
-    Ok(is_told
-        && is_kept
-        && matches!(
-            verify(alloc, device.into_inner()),
-            Ok(Report::Accepted(_, _))
-        ))
+    Ok(
+        is_told
+            && is_kept
+            && matches!(
+                verify(alloc, device.into_inner()),
+                Ok(Report::Accepted(_, _))
+            ),
+    )
 }
 
 /// Whether each transfer of the Files-11 volume does.
@@ -97,12 +99,11 @@ fn fails_source(alloc: Global, mode: CopyMode, at: u64, is_made: bool) -> Result
     let Ok(device) = volume.dismount() else {
         return Ok(false);
     };
-    Ok(copied == Err(FlxRefusal::Rt(RtRefusal::DeviceFault))
-        && held == Some(is_made)
-        && matches!(
-            verify(alloc, device.device()),
-            Ok(Report::Accepted(_, _))
-        ))
+    Ok(
+        copied == Err(FlxRefusal::Rt(RtRefusal::DeviceFault))
+            && held == Some(is_made)
+            && matches!(verify(alloc, device.device()), Ok(Report::Accepted(_, _))),
+    )
 }
 
 /// The file is found by two transfers, and each block is read by three: those of a text once more before the file is made.

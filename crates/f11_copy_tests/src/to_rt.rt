@@ -93,12 +93,7 @@ fn fails_at_each_of_target(alloc: Global, mode: CopyMode) -> Result<bool, Fail> 
     let known = counted(alloc, mode)?;
     for transfer in 1..=known.rt {
         for lands in [false, true] {
-            if !fails_target(
-                alloc,
-                mode,
-                known.rt_begun.saturating_add(transfer),
-                lands,
-            )? {
+            if !fails_target(alloc, mode, known.rt_begun.saturating_add(transfer), lands)? {
                 return Ok(false);
             }
         }

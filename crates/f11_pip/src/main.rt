@@ -321,8 +321,11 @@ fn copied<'a>(
         CopyAnswer::Faulty(System::Files11) => remarks::of_image(rt, asked.image, true),
         CopyAnswer::Faulty(System::Rt11) => remarks::of_image(rt, asked.rt_image, true),
         CopyAnswer::Copied | CopyAnswer::Refused => {
-            remarks::of_image(rt, asked.image, false)
-                .or(remarks::of_image(rt, asked.rt_image, false))
+            remarks::of_image(rt, asked.image, false).or(remarks::of_image(
+                rt,
+                asked.rt_image,
+                false,
+            ))
         }
     };
     match answer {

@@ -69,18 +69,19 @@ pub fn directory_name(uic: Uic) -> Name
 }
 
 /// Finds the file that a directory has under a name.
-pub fn find<D: Device>(
-    volume: &mut Volume<D>,
-    dir: FileId,
-    name: &Name,
-) -> Result<FileId, Refusal>
+pub fn find<D: Device>(volume: &mut Volume<D>, dir: FileId, name: &Name) -> Result<FileId, Refusal>
     ensures found { IfOk result (λ id. Grants of_volume operator
         (told (request.Find dir name.now) (reply.Found id)) volume.old volume.new) }
     ensures refused { IfErr result (λ e. Fails of_volume operator is_found
         (request.Find dir name.now) e volume.old volume.new) }
 {
     let mut block = [0; BLOCK_SIZE];
-    match volume.serve(first_task(), OPERATOR, &Request::Find(dir, *name), &mut block) {
+    match volume.serve(
+        first_task(),
+        OPERATOR,
+        &Request::Find(dir, *name),
+        &mut block,
+    ) {
         Ok(Reply::Found(id)) => Ok(id),
         Ok(_) => Err(Refusal::Damaged),
         Err(refusal) => Err(refusal),

@@ -49,11 +49,7 @@ pub fn serve<D: Device, E: Device, W: Write>(
             (files, rt.device(), Err(Failure::DeviceFault))
         }
         Err(OpenFault::NoMemory(accepted)) => {
-            (
-                accepted.device(),
-                rt.device(),
-                Err(Failure::NoMemory),
-            )
+            (accepted.device(), rt.device(), Err(Failure::NoMemory))
         }
     }
 }
