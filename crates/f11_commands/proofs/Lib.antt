@@ -5,3 +5,4 @@ mod UpdateLemmas
 mod AskedLemmas
 mod CopyLemmas
 mod NamedLemmas
+mod DirectoryLemmas

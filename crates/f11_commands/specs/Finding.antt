@@ -1,5 +1,5 @@
 -- What a command asks of an open volume by names, whatever its devices (profile).
-use Rattle.std.specs.Prelude.{◌≡◌, ◌≢◌, ◌*◌, ℕ, Bool, true, false, IsTrue, Result, Ok, Err}
+use Rattle.std.specs.Prelude.{◌≡◌, ◌≢◌, ◌*◌, ◌++◌, ℕ, Bool, true, false, IsTrue, List, Result, Ok, Err, codes}
 use Rattle.f11_dev.specs.Disk.{Disk}
 use Rattle.f11_dev.specs.declared.device.Device.{Ghosts}
 use Rattle.f11_fcp.specs.Lists.{is_sound, store_of_volume}
@@ -9,6 +9,7 @@ use Rattle.f11_flx.specs.Copying.{FaresFiles, FaresRt, is_whole}
 use Rattle.f11_flx.specs.declared.refusal.FlxRefusal.{FlxRefusal}
 use Rattle.f11_flx.specs.declared.refusal.FlxRefusal.TheVariants.{Files}
 use Rattle.f11_store.specs.Store.{Store}
+use Rattle.f11_store.specs.declared.callers.Uic.{Uic}
 use Rattle.f11_store.specs.declared.files.FileId.{FileId}
 use Rattle.f11_store.specs.declared.refusals.Refusal.TheVariants.{Damaged}
 use Rattle.f11_store.specs.declared.requests.Reply.{Reply}
@@ -17,7 +18,7 @@ use Rattle.rt11_volume.specs.Calls.{volume_device}
 use Rattle.rt11_volume.specs.Store.{rt_store_of}
 use Rattle.rt11_volume.specs.Verifying.Verdict.{IsSoundDisk}
 use Rattle.rt11_volume.specs.declared.volume.RtAccepted.{RtAccepted}
-use Rattle.f11_commands.specs.Copying.{CopiesWithin, KeepsRt}
+use Rattle.f11_commands.specs.Copying.{CopiesWithin, KeepsRt, three_octal}
 use Rattle.f11_commands.specs.declared.copy.Copying.{Copying}
 use Rattle.f11_commands.specs.declared.copy.Direction.{Direction}
 
@@ -42,3 +43,7 @@ abbrev pub WithinDirectory : Direction → Copying → FileId → Result ℕ Flx
 WithinDirectory direction c dir result s s' disk disk' =
     CopiesWithin direction c dir result s s' disk disk'
     × KeepsRt direction c.rt_name result (rt_store_of disk.image) (rt_store_of disk'.image)
+
+-- how the name of a user's directory is spelled, as `200001.DIR;1`
+abbrev pub directory_text : Uic → List ℕ
+directory_text uic = three_octal uic.group ++ (three_octal uic.member ++ codes ".DIR;1")

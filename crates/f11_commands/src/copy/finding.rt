@@ -1,7 +1,7 @@
 //! Files that are found by their names.
-ghost use Rattle.std.specs.Prelude.{◌≡◌, ◌+◌, ◌%◌, ◌/◌, ◌++◌, IfOk, IfErr};
-ghost use Rattle.f11_commands.specs.Copying.{directory_name, operator, three_octal};
-ghost use Rattle.f11_commands.specs.Finding.{is_found};
+ghost use Rattle.std.specs.Prelude.{◌≡◌, ◌+◌, ◌%◌, IfOk, IfErr};
+ghost use Rattle.f11_commands.specs.Copying.{directory_name, operator};
+ghost use Rattle.f11_commands.specs.Finding.{directory_text, is_found};
 ghost use Rattle.f11_flx.specs.Asking.{Fails, Grants, told};
 ghost use Rattle.f11_flx.specs.Copying.{of_volume};
 ghost use Rattle.f11_store.specs.declared.requests.Reply.TheVariants as reply;
@@ -47,11 +47,11 @@ fn octal_digit(value: u8) -> u8
     b'0' + value % 8
 }
 
-/// The name of a user's directory: group and member in three octal digits each, as `200001.DIR;1`.
-pub fn directory_name(uic: Uic) -> Name
-    ensures { result ≡ directory_name uic }
+/// How the name of a user's directory is spelled.
+fn directory_text(uic: Uic) -> [u8; 12]
+    ensures { result ≡ directory_text uic }
 {
-    let text = [
+    [
         octal_digit(uic.group / 64),
         octal_digit(uic.group / 8),
         octal_digit(uic.group),
@@ -64,7 +64,14 @@ pub fn directory_name(uic: Uic) -> Name
         b'R',
         b';',
         b'1',
-    ];
+    ]
+}
+
+/// The name of a user's directory: group and member in three octal digits each, as `200001.DIR;1`.
+pub fn directory_name(uic: Uic) -> Name
+    ensures { result ≡ directory_name uic }
+{
+    let text = directory_text(uic);
     Name::parse(&text).unwrap()
 }
 
