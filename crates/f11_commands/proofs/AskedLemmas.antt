@@ -28,7 +28,7 @@ by-bool : {A : Type 0} (b : Bool) → (b ≡ true → A) → (b ≡ false → A)
 by-bool true f g = f refl
 by-bool false f g = g refl
 
-never : {A : Type 0} {b : Bool} → b ≡ true → b ≡ false → A
+pub never : {A : Type 0} {b : Bool} → b ≡ true → b ≡ false → A
 never {b = true} h k = absurd (cc)
 never {b = false} h k = absurd (cc)
 
@@ -85,21 +85,27 @@ module _ {D : Type 0} {met : Ghosts D} where
   -- a volume of an honest disk that fails meanwhile has met a failed transfer
   pub tried-breaks : (who : Who) (xs : List Asking) (v w : Volume D met) → Tried of_volume who xs v w → IsTrue (state_in v).disk.honest → is_spent v ≡ false → is_spent w ≡ true → failures_of v < failures_of w
   tried-breaks who [] v w h honest alive dead = never (sym (ap (λ (u : Volume D met). is_spent u) h) ∙ dead) alive
-  tried-breaks who (x ∷ xs) v w h honest alive dead = one h.1
+  tried-breaks who (x ∷ xs) v w h honest alive dead =
+      one (λ honest' alive'. tried-breaks who xs h.0 w h.2 honest' alive' dead) (tried-more who xs h.0 w h.2) h.1
     where
-      behind : (f : Bool) → IsFared f false v h.0 → failures_of v < failures_of w
-      behind f fared =
-          let rest = tried-breaks who xs h.0 w h.2 (fared.honest ∙ honest) (fared.next ∙ ap (λ b. b || false) alive) dead in
-          let same = fared.failures in
-          omega (arith, rest, same)
+      Rest : Type 0
+      Rest = IsTrue (state_in h.0).disk.honest → is_spent h.0 ≡ false → failures_of h.0 < failures_of w
 
-      one : (Grants of_volume who x v h.0) ⊎ ((e : Refusal) × Denies of_volume who x e v h.0) → failures_of v < failures_of w
-      one (inl g) = behind false (granted-fared who x v h.0 g)
-      one (inr d) =
-          let fared = denied-fared who x d.0 v h.0 d.1 in
-          by-bool (is_fatal d.0) (λ fatal.
-          let fault = fault-of d.0 fatal (denied-undamaged who x d.0 v h.0 alive honest d.1) in
-          let more = fared.failures ∙ ap (λ b. failures_of v + (if b then 1 else 0)) fault in
-          let rest = tried-more who xs h.0 w h.2 in
-          omega (arith, more, rest))
-          (λ clean. behind (is_fault d.0) (subst (λ b. IsFared (is_fault d.0) b v h.0) clean fared))
+      behind : Rest → (f : Bool) → IsFared f false v h.0 → failures_of v < failures_of w
+      behind rest f fared =
+          let more = rest (fared.honest ∙ honest) (fared.next ∙ ap (λ b. b || false) alive) in
+          let same = fared.failures in
+          omega (arith, more, same)
+
+      broken : failures_of h.0 ≤ failures_of w → (e : Refusal) → Denies of_volume who x e v h.0 → is_fatal e ≡ true → failures_of v < failures_of w
+      broken later e denies fatal =
+          let fault = fault-of e fatal (denied-undamaged who x e v h.0 alive honest denies) in
+          let more = (denied-fared who x e v h.0 denies).failures ∙ ap (λ b. failures_of v + (if b then 1 else 0)) fault in
+          omega (arith, more, later)
+
+      clean : Rest → (e : Refusal) → Denies of_volume who x e v h.0 → is_fatal e ≡ false → failures_of v < failures_of w
+      clean rest e denies not-fatal = behind rest (is_fault e) (subst (λ b. IsFared (is_fault e) b v h.0) not-fatal (denied-fared who x e v h.0 denies))
+
+      one : Rest → failures_of h.0 ≤ failures_of w → (Grants of_volume who x v h.0) ⊎ ((e : Refusal) × Denies of_volume who x e v h.0) → failures_of v < failures_of w
+      one rest later (inl g) = behind rest false (granted-fared who x v h.0 g)
+      one rest later (inr d) = by-bool (is_fatal d.0) (broken later d.0 d.1) (clean rest d.0 d.1)

@@ -1,5 +1,6 @@
 -- The name of a user's directory is one.
-use Rattle.std.proofs.Common.{◌≡◌, ℕ, suc, ◌+◌, ◌/◌, ◌%◌, ◌<◌, ◌&&◌, Bool, true, false, List, [], ◌∷◌, ◌++◌, codes, length, list_all, refl, arith}
+use Rattle.std.proofs.Common.{◌≡◌, ℕ, zero, suc, ◌+◌, ◌/◌, ◌%◌, ◌<◌, ◌&&◌, Bool, true, false, List, [], ◌∷◌, ◌++◌, codes, length, refl, arith}
+use Rattle.std.specs.List.{list_all}
 use Rattle.std.proofs.lemmas.List.Sums.{AllPass-from_list_all}
 use Rattle.f11_rad50.specs.Name.{IsProper, Spells, is_name_character}
 use Rattle.f11_store.specs.declared.callers.Uic.{Uic}
@@ -8,14 +9,14 @@ use Rattle.f11_commands.specs.Finding.{directory_text}
 
 digit : (d : ℕ) → d < 8 → is_name_character (48 + d) ≡ true
 unfolding is_name_character
-digit 0 small = refl
-digit 1 small = refl
-digit 2 small = refl
-digit 3 small = refl
-digit 4 small = refl
-digit 5 small = refl
-digit 6 small = refl
-digit 7 small = refl
+digit zero small = refl
+digit (suc zero) small = refl
+digit (suc (suc zero)) small = refl
+digit (suc (suc (suc zero))) small = refl
+digit (suc (suc (suc (suc zero)))) small = refl
+digit (suc (suc (suc (suc (suc zero))))) small = refl
+digit (suc (suc (suc (suc (suc (suc zero)))))) small = refl
+digit (suc (suc (suc (suc (suc (suc (suc zero))))))) small = refl
 digit (suc (suc (suc (suc (suc (suc (suc (suc d)))))))) small = absurd (omega (arith, small))
 
 both : {b c : Bool} → b ≡ true → c ≡ true → (b && c) ≡ true
@@ -32,7 +33,7 @@ kind = refl
 
 proper : (uic : Uic) → IsProper (three_octal uic.group ++ three_octal uic.member) (codes "DIR") 1
 proper uic = record {
-  name_characters = AllPass-from_list_all is_name_character _ (three uic.group (three_octal uic.member) (three uic.member [] refl));
+  name_characters = AllPass-from_list_all is_name_character (three_octal uic.group ++ three_octal uic.member) (three uic.group (three_octal uic.member) (three uic.member [] refl));
   name_length = omega arith;
   type_characters = AllPass-from_list_all is_name_character (codes "DIR") kind;
   type_length = omega arith;

@@ -7,7 +7,7 @@ use Rattle.f11_fcp.specs.Serving.{is_spent, state_in}
 use Rattle.f11_fcp.specs.declared.volume.Volume.{Volume}
 use Rattle.f11_files.specs.Answers.{is_fatal, is_fault}
 use Rattle.f11_flx.proofs.VolumeLemmas.{IsFared, denied-fared, granted-fared, volume-seen}
-use Rattle.f11_flx.specs.Asking.{Asking, Denies, Fails, Grants, Who, asks, plain, told}
+use Rattle.f11_flx.specs.Asking.{Asking, Denies, Fails, Grants, Who, asks, plain, told, who_asks}
 use Rattle.f11_flx.specs.Copying.{AsksOnly, FaresFiles, FaresRt, MakesFile, MakesRtFile, ReadsFiles, ReadsRt, WhereSound, is_whole, of_files, of_volume}
 use Rattle.f11_flx.specs.CopyFromRt.{CopiesFromRt, FailsToCopyFromRt}
 use Rattle.f11_flx.specs.CopyToRt.{CopiesToRt, FailsToCopyToRt}
@@ -61,7 +61,7 @@ untouched disk e rt = record {
   next = sym (or-false (has_failed rt));
 }
 
-module _ {D E : Type 0} {met : Ghosts D} {met' : Ghosts E} (disk : E → Disk) where
+module _ {D : Type 0} {met : Ghosts D} where
   fares-behind : (result : Result ℕ FlxRefusal) (v u w : Volume D met) → IsFared false false v u → FaresFiles result u w → FaresFiles result v w
   fares-behind result v u w f g =
       let alive : is_spent u ≡ is_spent v = f.next ∙ or-false (is_spent v) in
@@ -76,6 +76,16 @@ module _ {D E : Type 0} {met : Ghosts D} {met' : Ghosts E} (disk : E → Disk) w
         accepted = g.accepted;
       }
 
+  -- a volume that a copy was asked of, as it tells itself
+  undamaged-asked : (is_one : Asking → Bool) (who : Who) (result : Result ℕ FlxRefusal) (v w : Volume D met) → FaresFiles result v w → AsksOnly is_one who v w
+      → is_spent v ≡ false → IsTrue (state_in v).disk.honest → result ≢ Err (Files Damaged)
+  undamaged-asked is_one who result v w fares asked alive honest is =
+      let dead = fares.next honest ∙ ap (λ r. is_spent v || of_files is_fatal r) is ∙ or-true (is_spent v) in
+      let more = tried-breaks who asked.asked v w asked.tried honest alive dead in
+      let same = fares.failures ∙ ap (λ r. failures_of v + (if of_files is_fault r then 1 else 0)) is in
+      absurd (omega (arith, more, same))
+
+module _ {D E : Type 0} {met : Ghosts D} {met' : Ghosts E} (disk : E → Disk) where
   -- a copy behind something that was granted
   pub answers-behind : (result : Result ℕ FlxRefusal) (Holds Holds' : Store → Store → Disk → Disk → Type 0) (who : Who) (x : Asking) (v u w : Volume D met) (rt rt' : RtAccepted E met')
       → Grants of_volume who x v u → Answers disk result Holds u w rt rt'
@@ -124,13 +134,13 @@ module _ {D E : Type 0} {met : Ghosts D} {met' : Ghosts E} (disk : E → Disk) w
       not-true {b = false} h = refl
   answers-not-found Holds dir name e v w rt (inr wrong) step =
       let fared = granted-fared operator (told (request.Find dir name) wrong.0) v w wrong.3 in
-      let dishonest = λ (honest : IsTrue (state_in v).disk.honest). never (found-reply dir name wrong.0 v w wrong.3 honest) wrong.1 in
+      let dishonest : IsTrue (state_in v).disk.honest → ⊥ = λ honest. never (found-reply dir name wrong.0 v w wrong.3 honest) wrong.1 in
       record {
         fares = subst (λ x. FaresFiles {T = ℕ} (Err (Files x)) v w) (sym wrong.2) (record {
           failures = fared.failures;
           quiet = λ fault. absurd (cc);
           honest = fared.honest;
-          next = λ honest. dishonest honest;
+          next = λ honest. absurd (dishonest honest);
           spent = λ dead. or-true (is_spent v);
           accepted = fared.accepted;
         });
@@ -141,22 +151,17 @@ module _ {D E : Type 0} {met : Ghosts D} {met' : Ghosts E} (disk : E → Disk) w
         outcome = λ sound rt-sound whole. absurd (let lethal = subst (λ x. is_whole {T = ℕ} (Err (Files x)) ≡ true) wrong.2 whole in cc);
       }
 
-  -- a volume that a copy was asked of, as it tells itself
-  undamaged-asked : (is_one : Asking → Bool) (who : Who) (result : Result ℕ FlxRefusal) (v w : Volume D met) → FaresFiles result v w → AsksOnly is_one who v w
-      → is_spent v ≡ false → IsTrue (state_in v).disk.honest → result ≢ Err (Files Damaged)
-  undamaged-asked is_one who result v w fares asked alive honest is =
-      let dead = fares.next honest ∙ ap (λ r. is_spent v || of_files is_fatal r) is ∙ or-true (is_spent v) in
-      let more = tried-breaks who asked.asked v w asked.tried honest alive dead in
-      let same = fares.failures ∙ ap (λ r. failures_of v + (if of_files is_fault r then 1 else 0)) is in
-      absurd (omega (arith, more, same))
-
   module _ (c : Copying) (v w : Volume D met) (rt rt' : RtAccepted E met') where
-    d d' : Disk
+    abbrev d : Disk
     d = disk (volume_device rt)
+
+    abbrev d' : Disk
     d' = disk (volume_device rt')
 
-    s s' : Store
+    abbrev s : Store
     s = store_of_volume v
+
+    abbrev s' : Store
     s' = store_of_volume w
 
     -- a copy to the RT-11 volume
@@ -182,8 +187,8 @@ module _ {D E : Type 0} {met : Ghosts D} {met' : Ghosts E} (disk : E → Disk) w
             → IfOk r (λ blocks. WhereSound disk v rt (CopiesToRt c.mode operator 0 source c.rt_name 0 blocks s s' (rt_store_of d.image) (rt_store_of d'.image)))
             → IfErr r (λ e. is_whole r ≡ true → WhereSound disk v rt (FailsToCopyToRt e c.mode operator 0 source c.rt_name s s' d))
             → is_sound v ≡ true → IsSoundDisk d → is_whole r ≡ true → OfSource source r s s' d d'
-        by_result (Ok blocks) made yes no sound rt-sound whole = yes sound rt-sound
-        by_result (Err e) made yes no sound rt-sound whole = (no whole sound rt-sound, made.undone e refl rt-sound whole)
+        by_result (Ok blocks) made copies not-copied sound rt-sound whole = copies sound rt-sound
+        by_result (Err e) made copies not-copied sound rt-sound whole = (not-copied whole sound rt-sound, made.undone e refl rt-sound whole)
 
     -- a copy from it
     pub answers-from-rt : (dir : FileId) (result : Result ℕ FlxRefusal) → ReadsRt disk result rt rt' → MakesFile result operator v w
@@ -206,5 +211,100 @@ module _ {D E : Type 0} {met : Ghosts D} {met' : Ghosts E} (disk : E → Disk) w
             → IfOk r (λ blocks. WhereSound disk v rt (CopiesFromRt c.mode c.rt_name operator 0 dir c.name 0 blocks (rt_store_of d.image) s s'))
             → IfErr r (λ e. is_whole r ≡ true → WhereSound disk v rt (FailsToCopyFromRt e c.mode c.rt_name operator 0 dir c.name 0 d s s'))
             → is_sound v ≡ true → IsSoundDisk d → is_whole r ≡ true → CopiesWithin FromRt c dir r s s' d d'
-        by_result (Ok blocks) made yes no sound rt-sound whole = yes sound rt-sound
-        by_result (Err e) made yes no sound rt-sound whole = record { refused = no whole sound rt-sound; undone = made.undone e refl sound whole }
+        by_result (Ok blocks) made copies not-copied sound rt-sound whole = copies sound rt-sound
+        by_result (Err e) made copies not-copied sound rt-sound whole = record { refused = not-copied whole sound rt-sound; undone = made.undone e refl sound whole }
+
+-- what nobody asked anything of has the files that it had
+same-files : (name : List ℕ) (t : RtStore) → HasSameFiles name t t
+same-files name t = record { named = refl; others = λ other apart. refl }
+
+keeps-rt : (direction : Direction) (name : List ℕ) (e : FlxRefusal) (t : RtStore) → KeepsRt direction name (Err e) t t
+keeps-rt ToRt name e t = same-files name t
+keeps-rt FromRt name e t = refl
+
+module _ {D E : Type 0} {met : Ghosts D} {met' : Ghosts E} (disk : E → Disk) (c : Copying) where
+  -- a copy to the RT-11 volume, asked for by a task and a lun of these numbers
+  pub copied-to-rt : (task lun : ℕ) → task ≡ 0 → lun ≡ 0 → (source : FileId) (result : Result ℕ FlxRefusal) (v w : Volume D met) (rt rt' : RtAccepted E met')
+      → ReadsFiles result (who_asks task operator.caller) v w → MakesRtFile disk result c.rt_name rt rt'
+      → IfOk result (λ blocks. WhereSound disk v rt (CopiesToRt c.mode (who_asks task operator.caller) lun source c.rt_name 0 blocks (store_of_volume v) (store_of_volume w)
+        (rt_store_of (disk (volume_device rt)).image) (rt_store_of (disk (volume_device rt')).image)))
+      → IfErr result (λ e. is_whole result ≡ true → WhereSound disk v rt
+        (FailsToCopyToRt e c.mode (who_asks task operator.caller) lun source c.rt_name (store_of_volume v) (store_of_volume w) (disk (volume_device rt))))
+      → Answers disk result (OfSource disk c v w rt rt' source result) v w rt rt'
+  copied-to-rt task lun task-is lun-is source result v w rt rt' = subst (λ t. By t lun) (sym task-is) (subst (λ l. By 0 l) (sym lun-is) (answers-to-rt disk c v w rt rt' source result))
+    where
+      By : ℕ → ℕ → Type 0
+      By t l =
+          ReadsFiles result (who_asks t operator.caller) v w → MakesRtFile disk result c.rt_name rt rt'
+          → IfOk result (λ blocks. WhereSound disk v rt (CopiesToRt c.mode (who_asks t operator.caller) l source c.rt_name 0 blocks (store_of_volume v) (store_of_volume w)
+            (rt_store_of (disk (volume_device rt)).image) (rt_store_of (disk (volume_device rt')).image)))
+          → IfErr result (λ e. is_whole result ≡ true → WhereSound disk v rt
+            (FailsToCopyToRt e c.mode (who_asks t operator.caller) l source c.rt_name (store_of_volume v) (store_of_volume w) (disk (volume_device rt))))
+          → Answers disk result (OfSource disk c v w rt rt' source result) v w rt rt'
+
+  -- and one from it
+  pub copied-from-rt : (task lun : ℕ) → task ≡ 0 → lun ≡ 0 → (dir : FileId) (result : Result ℕ FlxRefusal) (v w : Volume D met) (rt rt' : RtAccepted E met')
+      → ReadsRt disk result rt rt' → MakesFile result (who_asks task operator.caller) v w
+      → IfOk result (λ blocks. WhereSound disk v rt (CopiesFromRt c.mode c.rt_name (who_asks task operator.caller) lun dir c.name 0 blocks
+        (rt_store_of (disk (volume_device rt)).image) (store_of_volume v) (store_of_volume w)))
+      → IfErr result (λ e. is_whole result ≡ true → WhereSound disk v rt
+        (FailsToCopyFromRt e c.mode c.rt_name (who_asks task operator.caller) lun dir c.name 0 (disk (volume_device rt)) (store_of_volume v) (store_of_volume w)))
+      → Answers disk result (WithinDirectory FromRt c dir result) v w rt rt'
+  copied-from-rt task lun task-is lun-is dir result v w rt rt' = subst (λ t. By t lun) (sym task-is) (subst (λ l. By 0 l) (sym lun-is) (answers-from-rt disk c v w rt rt' dir result))
+    where
+      By : ℕ → ℕ → Type 0
+      By t l =
+          ReadsRt disk result rt rt' → MakesFile result (who_asks t operator.caller) v w
+          → IfOk result (λ blocks. WhereSound disk v rt (CopiesFromRt c.mode c.rt_name (who_asks t operator.caller) l dir c.name 0 blocks
+            (rt_store_of (disk (volume_device rt)).image) (store_of_volume v) (store_of_volume w)))
+          → IfErr result (λ e. is_whole result ≡ true → WhereSound disk v rt
+            (FailsToCopyFromRt e c.mode c.rt_name (who_asks t operator.caller) l dir c.name 0 (disk (volume_device rt)) (store_of_volume v) (store_of_volume w)))
+          → Answers disk result (WithinDirectory FromRt c dir result) v w rt rt'
+
+  -- the file is found, and then it is copied
+  pub found-source : (dir source : FileId) (result : Result ℕ FlxRefusal) (v u w : Volume D met) (rt rt' : RtAccepted E met')
+      → Grants of_volume operator (told (request.Find dir c.name) (reply.Found source)) v u → Answers disk result (OfSource disk c u w rt rt' source result) u w rt rt'
+      → Answers disk result (WithinDirectory ToRt c dir result) v w rt rt'
+  found-source dir source result v u w rt rt' grants answers =
+      answers-behind disk result (OfSource disk c u w rt rt' source result) (WithinDirectory ToRt c dir result) operator (told (request.Find dir c.name) (reply.Found source))
+      v u w rt rt' grants answers (by_result result)
+    where
+      by_result : (r : Result ℕ FlxRefusal) → Grants plain operator (told (request.Find dir c.name) (reply.Found source)) (store_of_volume v) (store_of_volume u)
+          → OfSource disk c u w rt rt' source r (store_of_volume u) (store_of_volume w) (disk (volume_device rt)) (disk (volume_device rt'))
+          → WithinDirectory ToRt c dir r (store_of_volume v) (store_of_volume w) (disk (volume_device rt)) (disk (volume_device rt'))
+      by_result (Ok blocks) granted holds = (record { source = source; found = store_of_volume u; finds = (store_of_volume u, granted, refl); copies = holds }, tt)
+      by_result (Err e) granted holds = (inr (record { source = source; found = store_of_volume u; finds = (store_of_volume u, granted, refl); refused = holds.0 }), holds.1)
+
+  pub lacks-source : (dir : FileId) (e : Refusal) (v w : Volume D met) (rt : RtAccepted E met') → Fails of_volume operator is_found (request.Find dir c.name) e v w
+      → Answers disk (Err (Files e)) (WithinDirectory ToRt c dir (Err (Files e))) v w rt rt
+  lacks-source dir e v w rt fails =
+      answers-not-found disk (WithinDirectory ToRt c dir (Err (Files e))) dir c.name e v w rt fails
+      (λ denies. (inl (record { refusal = e; is = refl; not_found = denies }), same-files c.rt_name (rt_store_of (disk (volume_device rt)).image)))
+
+  -- the user's directory is found, and then a file is copied from it, or to it
+  pub found-directory : (direction : Direction) → c.direction ≡ direction → (name : List ℕ) → name ≡ directory_name c.directory → (dir : FileId) (result : Result ℕ FlxRefusal)
+      (v u w : Volume D met) (rt rt' : RtAccepted E met')
+      → Grants of_volume operator (told (request.Find master_directory name) (reply.Found dir)) v u → Answers disk result (WithinDirectory direction c dir result) u w rt rt'
+      → Answers disk result (OutcomeIs c result) v w rt rt'
+  found-directory direction is name name-is dir result v u w rt rt' grants answers =
+      answers-behind disk result (WithinDirectory direction c dir result) (OutcomeIs c result) operator (told (request.Find master_directory (directory_name c.directory)) (reply.Found dir))
+      v u w rt rt' (subst (λ n. Grants of_volume operator (told (request.Find master_directory n) (reply.Found dir)) v u) name-is grants) answers
+      (λ granted holds. record {
+        files = inl (record {
+          dir = dir;
+          found = store_of_volume u;
+          finds = (store_of_volume u, granted, refl);
+          within = subst (λ x. CopiesWithin x c dir result (store_of_volume u) (store_of_volume w) (disk (volume_device rt)) (disk (volume_device rt'))) (sym is) holds.0;
+        });
+        rt = subst (λ x. KeepsRt x c.rt_name result (rt_store_of (disk (volume_device rt)).image) (rt_store_of (disk (volume_device rt')).image)) (sym is) holds.1;
+      })
+
+  pub lacks-directory : (name : List ℕ) → name ≡ directory_name c.directory → (e : Refusal) (v w : Volume D met) (rt : RtAccepted E met')
+      → Fails of_volume operator is_found (request.Find master_directory name) e v w → Answers disk (Err (Files e)) (OutcomeIs c (Err (Files e))) v w rt rt
+  lacks-directory name name-is e v w rt fails =
+      answers-not-found disk (OutcomeIs c (Err (Files e))) master_directory (directory_name c.directory) e v w rt
+      (subst (λ n. Fails of_volume operator is_found (request.Find master_directory n) e v w) name-is fails)
+      (λ denies. record {
+        files = inr (record { refusal = e; is = refl; not_found = denies });
+        rt = keeps-rt c.direction c.rt_name (Files e) (rt_store_of (disk (volume_device rt)).image);
+      })
