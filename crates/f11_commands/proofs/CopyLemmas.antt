@@ -15,13 +15,11 @@ use Rattle.f11_store.specs.Store.{Store}
 use Rattle.rt11_volume.specs.Calls.{volume_device}
 use Rattle.rt11_volume.specs.Verifying.Verdict.{IsRtAccepted, IsSoundDisk}
 use Rattle.rt11_volume.specs.declared.volume.RtAccepted.{RtAccepted}
-use Rattle.f11_commands.specs.CopyCommand.{AnswersCopy, CopiesImages, EndsBetween, EndsCopy, EndsFiles, EndsRt, Tells, VerifiesFiles, VerifiesRt}
+use Rattle.f11_commands.specs.CopyCommand.{AnswersCopy, CopiesImages, EndsBetween, Tells}
 use Rattle.f11_commands.specs.Copying.{OutcomeIs}
 use Rattle.f11_commands.specs.Finding.{Answers}
 use Rattle.f11_commands.specs.declared.copy.CopyAnswer.{CopyAnswer}
 use Rattle.f11_commands.specs.declared.copy.Copying.{Copying}
-use Rattle.f11_commands.specs.declared.copy.Direction.{Direction}
-use Rattle.f11_commands.specs.declared.copy.Direction.TheVariants.{FromRt, ToRt}
 use Rattle.f11_commands.specs.declared.outcome.Failure.{Failure}
 
 both : (a b : Bool) → a ≡ true → b ≡ false → (a && not b) ≡ true
@@ -43,10 +41,10 @@ module _ {D E : Type 0} {met : Ghosts D} {met' : Ghosts E} (rt-disk : E → Disk
     last-is : store_of_volume last ≡ held_in (state_in last).table (store_of (state_in last).disk.image (state_in first).home)
     last-is = ap (λ (h : HomeFields). held_in (state_in last).table (store_of (state_in last).disk.image h)) answers.home
 
-    d : Disk
+    abbrev d : Disk
     d = rt-disk (volume_device rt)
 
-    d' : Disk
+    abbrev d' : Disk
     d' = rt-disk (volume_device rt')
 
     sound-rt : IsTrue d.honest → IsSoundDisk d
@@ -75,27 +73,3 @@ module _ {D E : Type 0} {met : Ghosts D} {met' : Ghosts E} (rt-disk : E → Disk
         inl (subst (λ (x : Disk). AnswersCopy c told old x d rt-new contents before after) (sym at)
         (subst (λ (x : Disk). AnswersCopy c told old (state_in last).disk d x contents before after) (sym rt-at)
         (record { result = result; copies = copies-images; tells = tells })))
-
--- an RT-11 volume that was verified has no fault
-pub verified-rt : (old new : Disk) → VerifiesRt old new → IsTrue new.honest → IsRtAccepted new.image
-verified-rt old new v honest = subst (λ (i : Image). IsRtAccepted i) (sym v.1.looked.image) (v.1.accepted (sym v.1.looked.honest ∙ honest))
-
--- how a command ends whose volumes are verified one after the other, with a writer to which the verifiers of accepted ones write nothing
-module _ {W : Type 0} (c : Copying) (told : Result CopyAnswer Failure) (files files' rt rt' : Disk) (contents : W → Option (List ℕ)) (before after : W) where
-  pub ends-at-target-rt : (between : W) → between ≡ before → VerifiesFiles files files' → EndsRt told rt rt' contents between after
-      → EndsCopy ToRt c told files files' rt rt' contents before after
-  ends-at-target-rt between same verified ends = inl (inr (verified, subst (λ w. EndsRt told rt rt' contents w after) same ends))
-
-  pub ends-at-target-files : (between : W) → between ≡ before → VerifiesRt rt rt' → EndsFiles told files files' contents between after
-      → EndsCopy FromRt c told files files' rt rt' contents before after
-  ends-at-target-files between same verified ends = inl (inr (verified, subst (λ w. EndsFiles told files files' contents w after) same ends))
-
-  pub goes-on : (direction : Direction) (files-read rt-read : Disk) (first second : W) → first ≡ before → second ≡ first → VerifiesFiles files files-read → VerifiesRt rt rt-read
-      → EndsBetween c told files-read files' rt-read rt' contents second after → EndsCopy direction c told files files' rt rt' contents before after
-  goes-on direction files-read rt-read first second is also files-verified rt-verified ends = inr (record {
-    files_read = files-read;
-    rt_read = rt-read;
-    files_verified = files-verified;
-    rt_verified = rt-verified;
-    ends = subst (λ w. EndsBetween c told files-read files' rt-read rt' contents w after) (also ∙ is) ends;
-  })
