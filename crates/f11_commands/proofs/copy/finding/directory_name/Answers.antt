@@ -1,4 +1,4 @@
-use Rattle.std.proofs.Common.{◌≡◌, Ok, refl, sym, subst}
+use Rattle.std.proofs.Common.{refl, sym, subst}
 use Rattle.std.specs.Result.{IsOk}
 use Rattle.f11_rad50.specs.Name.{Spells}
 use Rattle.f11_commands.specs.Copying.{directory_name}
