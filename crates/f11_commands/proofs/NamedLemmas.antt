@@ -90,7 +90,7 @@ module _ {D E : Type 0} {met : Ghosts D} {met' : Ghosts E} (disk : E → Disk) w
   pub answers-behind : (result : Result ℕ FlxRefusal) (Holds Holds' : Store → Store → Disk → Disk → Type 0) (who : Who) (x : Asking) (v u w : Volume D met) (rt rt' : RtAccepted E met')
       → Grants of_volume who x v u → Answers disk result Holds u w rt rt'
       → (Grants plain who x (store_of_volume v) (store_of_volume u) → Holds (store_of_volume u) (store_of_volume w) (disk (volume_device rt)) (disk (volume_device rt'))
-        → Holds' (store_of_volume v) (store_of_volume w) (disk (volume_device rt)) (disk (volume_device rt')))
+      → Holds' (store_of_volume v) (store_of_volume w) (disk (volume_device rt)) (disk (volume_device rt')))
       → Answers disk result Holds' v w rt rt'
   answers-behind result Holds Holds' who x v u w rt rt' grants a step =
       let fared = granted-fared who x v u grants in
@@ -109,7 +109,7 @@ module _ {D E : Type 0} {met : Ghosts D} {met' : Ghosts E} (disk : E → Disk) w
   pub answers-not-found : (Holds : Store → Store → Disk → Disk → Type 0) (dir : FileId) (name : List ℕ) (e : Refusal) (v w : Volume D met) (rt : RtAccepted E met')
       → Fails of_volume operator is_found (request.Find dir name) e v w
       → (Denies plain operator (asks (request.Find dir name)) e (store_of_volume v) (store_of_volume w)
-        → Holds (store_of_volume v) (store_of_volume w) (disk (volume_device rt)) (disk (volume_device rt)))
+      → Holds (store_of_volume v) (store_of_volume w) (disk (volume_device rt)) (disk (volume_device rt)))
       → Answers disk (Err (Files e)) Holds v w rt rt
   answers-not-found Holds dir name e v w rt (inl denies) step =
       let fared = denied-fared operator (asks (request.Find dir name)) e v w denies in
@@ -227,9 +227,9 @@ module _ {D E : Type 0} {met : Ghosts D} {met' : Ghosts E} (disk : E → Disk) (
   pub copied-to-rt : (task lun : ℕ) → task ≡ 0 → lun ≡ 0 → (source : FileId) (result : Result ℕ FlxRefusal) (v w : Volume D met) (rt rt' : RtAccepted E met')
       → ReadsFiles result (who_asks task operator.caller) v w → MakesRtFile disk result c.rt_name rt rt'
       → IfOk result (λ blocks. WhereSound disk v rt (CopiesToRt c.mode (who_asks task operator.caller) lun source c.rt_name 0 blocks (store_of_volume v) (store_of_volume w)
-        (rt_store_of (disk (volume_device rt)).image) (rt_store_of (disk (volume_device rt')).image)))
+      (rt_store_of (disk (volume_device rt)).image) (rt_store_of (disk (volume_device rt')).image)))
       → IfErr result (λ e. is_whole result ≡ true → WhereSound disk v rt
-        (FailsToCopyToRt e c.mode (who_asks task operator.caller) lun source c.rt_name (store_of_volume v) (store_of_volume w) (disk (volume_device rt))))
+      (FailsToCopyToRt e c.mode (who_asks task operator.caller) lun source c.rt_name (store_of_volume v) (store_of_volume w) (disk (volume_device rt))))
       → Answers disk result (OfSource disk c v w rt rt' source result) v w rt rt'
   copied-to-rt task lun task-is lun-is source result v w rt rt' = subst (λ t. By t lun) (sym task-is) (subst (λ l. By 0 l) (sym lun-is) (answers-to-rt disk c v w rt rt' source result))
     where
@@ -237,18 +237,18 @@ module _ {D E : Type 0} {met : Ghosts D} {met' : Ghosts E} (disk : E → Disk) (
       By t l =
           ReadsFiles result (who_asks t operator.caller) v w → MakesRtFile disk result c.rt_name rt rt'
           → IfOk result (λ blocks. WhereSound disk v rt (CopiesToRt c.mode (who_asks t operator.caller) l source c.rt_name 0 blocks (store_of_volume v) (store_of_volume w)
-            (rt_store_of (disk (volume_device rt)).image) (rt_store_of (disk (volume_device rt')).image)))
+          (rt_store_of (disk (volume_device rt)).image) (rt_store_of (disk (volume_device rt')).image)))
           → IfErr result (λ e. is_whole result ≡ true → WhereSound disk v rt
-            (FailsToCopyToRt e c.mode (who_asks t operator.caller) l source c.rt_name (store_of_volume v) (store_of_volume w) (disk (volume_device rt))))
+          (FailsToCopyToRt e c.mode (who_asks t operator.caller) l source c.rt_name (store_of_volume v) (store_of_volume w) (disk (volume_device rt))))
           → Answers disk result (OfSource disk c v w rt rt' source result) v w rt rt'
 
   -- and one from it
   pub copied-from-rt : (task lun : ℕ) → task ≡ 0 → lun ≡ 0 → (dir : FileId) (result : Result ℕ FlxRefusal) (v w : Volume D met) (rt rt' : RtAccepted E met')
       → ReadsRt disk result rt rt' → MakesFile result (who_asks task operator.caller) v w
       → IfOk result (λ blocks. WhereSound disk v rt (CopiesFromRt c.mode c.rt_name (who_asks task operator.caller) lun dir c.name 0 blocks
-        (rt_store_of (disk (volume_device rt)).image) (store_of_volume v) (store_of_volume w)))
+      (rt_store_of (disk (volume_device rt)).image) (store_of_volume v) (store_of_volume w)))
       → IfErr result (λ e. is_whole result ≡ true → WhereSound disk v rt
-        (FailsToCopyFromRt e c.mode c.rt_name (who_asks task operator.caller) lun dir c.name 0 (disk (volume_device rt)) (store_of_volume v) (store_of_volume w)))
+      (FailsToCopyFromRt e c.mode c.rt_name (who_asks task operator.caller) lun dir c.name 0 (disk (volume_device rt)) (store_of_volume v) (store_of_volume w)))
       → Answers disk result (WithinDirectory FromRt c dir result) v w rt rt'
   copied-from-rt task lun task-is lun-is dir result v w rt rt' = subst (λ t. By t lun) (sym task-is) (subst (λ l. By 0 l) (sym lun-is) (answers-from-rt disk c v w rt rt' dir result))
     where
@@ -256,9 +256,9 @@ module _ {D E : Type 0} {met : Ghosts D} {met' : Ghosts E} (disk : E → Disk) (
       By t l =
           ReadsRt disk result rt rt' → MakesFile result (who_asks t operator.caller) v w
           → IfOk result (λ blocks. WhereSound disk v rt (CopiesFromRt c.mode c.rt_name (who_asks t operator.caller) l dir c.name 0 blocks
-            (rt_store_of (disk (volume_device rt)).image) (store_of_volume v) (store_of_volume w)))
+          (rt_store_of (disk (volume_device rt)).image) (store_of_volume v) (store_of_volume w)))
           → IfErr result (λ e. is_whole result ≡ true → WhereSound disk v rt
-            (FailsToCopyFromRt e c.mode c.rt_name (who_asks t operator.caller) l dir c.name 0 (disk (volume_device rt)) (store_of_volume v) (store_of_volume w)))
+          (FailsToCopyFromRt e c.mode c.rt_name (who_asks t operator.caller) l dir c.name 0 (disk (volume_device rt)) (store_of_volume v) (store_of_volume w)))
           → Answers disk result (WithinDirectory FromRt c dir result) v w rt rt'
 
   -- the file is found, and then it is copied
