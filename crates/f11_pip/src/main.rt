@@ -20,7 +20,7 @@ use f11_flx::CopyMode;
 use f11_store::Uic;
 use f11_vfy::{InitParams, MOST_BLOCKS};
 use outcome::{Failure, status};
-use remarks::{Remark, Why};
+use remarks::{Remark, Which, Why};
 use std::env;
 use std::fs::File;
 use std::io::{self, BufWriter, ErrorKind, Write};
@@ -40,7 +40,7 @@ fn main(rt: HostRuntime) -> ExitCode {
             let outcome = answer(&rt, start.words.as_slice(), &mut remark);
             told(&rt, outcome, start.words.as_slice(), remark)
         }
-        Err(Failure::Usage) => told(&rt, Err(Failure::Usage), &[], Some(remarks::NO_TEXT)),
+        Err(Failure::Usage) => told(&rt, Err(Failure::Usage), &[], Some(remarks::of_words(&rt))),
         Err(failure) => told(&rt, Err(failure), &[], None),
     };
     ExitCode::from(status(outcome))
@@ -344,7 +344,7 @@ fn opened<'a, T>(
         Ok(file) => Ok(file),
         Err(why) => {
             *remark = Some(Remark {
-                word,
+                word: Which::Text(word),
                 why: Why::CannotOpen(why),
             });
             Err(Failure::CannotOpen)

@@ -1,16 +1,34 @@
 //! What is said on standard error beside the lines that are fixed: which word is meant, and why.
 use f11_dev::{CannotOpen, MAX_BLOCKS};
 use f11_layout::{InitParams, MOST_BLOCKS, is_label};
+use std::env::{Env, FillError};
 use std::fs::{self, File};
 use std::io::Read;
 use thiserror::Error;
+
+/// The bytes of the longest word in which is looked for some that are no text: those of the longest path.
+const LONGEST: usize = 4096;
 
 /// A word of the command line, and what there is to say of it.
 #[derive(Clone, Copy, Debug, Error)]
 #[error("{word}: {why}")]
 pub struct Remark<'a> {
-    pub word: &'a str,
+    pub word: Which<'a>,
     pub why: Why,
+}
+
+/// Which word of the command line is meant.
+#[derive(Clone, Copy, Debug, Error)]
+pub enum Which<'a> {
+    /// This one.
+    #[error("{0}")]
+    Text(&'a str),
+    /// The one in this place behind the program's name, from 1.
+    #[error("word {0}")]
+    Place(usize),
+    /// One that isn't known.
+    #[error("a word")]
+    Unknown,
 }
 
 /// What there is to say of a word.
@@ -36,11 +54,26 @@ pub enum Why {
     TooLong,
 }
 
-/// What is said where the words can't be read.
-pub const NO_TEXT: Remark<'static> = Remark {
-    word: "a word",
-    why: Why::NotText,
-};
+/// What is said where the words can't be read, since one isn't text: the first such one.
+pub fn of_words(rt: &HostRuntime) -> Remark<'static> {
+    Remark {
+        word: no_text(rt).map_or(Which::Unknown, Which::Place),
+        why: Why::NotText,
+    }
+}
+
+/// The place of the first word that isn't text, of those that aren't longer than [`LONGEST`].
+fn no_text(rt: &HostRuntime) -> Option<usize> {
+    let mut bytes = [0; LONGEST];
+    for place in 1..usize::MAX {
+        match rt.arg(place, &mut bytes) {
+            Ok(length) if str::from_utf8(&bytes[..length]).is_err() => return Some(place),
+            Ok(_) | Err(FillError::TooLong) => {}
+            Err(FillError::NotPresent) => return None,
+        }
+    }
+    None
+}
 
 /// The limit of `init` that a parameter passed, where no volume of so many blocks can be made with these.
 pub fn passed_by(blocks: u32, params: &InitParams<'_>) -> Remark<'static> {
@@ -68,7 +101,7 @@ pub fn passed_by_segments(segments: u16) -> Remark<'static> {
 
 fn limit(word: &'static str, limit: &'static str) -> Remark<'static> {
     Remark {
-        word,
+        word: Which::Text(word),
         why: Why::Limit(limit),
     }
 }
@@ -85,7 +118,10 @@ pub fn of_image<'a>(rt: &HostRuntime, word: &'a str, is_faulty: bool) -> Option<
     } else {
         of_length(metadata.len())
     };
-    why.map(|why| Remark { word, why })
+    why.map(|why| Remark {
+        word: Which::Text(word),
+        why,
+    })
 }
 
 /// The first bytes of a file, zeros where it has fewer or can't be read.
