@@ -1,5 +1,5 @@
 -- What holds of a device while the headers of a file are read one after another.
-use Rattle.std.proofs.Common.{◌≡◌, ◌≢◌, ℕ, ◌+◌, ◌-◌, ◌*◌, ◌<◌, ◌≤◌, IsTrue, List, [], ◌∷◌, ◌++◌, length, Some, None, Err, sym, ap, subst, ◌∙◌, inl, inr, arith}
+use Rattle.std.proofs.Common.{◌≡◌, ◌≢◌, ℕ, ◌+◌, ◌-◌, ◌*◌, ◌<◌, ◌≤◌, IsTrue, List, [], ◌∷◌, ◌++◌, length, Some, None, Err, refl, sym, ap, subst, ◌∙◌, inl, inr, arith}
 use Rattle.std.specs.Prelude.{Result, Ok, IsErrAnd, IsErrOf}
 use Rattle.std.proofs.lemmas.Bool.{cases_lt}
 use Rattle.std.specs.List.{slice_get}
@@ -7,7 +7,7 @@ use Rattle.std.proofs.lemmas.List.{length-append}
 use Rattle.std.proofs.lemmas.Option.{none-some, slice_get-get_or, slice_get_within, get_or_from_slice_get}
 use Rattle.std.proofs.lemmas.Grind.{flat_map-append}
 use Rattle.f11_dev.specs.Disk.{Disk}
-use Rattle.f11_dev.specs.Image.{Image}
+use Rattle.f11_dev.specs.Image.{Image, IsImage}
 use Rattle.f11_dev.specs.Looked.{Looked}
 use Rattle.f11_dev.proofs.LookedLemmas.{looked_none, looked_more}
 use Rattle.f11_header.specs.Fields.{file_sequence}
@@ -17,12 +17,17 @@ use Rattle.f11_index.specs.Headers.{headers_of, IsLastOf}
 use Rattle.f11_index.specs.IndexFile.{Index}
 use Rattle.f11_index.specs.Table.{Table, table_in, IsLive, IsNext, IsHeaderOf, IsWholeFile, LinksRightly}
 use Rattle.f11_index.proofs.InUseLemmas.{in_use-some}
+use Rattle.f11_index.proofs.SegmentLemmas.{table-bytes}
 use Rattle.f11_index.proofs.HeadersLemmas.{Comes-first, Comes-count, Comes-count-next, last-ends, last-whole}
-use Rattle.f11_chain.specs.FileHeaders.{blocks_by, file_blocks, block_by_vbn}
+use Rattle.f11_chain.specs.FileHeaders.{blocks_by, blocks_before, file_blocks, block_by_vbn}
 use Rattle.f11_chain.specs.Calls.{table, HoldsHeader, HoldsFirst, ReadsFirst, FindsNoFile, ReadsNext, FindsLast, FindsWrongLink, IsNextOf, FailsToReadNext, next_reads, LooksAlongFile, FailsAlong, FindsBreak, FindsDamage, ReadsLast, Locates, Seeks, FindsEnd}
+use Rattle.f11_chain.specs.Windows.{Fills, FindsWindow, HoldsRuns, IsPast}
 use Rattle.f11_chain.specs.declared.blocks.FileEnd.{FileEnd}
 use Rattle.f11_chain.specs.declared.blocks.Place.{Place}
+use Rattle.f11_chain.specs.declared.windows.Window.{Window}
 use Rattle.f11_chain.proofs.StepLemmas.{table-in_use, wrong-link}
+use Rattle.f11_chain.proofs.ChangeLemmas.{header-stands}
+use Rattle.f11_chain.proofs.WindowLemmas.{row-has, holds-block, past-block}
 use Rattle.f11_chain.proofs.ReachedLemmas.{Reached, Reached-first, Reached-next, blocks-last, blocks-behind, block-behind}
 
 -- The block is header m, that of segment k of file n, and each header up to it was read once but those in hand, 0 or 1 of them. These are
@@ -200,6 +205,48 @@ module _ (index : Index) (n : ℕ) (block : List ℕ) (old now : Disk) (reads : 
       looked = along-behind new 0 goes.looked;
     }
 
+    -- the window of that place
+    module _ (some : 0 < vbn) where
+      size : length new.image ≡ length old.image
+      size = ap (λ (i : Image). length i) (goes.looked.looked.image ∙ reads.looked.image)
+
+      in-hand : IsTrue old.honest → after ≡ (table index old).header place.number
+      in-hand honest = (holds-stays index old now 1 reads.looked place.number after goes.header).block_is honest
+
+      pub finds-window : (w : Window) → Fills after place.left vbn (length new.image) w → FindsWindow index n vbn w old new
+      finds-window w fills = record {
+        window_is = λ honest. record {
+          header = place.number;
+          of_file = subst (λ (t : Table). IsHeaderOf t n place.number) same (goes.of_file (honest-now honest));
+          left = place.left;
+          vbn_is =
+              let at = subst (λ (t : Table). vbn - 1 ≡ blocks_before t n place.number + place.left) same (goes.at_is (honest-now honest)) in
+              omega (arith, some, at);
+          holds = subst (λ (b : List ℕ). HoldsRuns b place.left vbn w) (in-hand honest) fills.holds;
+        };
+        holds = holds-block after place.left vbn w fills.holds;
+        on = rw size at fills.on;
+        looked = along-behind new 0 goes.looked;
+        no_further = λ honest. let segment = ap segment_number (in-hand honest) in omega (arith, goes.no_further, goes.segment, segment);
+      }
+
+      -- but it isn't on the device
+      pub damage-past : IsImage old.image → IsPast after place.left (length new.image) → FindsDamage index n old new
+      damage-past image past = record {
+        damaged = λ honest sound.
+            let t : Table = table index old in
+            let (k, lbn, beyond, at) = past-block after place.left (length new.image) past in
+            let of = subst (λ (t : Table). IsHeaderOf t n place.number) same (goes.of_file (honest-now honest)) in
+            let few = table-bytes old.image index image place.number in
+            let here : slice_get (blocks_named (t.header place.number)) k ≡ Some lbn = ap (λ (b : List ℕ). slice_get (blocks_named b) k) (sym (in-hand honest)) ∙ at in
+            let row = header-stands t t n place.number of few (λ m of below. refl) in
+            let there = row-has (file_blocks t n) (blocks_named (t.header place.number)) (blocks_before t n place.number) k row (slice_get_within _ k lbn here) ∙ here in
+            let within = sound.within (blocks_before t n place.number + k) 0 (slice_get_within _ _ _ there) in
+            let is = get_or_from_slice_get (file_blocks t n) (blocks_before t n place.number + k) lbn 0 there in
+            absurd (omega (arith, within, is, beyond, size));
+        looked = along-behind new 0 goes.looked;
+      }
+
 -- an error handed on is the one that came
 same_error : {T E : Type 0} (e f : E) → IsErrOf {T = T} (Err e) f → e ≡ f
 same_error e f is = cc
@@ -329,12 +376,13 @@ module _ {in_hand : ℕ} (index : Index) (n m k : ℕ) (behind : List ℕ) (bloc
   })
 
   -- it names the block
-  pub seeks : (at left segment : ℕ) → (IsTrue old.honest → at ≡ length (blocks_by (table index old) behind) + left) → left < length (blocks_named block) → segment ≡ segment_number block
+  pub seeks : (at left segment : ℕ) → (IsTrue old.honest → at ≡ length (blocks_by (table index old) behind) + left) → left < length (blocks_named block) → segment ≡ segment_number block → left ≤ at
       → Seeks index n in_hand at (record { number = m; segment = segment; left = left }) block old now
-  seeks at left segment behind-is within is = record {
+  seeks at left segment behind-is within is low = record {
     header = along.header;
     segment = is;
     left_within = within;
+    left_low = low;
     of_file = λ honest. (along.reached honest).of;
     at_is = λ honest. let before = blocks-behind (table index old) n m k behind (along.reached honest) in omega (arith, before, behind-is honest);
     block_is = λ honest.

@@ -9,7 +9,9 @@ use Rattle.f11_index.specs.Headers.{headers_from, headers_of}
 use Rattle.f11_index.specs.Table.{Table, IsHeaderOf, first, next}
 use Rattle.f11_index.proofs.ChainLemmas.{live_of-header}
 use Rattle.f11_index.proofs.HeadersLemmas.{link_number, live-some, Comes, Comes-first, Comes-next, Comes-split, Comes-last}
+use Rattle.f11_chain.specs.FileHeaders as files
 use Rattle.f11_chain.specs.FileHeaders.{blocks_by, file_blocks}
+use Rattle.f11_chain.specs.Windows.{StandsIn}
 use Rattle.f11_chain.specs.Laws.{HasMore, HasHeaderMore, EndsWith, StayBefore}
 
 -- the list goes the same way where the headers in it link as they did
@@ -34,6 +36,12 @@ unfolding file_blocks
 file-alike old new f links names =
     let headers = from-stays 256 old new f links in
     (headers, ap (blocks_by new) headers ∙ blocks-stay old new (headers_of old f) names)
+
+-- so it has the blocks that it had where the headers are the same and name the same
+pub names-alike : (old new : Table) (f : ℕ) → headers_of new f ≡ headers_of old f → ((n : ℕ) → Contains (headers_of old f) n → blocks_named (new.header n) ≡ blocks_named (old.header n))
+    → file_blocks new f ≡ file_blocks old f
+unfolding file_blocks
+names-alike old new f headers names = ap (blocks_by new) headers ∙ blocks-stay old new (headers_of old f) names
 
 pub file-stays : (old new : Table) (f : ℕ) → ((n : ℕ) → Contains (headers_of old f) n → new.header n ≡ old.header n) → (headers_of new f ≡ headers_of old f) × (file_blocks new f ≡ file_blocks old f)
 file-stays old new f stay =
@@ -121,6 +129,15 @@ module _ (old new : Table) (f n : ℕ) (of : IsHeaderOf old f n) (few : segment_
       ∙ flat_map-append (λ (h : ℕ). blocks_named (old.header h)) (b.behind ++ n ∷ []) rest
       ∙ ap (λ (front : List ℕ). front ++ blocks_by old rest) (blocks-behind old b.behind n)
       ∙ append_assoc (blocks_by old b.behind) (blocks_named (old.header n)) (blocks_by old rest)
+
+  -- so its own stand in a row among them
+  pub header-stands : StandsIn (file_blocks old f) (files.blocks_before old f n) (blocks_named (old.header n))
+  header-stands = record {
+    before = blocks_by old b.behind;
+    behind = blocks_by old (headers_from (255 - k) old (link_number old n));
+    whole_is = blocks-before;
+    at_is = ap (λ (hs : List ℕ). length (blocks_by old hs)) (sym before-taken);
+  }
 
   pub is-cut : (left : ℕ) → link_number new n ≡ 0 → blocks_named (new.header n) ≡ take left (blocks_named (old.header n)) → left ≤ length (blocks_named (old.header n))
       → file_blocks new f ≡ take (length (blocks_by old (take (segment_number (old.header n)) (headers_of old f))) + left) (file_blocks old f)

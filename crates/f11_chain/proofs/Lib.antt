@@ -3,3 +3,4 @@ pub mod ChangeLemmas
 pub mod FileOneLemmas
 pub mod ReachedLemmas
 pub mod StepLemmas
+pub mod WindowLemmas

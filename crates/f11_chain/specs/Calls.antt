@@ -104,6 +104,7 @@ pub record Seeks (index : Index) (n in_hand at : ℕ) (place : Place) (block : L
   pub header : HoldsHeader index place.number block old
   pub segment : place.segment ≡ segment_number block
   pub left_within : place.left < length (blocks_named block)
+  pub left_low : place.left ≤ at
   pub of_file : IsTrue old.honest → IsHeaderOf (table index old) n place.number
   pub at_is : IsTrue old.honest → at ≡ blocks_before (table index old) n place.number + place.left
   pub block_is : IsTrue old.honest → slice_get (file_blocks (table index old) n) at ≡ slice_get (blocks_named block) place.left

@@ -1,5 +1,6 @@
 pub mod FileHeaders
 pub mod Calls
+pub mod Windows
 pub mod Laws
 pub mod ChainFault
 pub use Rattle.f11_map.specs.HeaderBlock

@@ -1,11 +1,13 @@
 //! A file's blocks by virtual block number (VBN), and its last header.
 ghost use Rattle.std.specs.Prelude.{◌≡◌, ◌<◌, ◌≤◌, ◌+◌, length, IfOk, IsErrOf};
 ghost use Rattle.f11_chain.specs.Calls.{HoldsFirst, Locates, Seeks, FindsEnd, FindsDamage, FindsBreak, FailsAlong, ReadsLast};
+ghost use Rattle.f11_chain.specs.Windows.{FindsWindow};
 ghost use Rattle.f11_index.specs.IndexFile.{slots};
 ghost use Rattle.f11_index.specs.Kept.{index_kept, IndexLiesWithin};
 
 use crate::fault::ChainFault;
 use crate::step::{first, next};
+use crate::windows::{Window, window_at};
 use f11_bytes::{BLOCK_SIZE, Block};
 use f11_dev::Device;
 use f11_index::IndexFile;
@@ -49,6 +51,40 @@ pub fn locate<D: Device>(
         Ok(lbn)
     } else {
         Err(ChainFault::Damaged)
+    }
+}
+
+/// The window of block `vbn`, from 1, of file `n`, a slot from 1 to the number of slots: the pointer that names the block, and those that
+/// follow it in its header, seven at most. It reads the file's headers up to that one, each once.
+///
+/// # Errors
+///
+/// `EndOfFile` where the file has fewer blocks; `Damaged` where one of its headers or links, or the place of a block in the window, isn't
+/// as it should be; `DeviceFault` where a transfer failed.
+pub fn window<D: Device>(
+    device: &mut D,
+    index: &IndexFile,
+    n: u16,
+    vbn: u32,
+) -> Result<Window, ChainFault>
+    requires slot { (0 < n) × (n ≤ slots (index_kept index.now)) }
+    requires some { 0 < vbn }
+    requires within { IndexLiesWithin (index_kept index.now) (length (D.disk device.old).image) }
+    ensures finds { IfOk result (λ window.
+        FindsWindow (index_kept index.now) n vbn window (D.disk device.old) (D.disk device.new)) }
+    ensures end { IsErrOf result ChainFault.EndOfFile
+        → FindsEnd (index_kept index.now) n 0 vbn (D.disk device.old) (D.disk device.new) }
+    ensures damaged { IsErrOf result ChainFault.Damaged
+        → FindsDamage (index_kept index.now) n (D.disk device.old) (D.disk device.new) }
+    ensures failed { IsErrOf result ChainFault.DeviceFault
+        → FailsAlong (index_kept index.now) n 0 (D.disk device.old) (D.disk device.new) }
+{
+    let mut block = [0; BLOCK_SIZE];
+    first(device, index, n, &mut block)?;
+    let place = seek(device, index, n, vbn - 1, &mut block)?;
+    match window_at(&block, place.left, vbn, device.blocks()) {
+        Some(window) => Ok(window),
+        None => Err(ChainFault::Damaged),
     }
 }
 

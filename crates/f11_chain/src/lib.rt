@@ -9,7 +9,9 @@ mod blocks;
 mod fault;
 pub mod laws;
 mod step;
+mod windows;
 
-pub use blocks::{FileEnd, Place, last, last_from, locate, seek};
+pub use blocks::{FileEnd, Place, last, last_from, locate, seek, window};
 pub use fault::ChainFault;
 pub use step::{first, next};
+pub use windows::{Window, window_at};

@@ -111,7 +111,7 @@ impl<'a> Map<'a> {
 
     /// The pointer that names block number `place`, from 0, and the block's number among those of that pointer; `None`
     /// where the pointers name no more blocks.
-    pub(crate) fn find(&self, place: u32) -> Option<(usize, u32)>
+    pub fn find(&self, place: u32) -> Option<(usize, u32)>
         ensures found { MatchOption result (length (blocks_of (area_of self.now)) ≤ place)
             (λ found. LiesIn (runs_of (area_of self.now)) place found.0 found.1) }
         ensures few { IfSome result (λ found. found.0 < 127) }

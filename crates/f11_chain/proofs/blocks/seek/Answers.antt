@@ -6,11 +6,11 @@ use Rattle.f11_chain.proofs.AlongLemmas.{Along-in-hand, Along-next, break-next, 
 use Rattle.f11_chain.proofs.blocks.seek.Goals as goal
 
 pub loop-init : goal.loop-init
-loop-init g c = record { behind = []; along = Along-in-hand _ _ _ _ c.requires.first; left_is = λ honest. omega arith }
+loop-init g c = record { behind = []; along = Along-in-hand _ _ _ _ c.requires.first; low = omega arith; left_is = λ honest. omega arith }
 
 pub returns-then-left-named-clause-seeks : goal.returns-then-left-named-clause-seeks
 returns-then-left-named-clause-seeks g c =
-    seeks _ _ _ _ _ _ _ _ c.loop.invariant.along _ _ _ c.loop.invariant.left_is (omega (arith, c.if-left-named.true, c.len_blocks-named.ensures.count)) c.segment.ensures
+    seeks _ _ _ _ _ _ _ _ c.loop.invariant.along _ _ _ c.loop.invariant.left_is (omega (arith, c.if-left-named.true, c.len_blocks-named.ensures.count)) c.segment.ensures c.loop.invariant.low
 
 pub returns-in_err-to-clause-damaged : goal.returns-in_err-to-clause-damaged
 returns-in_err-to-clause-damaged g c = λ is.
@@ -29,6 +29,7 @@ pub loop-preserved : goal.loop-preserved
 loop-preserved g c = record {
   behind = c.loop.invariant.behind ++ c.loop.number ∷ [];
   along = Along-next _ _ _ _ _ _ _ _ c.loop.invariant.along _ _ _ (rw c.in-Some.is at c.in_ok-to.ensures.reads);
+  low = omega (arith, c.loop.invariant.low);
   left_is = λ honest.
       let more = counted-more _ _ _ _ _ _ _ _ c.loop.invariant.along (length (blocks_by (table (index_kept c.args.index.now) (g.D.Device.disk c.args.device.now)) c.loop.invariant.behind)) _ (λ _. refl) c.len_blocks-named.ensures.count honest in
       omega (arith, more, c.loop.invariant.left_is honest, c.if-left-named.false);

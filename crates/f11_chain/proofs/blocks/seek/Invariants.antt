@@ -1,4 +1,4 @@
-use Rattle.std.proofs.Common.{◌≡◌, ◌+◌, IsTrue, ℕ, List, length}
+use Rattle.std.proofs.Common.{◌≡◌, ◌+◌, ◌≤◌, IsTrue, ℕ, List, length}
 use Rattle.f11_index.specs.Kept.{index_kept}
 use Rattle.f11_chain.specs.FileHeaders.{blocks_by}
 use Rattle.f11_chain.specs.Calls.{table}
@@ -14,5 +14,6 @@ invariant-loop g l =
     record {
       behind : List ℕ;
       along : AlongFrom 1 index l.n l.number l.counter behind l.block old now;
+      low : l.left ≤ l.at;
       left_is : IsTrue old.honest → l.at ≡ length (blocks_by (table index old) behind) + l.left;
     }
