@@ -138,7 +138,7 @@ window-stands t f vbn w is few =
     let header : List ℕ = t.header is.header in
     let b : ℕ = length (blocks_in (take is.holds.pointer (runs_named header))) in
     let row = stands-in (file_blocks t f) (blocks_named header) (blocks_held w) (blocks_before t f is.header) b
-        (header-stands t t f is.header is.of_file few (λ m of below. refl)) (window-in-header header is.left vbn w is.holds) in
+    (header-stands t t f is.header is.of_file few (λ m of below. refl)) (window-in-header header is.left vbn w is.holds) in
     let first : blocks_before t f is.header + b ≡ w.first - 1 = omega (arith, is.vbn_is, is.holds.first, is.holds.lies.behind) in
     subst (λ (n : ℕ). StandsIn (file_blocks t f) n (blocks_held w)) first row
 

@@ -1,7 +1,7 @@
 -- A header's retrieval pointers, and windows: a few of them in a row (Files-11 On-Disk Structure Level 1, "Map Area"; profile: seven).
 use Rattle.std.specs.Prelude.{◌≡◌, ℕ, ◌+◌, ◌-◌, ◌<◌, ◌≤◌, IsTrue, List, ◌++◌, length, take, drop, slice_range, All, Contains, Some, Result}
 use Rattle.std.specs.List.{slice_get}
-use Rattle.f11_dev.specs.Disk.{Disk, Reads}
+use Rattle.f11_dev.specs.Disk.{Disk, Reads, Writes}
 use Rattle.f11_index.specs.Headers.{headers_of}
 use Rattle.f11_index.specs.IndexFile.{Index}
 use Rattle.f11_index.specs.Table.{Table, IsHeaderOf}
@@ -93,6 +93,13 @@ pub record ReadsIn {E : Type 0} (w : Window) (vbn : ℕ) (result : Result Unit E
   pub held : HoldsAt w vbn lbn
   pub within : lbn < length old.image
   pub reads : Reads result lbn into old new
+
+-- One transfer was made: the block that stands in a window as block `vbn` was written.
+pub record WritesIn {E : Type 0} (w : Window) (vbn : ℕ) (result : Result Unit E) (from : List ℕ) (old new : Disk) : Type 0 where
+  pub lbn : ℕ
+  pub held : HoldsAt w vbn lbn
+  pub within : lbn < length old.image
+  pub writes : Writes result lbn from old new
 
 -- Laws. A header's blocks stand in the file's in a row, all of them.
 abbrev pub HeaderStands : Type 0

@@ -1,6 +1,6 @@
 //! Windows: a few of a file's retrieval pointers in a row, by which blocks are found without its headers.
 ghost use Rattle.std.specs.Prelude.{◌≡◌, ◌<◌, ◌-◌, ◌^◌, ℕ, length, IsTrue, MatchOption};
-ghost use Rattle.f11_chain.specs.Windows.{Fills, HoldsAt, HoldsBlock, IsPast, LiesOn, ReadsIn};
+ghost use Rattle.f11_chain.specs.Windows.{Fills, HoldsAt, HoldsBlock, IsPast, LiesOn, ReadsIn, WritesIn};
 ghost use Rattle.f11_header.specs.Header.{holds_header};
 ghost use Rattle.f11_map.specs.HeaderBlock.{blocks_named};
 
@@ -12,7 +12,7 @@ use f11_map::in_hand::map;
 const MOST_RUNS: usize = 7;
 
 /// A few retrieval pointers of a header in a row.
-#[derive(Clone, Copy)]
+#[derive(Clone, Copy, Debug, PartialEq, Eq)]
 pub struct Window {
     /// The VBN of the first run's first block.
     pub first: u32,
@@ -87,7 +87,12 @@ impl Window {
     /// # Errors
     ///
     /// `DeviceFault` where it failed. What the block holds then is open.
-    pub fn read_in<D: Device>(&self, device: &mut D, vbn: u32, into: &mut Block) -> Result<(), DeviceFault>
+    pub fn read_in<D: Device>(
+        &self,
+        device: &mut D,
+        vbn: u32,
+        into: &mut Block,
+    ) -> Result<(), DeviceFault>
         requires on { LiesOn self.now (length (D.disk device.old).image) }
         requires holds { HoldsBlock self.now vbn }
         ensures reads { ReadsIn self.now vbn result into.new (D.disk device.old) (D.disk device.new) }
@@ -97,5 +102,28 @@ impl Window {
             return Err(DeviceFault);
         };
         device.read(lbn, into)
+    }
+
+    /// Writes block `vbn`, which stands in the window: one transfer.
+    ///
+    /// # Errors
+    ///
+    /// `DeviceFault` where it failed. The file's block is the old one or the new one then.
+    pub fn write_in<D: Device>(
+        &self,
+        device: &mut D,
+        vbn: u32,
+        from: &Block,
+    ) -> Result<(), DeviceFault>
+        requires on { LiesOn self.now (length (D.disk device.old).image) }
+        requires holds { HoldsBlock self.now vbn }
+        ensures writes { WritesIn self.now vbn result from.now
+            (D.disk device.old) (D.disk device.new) }
+    {
+        let _blocks = device.blocks();
+        let Some(lbn) = self.lbn_of(vbn) else {
+            return Err(DeviceFault);
+        };
+        device.write(lbn, from)
     }
 }

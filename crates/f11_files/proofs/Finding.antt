@@ -1,4 +1,5 @@
--- A file's first header, and where its blocks are.
+-- A file's first header, where its blocks are, and windows over them.
 pub mod First
 pub mod Named
 pub mod Locate
+pub mod Windows

@@ -1,4 +1,5 @@
--- What is found of a file: its first header, its length, and what its blocks hold.
+-- What is found of a file: its first header, its length, what its blocks hold, and windows over them.
 pub mod First
 pub mod Blocks
 pub mod Length
+pub mod Windows

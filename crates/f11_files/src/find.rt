@@ -4,3 +4,4 @@ pub(crate) mod blocks;
 pub(crate) mod first;
 pub(crate) mod length;
 pub(crate) mod locate;
+pub(crate) mod windows;

@@ -8,7 +8,7 @@ ghost use Rattle.f11_index.specs.Kept.{index_kept, IndexLiesWithin};
 
 use crate::index::load;
 use f11_bytes::Block;
-use f11_chain::{ChainFault, FileEnd, Place, first, last, locate, next, seek};
+use f11_chain::{ChainFault, FileEnd, Place, Window, first, last, locate, next, seek, window};
 use f11_dev::{Device, FailOnce, Liar, Memory};
 use f11_fixtures::volumes::{index_file, small_index_file};
 use f11_fixtures::{SEVENS, ZEROS, file, get, linked, put};
@@ -62,6 +62,50 @@ fn blocks_are_found_by_number(rt: HostRuntime) -> Result<(), Fail> {
         let made = device.transfers().saturating_sub(before);
         assert!(rt; found == lbn && made == transfers, "{vbn}");
     }
+    Ok(())
+}
+
+/// Loads the index file, and gives the window of block `vbn` of file `n`, where there is such a slot.
+fn window_of<D: Device>(
+    alloc: Global,
+    device: &mut D,
+    n: u16,
+    vbn: u32,
+) -> Result<Window, ChainFault> {
+    let Ok(index) = load(alloc, device) else {
+        return Err(ChainFault::DeviceFault);
+    };
+    if n == 0 || u32::from(n) > index.slots() || vbn == 0 {
+        return Err(ChainFault::DeviceFault);
+    }
+    window(device, &index, n, vbn)
+}
+
+/// A window that begins with this block, and holds so many runs, two at most.
+fn two_runs(first: u32, used: u8, one: (u32, u32), two: (u32, u32)) -> Window {
+    let mut runs = [(0, 0); 7];
+    runs[0] = one;
+    runs[1] = two;
+    Window { first, used, runs }
+}
+
+#[test]
+fn windows_stay_within_a_header(rt: HostRuntime) -> Result<(), Fail> {
+    let mut device = two_headers(rt.alloc())?;
+    for (vbn, first, used, one, two, transfers) in [
+        (1, 1, 2, (22, 4), (30, 2), 4),
+        (4, 1, 2, (22, 4), (30, 2), 4),
+        (6, 5, 1, (30, 2), (0, 0), 4),
+        (7, 7, 2, (40, 1), (50, 3), 5),
+        (10, 8, 1, (50, 3), (0, 0), 5),
+    ] {
+        let before = device.transfers();
+        let found = window_of(rt.alloc(), &mut device, 6, vbn);
+        let made = device.transfers().saturating_sub(before);
+        assert!(rt; found == Ok(two_runs(first, used, one, two)) && made == transfers, "{vbn}");
+    }
+    let end = window_of(rt.alloc(), &mut device, 6, 11);
+    assert!(rt; end == Err(ChainFault::EndOfFile));
     Ok(())
 }
 

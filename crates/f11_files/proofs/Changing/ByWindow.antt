@@ -1,0 +1,73 @@
+-- A block of a file that is written by a window.
+use Rattle.std.proofs.Common.{◌≡◌, ◌⊎◌, ◌-◌, ◌<◌, ℕ, Bool, true, false, IsTrue, List, length, inl, inr, refl, subst}
+use Rattle.f11_bits.specs.Bitmap.{Bitmap}
+use Rattle.f11_chain.specs.FileHeaders.{file_blocks}
+use Rattle.f11_chain.specs.Windows.{HoldsAt}
+use Rattle.f11_chain.specs.declared.windows.Window.{Window}
+use Rattle.f11_dev.specs.Disk.{Disk, with_block_at, with_transfer}
+use Rattle.f11_home.specs.Home.{HomeFields}
+use Rattle.f11_index.specs.IndexFile.{Index, index_of}
+use Rattle.f11_index.specs.Table.{table_of}
+use Rattle.f11_store.specs.declared.files.FileId.{FileId}
+use Rattle.f11_store.specs.declared.refusals.Refusal.TheVariants.{DeviceFault, VolumeFailed}
+use Rattle.f11_volume.specs.Space.{storage_bitmap}
+use Rattle.f11_image_store.specs.Confines.{Confines, no_header}
+use Rattle.f11_files.specs.Answers.{WritesBlocksOf}
+use Rattle.f11_files.specs.Finding.Blocks.{FindsBlock}
+use Rattle.f11_files.specs.Finding.Windows.{FailsToStoreBy, IsOfFile, IsWindowOn, StoresBy}
+use Rattle.f11_files.specs.Structure.{bitmap_in, home_of, ConfinesTo, IsStructureFor, StaysFor}
+use Rattle.f11_files.specs.declared.structure.Structure.{Structure}
+use Rattle.f11_files.proofs.Changing.Block.{fails-stays, fails-store, stored-stays, stores-block}
+use Rattle.f11_files.proofs.Confining.Confines.{confines-none}
+use Rattle.f11_files.proofs.Confining.Parts.{at-in, other-failed, other-wrote}
+use Rattle.f11_files.proofs.Finding.Windows.{finds-in-window, in-place}
+use Rattle.f11_files.proofs.WriteLemmas.{had-failed}
+
+module _ (s : Structure) (w : Window) (vbn lbn : ℕ) (block : List ℕ) (old new : Disk) (for : IsStructureFor s old) (some : 0 < w.first) (held : HoldsAt w vbn lbn) (within : lbn < length old.image) where
+  finds : (f : FileId) → IsWindowOn (home_of s) f w old → FindsBlock (home_of s) f vbn lbn old old
+  finds f is = finds-in-window s f w old for is some vbn lbn held within
+
+  blocks : FileId → List ℕ
+  blocks f = file_blocks (table_of old.image (home_of s)) f.number
+
+  confined : (f : FileId) → (IsTrue old.honest → ConfinesTo s no_header (blocks f) old new) → WritesBlocksOf f (home_of s) old new
+  confined f is = λ honest.
+      let keeps = for.keeps honest in
+      subst (λ (b : Bitmap). Confines no_header _ b (blocks f) old new) keeps.bitmap_is
+      (subst (λ (i : Index). Confines no_header i (bitmap_in s) (blocks f) old new) keeps.index_is (is honest))
+
+  -- it was written
+  module _ (is : new ≡ with_transfer true (with_block_at lbn block old)) where
+    pub stores-by : StoresBy (home_of s) w vbn block old new
+    stores-by = record {
+      lbn = lbn;
+      held = held;
+      once = is;
+      of_file = λ f on. stores-block s f vbn lbn block old old for on.id.number (finds f on) new is;
+      confined = λ f on. confined f (λ honest.
+          other-wrote s no_header (blocks f) lbn block old new (at-in (blocks f) (vbn - 1) lbn (in-place s f w old for on some vbn lbn held honest)) is);
+    }
+
+    pub stored-by-stays : IsOfFile (home_of s) w old → StaysFor false s s new
+    stored-by-stays of = stored-stays s of.file vbn lbn block old old for of.is.id.number (finds of.file of.is) new is
+
+  -- the transfer failed
+  module _ (is : (new ≡ with_transfer false old) ⊎ (new ≡ with_transfer false (with_block_at lbn block old))) where
+    pub fails-by : FailsToStoreBy false (home_of s) w vbn block DeviceFault old new
+    fails-by = record {
+      why = record { only = inr refl; volume = λ no. absurd cc };
+      of_file = λ f on. fails-store s f vbn lbn block old old for on.id.number (finds f on) new is;
+      confined = λ f on. confined f (λ honest.
+          other-failed s no_header (blocks f) lbn block old new (at-in (blocks f) (vbn - 1) lbn (in-place s f w old for on some vbn lbn held honest)) is);
+    }
+
+    pub failed-by-stays : IsOfFile (home_of s) w old → StaysFor true s s new
+    failed-by-stays of = fails-stays s of.file vbn lbn block old old for of.is.id.number (finds of.file of.is) new is
+
+-- the volume had failed, and nothing is done
+pub had-failed-by : {failed : Bool} {home : HomeFields} {w : Window} {vbn : ℕ} {block : List ℕ} (old : Disk) → failed ≡ true → FailsToStoreBy failed home w vbn block VolumeFailed old old
+had-failed-by {home = home} old is = record {
+  why = record { only = inl refl; volume = λ _. is };
+  of_file = λ f on. had-failed old is;
+  confined = λ f on honest. confines-none no_header (index_of old.image home) (storage_bitmap old.image home) (file_blocks (table_of old.image home) f.number) old;
+}

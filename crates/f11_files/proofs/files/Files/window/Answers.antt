@@ -1,0 +1,14 @@
+use Rattle.f11_files.proofs.Opening.Values.{files-for}
+use Rattle.f11_files.proofs.Opening.Kept.{looked-for, answered, for-opened}
+use Rattle.f11_files.proofs.files.Files.window.Goals as goal
+
+pub window-answer-requires-clause-is_for : goal.window-answer-requires-clause-is_for
+window-answer-requires-clause-is_for g c = files-for c.args.self.now (g.met.D.Device.is_image c.args.self.now.device) c.if-self.false
+
+pub invariant_of-self : goal.invariant_of-self
+invariant_of-self g c =
+    let was = files-for c.args.self.now (g.met.D.Device.is_image c.args.self.now.device) c.if-self.false in
+    let for = answered c.window-answer.result _ _ c.window-answer.ensures.found c.window-answer.ensures.refused
+    (λ _ is. looked-for _ _ _ _ _ was is.reads.looked) (λ _ is. looked-for _ _ _ _ _ was is.reads.looked) in
+    let is = for-opened c.args.self.now.structure c.is_fatal-self.result _ (g.met.D.Device.is_image c.window-answer.new.device) for in
+    record { lies = is.lies; accepted = is.accepted; home = is.home; keeps = is.keeps }
