@@ -102,7 +102,10 @@ fn windows_stay_within_a_header(rt: HostRuntime) -> Result<(), Fail> {
         let before = device.transfers();
         let found = window_of(rt.alloc(), &mut device, 6, vbn);
         let made = device.transfers().saturating_sub(before);
-        assert!(rt; found == Ok(two_runs(first, used, one, two)) && made == transfers, "{vbn}");
+        assert!(rt;
+            found == Ok(two_runs(first, used, one, two)) && made == transfers,
+            "{vbn}"
+        );
     }
     let end = window_of(rt.alloc(), &mut device, 6, 11);
     assert!(rt; end == Err(ChainFault::EndOfFile));

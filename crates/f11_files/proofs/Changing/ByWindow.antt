@@ -27,13 +27,13 @@ module _ (s : Structure) (w : Window) (vbn lbn : ℕ) (block : List ℕ) (old ne
   finds : (f : FileId) → IsWindowOn (home_of s) f w old → FindsBlock (home_of s) f vbn lbn old old
   finds f is = finds-in-window s f w old for is some vbn lbn held within
 
-  blocks : FileId → List ℕ
+  abbrev blocks : FileId → List ℕ
   blocks f = file_blocks (table_of old.image (home_of s)) f.number
 
   confined : (f : FileId) → (IsTrue old.honest → ConfinesTo s no_header (blocks f) old new) → WritesBlocksOf f (home_of s) old new
   confined f is = λ honest.
       let keeps = for.keeps honest in
-      subst (λ (b : Bitmap). Confines no_header _ b (blocks f) old new) keeps.bitmap_is
+      subst (λ (b : Bitmap). Confines no_header (index_of old.image (home_of s)) b (blocks f) old new) keeps.bitmap_is
       (subst (λ (i : Index). Confines no_header i (bitmap_in s) (blocks f) old new) keeps.index_is (is honest))
 
   -- it was written

@@ -1,41 +1,42 @@
 -- Windows over a file's blocks, in the words of the store.
-use Rattle.std.proofs.Common.{◌≡◌, ◌⊎◌, ◌≢◌, ◌-◌, ◌<◌, ◌≤◌, ℕ, Bool, true, false, cond, IsTrue, List, length, Some, None, inl, inr, refl, sym, ap, subst, ◌∙◌, ltb, arith}
+use Rattle.std.proofs.Common.{◌≡◌, ◌-◌, ◌<◌, ◌≤◌, ℕ, Bool, true, false, cond, IsTrue, List, length, Some, None, inl, inr, refl, sym, ap, subst, ◌∙◌, ltb, arith}
+use Rattle.std.specs.Prelude.{IfErr, OnOk, Result, Ok, Err}
 use Rattle.std.proofs.lemmas.Bool.{cases_eq, le-ltb}
 use Rattle.std.proofs.lemmas.List.{length-map}
 use Rattle.std.proofs.lemmas.Option.{slice_get-get_or, slice_get_within}
 use Rattle.std.specs.List.{slice_get}
 use Rattle.f11_chain.proofs.WindowLemmas.{window-has, window-stands}
-use Rattle.f11_chain.specs.Calls.{FindsWindow, ReadsFirst, table}
+use Rattle.f11_chain.specs.Calls.{table}
 use Rattle.f11_chain.specs.FileHeaders.{block_by_vbn, file_blocks}
-use Rattle.f11_chain.specs.Windows.{blocks_held, HoldsAt, HoldsBlock, IsWindowAt, IsWindowOf}
+use Rattle.f11_chain.specs.Windows.{blocks_held, FindsWindow, HoldsAt, HoldsBlock, IsWindowAt, IsWindowOf, ReadsIn}
 use Rattle.f11_chain.specs.declared.windows.Window.{Window}
-use Rattle.f11_dev.specs.Disk.{Disk, with_block_at, with_transfer}
+use Rattle.f11_dev.specs.Disk.{Disk, with_transfer}
 use Rattle.f11_dev.specs.Image.{Image, IsImage}
-use Rattle.f11_dev.proofs.LookedLemmas.{looked_none, looked_read}
+use Rattle.f11_dev.proofs.LookedLemmas.{looked_failed_read, looked_none, looked_read}
 use Rattle.f11_home.specs.Home.{HomeFields}
 use Rattle.f11_index.specs.Table.{Table, table_of, IsFile, last_sequence}
 use Rattle.f11_index.proofs.SegmentLemmas.{table-bytes}
 use Rattle.f11_store.specs.Causes.{first_of, is_missing}
-use Rattle.f11_store.specs.File.{File, length_of}
+use Rattle.f11_store.specs.File.{length_of}
 use Rattle.f11_store.specs.Store.{file_named}
 use Rattle.f11_store.specs.declared.files.FileId.{FileId}
 use Rattle.f11_store.specs.declared.refusals.Refusal.{Refusal}
-use Rattle.f11_store.specs.declared.refusals.Refusal.TheVariants.{EndOfFile}
+use Rattle.f11_store.specs.declared.refusals.Refusal.TheVariants.{DeviceFault, EndOfFile, NoSuchFile, VolumeFailed}
 use Rattle.f11_volume.proofs.FileLemmas.{file-blocks-are, image-files}
 use Rattle.f11_writes.specs.Kept.{file_in}
 use Rattle.f11_image_store.proofs.StoreLemmas.{first-is-tested, seen-own}
 use Rattle.f11_image_store.specs.StoreOf.{is_first, store_of}
-use Rattle.f11_files.specs.Answers.{ReadsAtMost}
-use Rattle.f11_files.specs.Finding.Blocks.{FindsBlock, ReadsBlock}
+use Rattle.f11_files.specs.Finding.Blocks.{FindsBlock}
 use Rattle.f11_files.specs.Finding.First.{HoldsFile}
-use Rattle.f11_files.specs.Finding.Windows.{FindsFileWindow, HasWindow, IsWindowOn, ReadsBy}
+use Rattle.f11_files.specs.Finding.Windows.{FailsToReadBy, FindsFileWindow, HasWindow, IsWindowOn, ReadsBy}
 use Rattle.f11_files.specs.Open.{IsIdFrom}
 use Rattle.f11_files.specs.Operations.{length_causes}
 use Rattle.f11_files.specs.Structure.{home_of, index_in, store_on, IsStructureFor}
 use Rattle.f11_files.specs.declared.structure.Structure.{Structure}
 use Rattle.f11_files.proofs.AnswerLemmas.{reads-looked, reads-within}
 use Rattle.f11_files.proofs.Finding.First.{table-of}
-use Rattle.f11_files.proofs.Finding.Locate.{block-read, length-first, reads-along}
+use Rattle.f11_files.proofs.Finding.Locate.{block-read, reads-along}
+use Rattle.f11_files.proofs.Opening.Kept.{looked-for}
 use Rattle.f11_files.proofs.Finding.Named.{found-named, is-file, named-is, not-named}
 
 -- a file that the store has is there
@@ -95,7 +96,9 @@ module _ (s : Structure) (f : FileId) (w : Window) (disk : Disk) (for : IsStruct
         omega (arith, within, as-long, some, held.holds.from)
 
     pub no-cause : first_of (length_causes (store_on s disk) f vbn) ≡ None
-    no-cause = rw (has.there, le-ltb vbn (length_of (file_named (store_on s disk) f)) long-enough) refl
+    no-cause =
+        ap (λ (b : Bool). cond b (Some NoSuchFile) (cond (ltb (length_of (file_named (store_on s disk) f)) vbn) (Some EndOfFile) None)) has.there
+        ∙ ap (λ (b : Bool). cond b (Some EndOfFile) None) (le-ltb (length_of (file_named (store_on s disk) f)) vbn long-enough)
 
   -- the block of a window is found without a transfer
   pub finds-in-window : lbn < length disk.image → FindsBlock (home_of s) f vbn lbn disk disk
@@ -121,6 +124,27 @@ reads-by s w vbn lbn block old new for some held within once gives = record {
         reads = reads-within (omega arith) (reads-looked (looked_read old new once));
       };
 }
+
+-- what the answer tells, one way or the other
+module _ (s : Structure) (w : Window) (vbn : ℕ) (block : List ℕ) (old new : Disk) (for : IsStructureFor s old) where
+  pub read-answered : (r : Result Unit Refusal) → 0 < w.first → ReadsIn w vbn r block old new → OnOk r (ReadsBy (home_of s) w vbn block old new)
+  read-answered (Ok x) some is = reads-by s w vbn is.lbn block old new for some is.held is.within is.reads.counts is.reads.gives
+  read-answered (Err e) some is = tt
+
+  pub read-refused-by : (failed : Bool) (r : Result Unit Refusal) → IfErr r (λ e. e ≡ DeviceFault) → ReadsIn w vbn r block old new → IfErr r (λ e. FailsToReadBy failed e old new)
+  read-refused-by failed (Ok x) fault is = fault
+  read-refused-by failed (Err e) fault is = subst (λ (x : Refusal). FailsToReadBy failed x old new) (sym fault) record {
+    why = record { only = inr refl; volume = λ no. absurd cc };
+    reads = reads-looked (looked_failed_read old new is.reads.counts);
+  }
+
+  pub read-stays : (r : Result Unit Refusal) → ReadsIn w vbn r block old new → IsStructureFor s new
+  read-stays (Ok x) is = looked-for s old new 1 0 for (looked_read old new is.reads.counts)
+  read-stays (Err e) is = looked-for s old new 1 1 for (looked_failed_read old new is.reads.counts)
+
+-- the volume had failed, and nothing is read
+pub had-failed-read : {failed : Bool} (disk : Disk) → failed ≡ true → FailsToReadBy failed VolumeFailed disk disk
+had-failed-read disk is = record { why = record { only = inl refl; volume = λ _. is }; reads = record { reads = 0; looked = looked_none disk; few = λ _. omega arith } }
 
 -- the window was found behind the first header in hand
 module _ (s : Structure) (f : FileId) (block : List ℕ) (old new : Disk) (for : IsStructureFor s old) (holds : HoldsFile (index_in s) f block old) (id : IsIdFrom 4 f) (vbn : ℕ) (w : Window)

@@ -1,6 +1,6 @@
 //! Windows over a file's blocks.
 ghost use Rattle.std.specs.Prelude.{◌≡◌, ◌<◌, ◌≤◌, false, length, IfErr, IfOk, OnOk};
-ghost use Rattle.f11_chain.specs.Windows.{HoldsBlock, LiesOn};
+ghost use Rattle.f11_chain.specs.Windows.{HoldsBlock, LiesOn, ReadsIn};
 ghost use Rattle.f11_files.specs.Answers.{FailsToRead, is_fatal, is_refused};
 ghost use Rattle.f11_files.specs.Finding.Windows.{FailsToReadBy, FailsToStoreBy, FindsFileWindow, IsOfFile, ReadsBy, StoresBy};
 ghost use Rattle.f11_files.specs.Open.{IsIdFrom};
@@ -93,7 +93,6 @@ fn read_in<D: Device>(
     vbn: u32,
     block: &mut Block,
 ) -> Result<(), Refusal>
-    ghost use Rattle.f11_chain.specs.Windows.{ReadsIn};
     requires on { LiesOn window.now (length (D.disk device.old).image) }
     requires holds { HoldsBlock window.now vbn }
     ensures reads { ReadsIn window.now vbn result block.new
@@ -184,7 +183,9 @@ impl<D: Device> Files<D> {
         if self.failed {
             return Err(Refusal::VolumeFailed);
         }
-        let answer = self.structure.write_in(&mut self.device, window, vbn, block);
+        let answer = self
+            .structure
+            .write_in(&mut self.device, window, vbn, block);
         self.failed = is_fatal(&answer);
         answer
     }

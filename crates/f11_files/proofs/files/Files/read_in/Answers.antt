@@ -1,7 +1,21 @@
-use Rattle.std.proofs.Common.{inl, inr, refl}
-use Rattle.f11_dev.proofs.LookedLemmas.{looked_failed_read, looked_none, looked_read}
-use Rattle.f11_files.proofs.AnswerLemmas.{reads-looked}
-use Rattle.f11_files.proofs.Finding.Windows.{reads-by}
+use Rattle.f11_files.proofs.Finding.Windows.{read-answered, read-refused-by, read-stays}
 use Rattle.f11_files.proofs.Opening.Values.{files-for}
-use Rattle.f11_files.proofs.Opening.Kept.{for-opened, looked-for}
+use Rattle.f11_files.proofs.Opening.Kept.{for-opened}
 use Rattle.f11_files.proofs.files.Files.read_in.Goals as goal
+
+pub invariant_of-self : goal.invariant_of-self
+invariant_of-self g c =
+    let was = files-for c.args.self.now (g.met.D.Device.is_image c.args.self.now.device) c.if-self.false in
+    let for = read-stays _ _ _ _ _ _ was c.read_in-answer.result c.read_in-answer.ensures.reads in
+    let is = for-opened c.args.self.now.structure c.is_fatal-self.result _ (g.met.D.Device.is_image c.read_in-answer.new.device) for in
+    record { lies = is.lies; accepted = is.accepted; home = is.home; keeps = is.keeps }
+
+pub returns-clause-read : goal.returns-clause-read
+returns-clause-read g c =
+    let was = files-for c.args.self.now (g.met.D.Device.is_image c.args.self.now.device) c.if-self.false in
+    read-answered _ _ _ _ _ _ was c.read_in-answer.result c.requires.on.first c.read_in-answer.ensures.reads
+
+pub returns-clause-refused : goal.returns-clause-refused
+returns-clause-refused g c =
+    let was = files-for c.args.self.now (g.met.D.Device.is_image c.args.self.now.device) c.if-self.false in
+    read-refused-by _ _ _ _ _ _ was _ c.read_in-answer.result c.read_in-answer.ensures.fault c.read_in-answer.ensures.reads
