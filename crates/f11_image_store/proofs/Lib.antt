@@ -14,3 +14,4 @@ pub mod FilelessLemmas
 pub mod SparedLemmas
 pub mod FreeingLemmas
 pub mod ConfinesLemmas
+pub mod KeptBlocksLemmas

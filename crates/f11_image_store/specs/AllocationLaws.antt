@@ -1,11 +1,12 @@
 -- What the words of allocation mean beside those of the verifier and of the store.
-use Rattle.std.specs.Prelude.{◌≡◌, ◌↔◌, ℕ, ◌+◌, length, flat_map, Some}
+use Rattle.std.specs.Prelude.{◌≡◌, ◌↔◌, ℕ, ◌+◌, length, flat_map, Some, option_map}
 use Rattle.std.specs.List.{slice_get}
 use Rattle.f11_dev.specs.Image.{Image}
 use Rattle.f11_home.specs.Home.{HomeFields}
 use Rattle.f11_index.specs.Headers.{headers_of}
-use Rattle.f11_index.specs.Table.{Table, IsWholeFile}
+use Rattle.f11_index.specs.Table.{Table, table_of, IsFile, IsHeaderOf, IsWholeFile}
 use Rattle.f11_chain.specs.FileHeaders.{file_blocks}
+use Rattle.f11_volume.specs.Sound.{HasSoundVolume}
 use Rattle.f11_volume.specs.Volume.{Volume, volume_of, IsCell}
 use Rattle.f11_image_store.specs.Allocation.{named_by, free_list, GainsBlocks}
 use Rattle.f11_image_store.specs.StoreOf.{store_of}
@@ -25,3 +26,11 @@ GainsAdd = (f a b : ℕ) (v w x : Volume) → GainsBlocks f a v w → GainsBlock
 -- the free blocks are as many as the store says
 abbrev pub FreeBlocksAreStored : Type 0
 FreeBlocksAreStored = (image : Image) (home : HomeFields) → length (free_list (volume_of image home)) ≡ (store_of image home).free
+
+-- a file that has the headers in the store that it had, each of which names what it named, has the blocks that it had
+abbrev pub FileKeepsBlocks : Type 0
+FileKeepsBlocks =
+    (home : HomeFields) (old new : Image) (f : ℕ) → HasSoundVolume old home → HasSoundVolume new home → IsFile (table_of old home) f →
+    option_map (λ g. g.held) ((store_of new home).file f) ≡ option_map (λ g. g.held) ((store_of old home).file f) →
+    ((n : ℕ) → IsHeaderOf (table_of old home) f n → named_by (table_of new home) n ≡ named_by (table_of old home) n) →
+    file_blocks (table_of new home) f ≡ file_blocks (table_of old home) f

@@ -121,6 +121,7 @@ pub fn allocation()
     ensures files { allocation.FileBlocksAreNamed }
     ensures gains { allocation.GainsAdd }
     ensures free { allocation.FreeBlocksAreStored }
+    ensures kept { allocation.FileKeepsBlocks }
 {}
 
 /// Which blocks of a sound volume calls don't change on their own account.
