@@ -1,10 +1,10 @@
 -- What holds of a device while the headers of a file are read one after another.
-use Rattle.std.proofs.Common.{◌≡◌, ◌≢◌, ℕ, ◌+◌, ◌-◌, ◌*◌, ◌<◌, ◌≤◌, IsTrue, List, [], ◌∷◌, ◌++◌, length, Some, None, Err, refl, sym, ap, subst, ◌∙◌, inl, inr, arith}
+use Rattle.std.proofs.Common.{◌≡◌, ◌≢◌, ℕ, ◌+◌, ◌-◌, ◌*◌, ◌<◌, ◌≤◌, IsTrue, List, [], ◌∷◌, ◌++◌, length, get_or, Some, Err, refl, sym, ap, subst, ◌∙◌, inl, inr, arith}
 use Rattle.std.specs.Prelude.{Result, Ok, IsErrAnd, IsErrOf}
 use Rattle.std.proofs.lemmas.Bool.{cases_lt}
 use Rattle.std.specs.List.{slice_get}
 use Rattle.std.proofs.lemmas.List.{length-append}
-use Rattle.std.proofs.lemmas.Option.{none-some, slice_get-get_or, slice_get_within, get_or_from_slice_get}
+use Rattle.std.proofs.lemmas.Option.{slice_get-get_or, slice_get_within, get_or_from_slice_get}
 use Rattle.std.proofs.lemmas.Grind.{flat_map-append}
 use Rattle.f11_dev.specs.Disk.{Disk}
 use Rattle.f11_dev.specs.Image.{Image, IsImage}
@@ -20,7 +20,7 @@ use Rattle.f11_index.proofs.InUseLemmas.{in_use-some}
 use Rattle.f11_index.proofs.SegmentLemmas.{table-bytes}
 use Rattle.f11_index.proofs.HeadersLemmas.{Comes-first, Comes-count, Comes-count-next, last-ends, last-whole}
 use Rattle.f11_chain.specs.FileHeaders.{blocks_by, blocks_before, file_blocks, block_by_vbn}
-use Rattle.f11_chain.specs.Calls.{table, HoldsHeader, HoldsFirst, ReadsFirst, FindsNoFile, ReadsNext, FindsLast, FindsWrongLink, IsNextOf, FailsToReadNext, next_reads, LooksAlongFile, FailsAlong, FindsBreak, FindsDamage, ReadsLast, Locates, Seeks, FindsEnd}
+use Rattle.f11_chain.specs.Calls.{table, HoldsHeader, HoldsFirst, ReadsFirst, FindsNoFile, ReadsNext, FindsLast, FindsWrongLink, IsNextOf, FailsToReadNext, next_reads, LooksAlongFile, FailsAlong, FindsBreak, FindsDamage, HasBlockAt, ReadsLast, Locates, Seeks, FindsEnd}
 use Rattle.f11_chain.specs.Windows.{Fills, FindsWindow, HoldsRuns, IsPast}
 use Rattle.f11_chain.specs.declared.blocks.FileEnd.{FileEnd}
 use Rattle.f11_chain.specs.declared.blocks.Place.{Place}
@@ -166,19 +166,19 @@ module _ (index : Index) (n : ℕ) (block : List ℕ) (old now : Disk) (reads : 
 
   -- a place of the file was found
   module _ (vbn : ℕ) (place : Place) (after : List ℕ) (new : Disk) (goes : Seeks index n 1 (vbn - 1) place after now new) where
-    found : (lbn : ℕ) → Some lbn ≡ slice_get (blocks_named after) place.left → IsTrue old.honest → block_by_vbn (table index old) n vbn ≡ Some lbn
-    found lbn is honest = subst (λ (t : Table). slice_get (file_blocks t n) (vbn - 1) ≡ Some lbn) same (goes.block_is (honest-now honest) ∙ sym is)
+    found : (lbn : ℕ) → slice_get (blocks_named after) place.left ≡ Some lbn → IsTrue old.honest → block_by_vbn (table index old) n vbn ≡ Some lbn
+    found lbn is honest = subst (λ (t : Table). slice_get (file_blocks t n) (vbn - 1) ≡ Some lbn) same (goes.block_is (honest-now honest) ∙ is)
 
-    pub locates : (lbn : ℕ) → Some lbn ≡ slice_get (blocks_named after) place.left → lbn < length new.image → Locates index n vbn lbn old new
-    locates lbn is within = record {
+    pub locates : (lbn : ℕ) → HasBlockAt after place.left (length new.image) lbn → Locates index n vbn lbn old new
+    locates lbn has = record {
       header = place.number;
       of_file = λ honest. subst (λ (t : Table). IsHeaderOf t n place.number) same (goes.of_file (honest-now honest));
       named = λ honest.
           let here : List ℕ = blocks_named ((table index old).header place.number) in
-          let at : slice_get here place.left ≡ Some lbn = ap (λ (b : List ℕ). slice_get (blocks_named b) place.left) (sym (there honest)) ∙ sym is in
+          let at : slice_get here place.left ≡ Some lbn = ap (λ (b : List ℕ). slice_get (blocks_named b) place.left) (sym (there honest)) ∙ has.named in
           (place.left, slice_get_within here place.left lbn at, get_or_from_slice_get here place.left lbn lbn at);
-      block_is = found lbn is;
-      within = rw sizes at within;
+      block_is = found lbn has.named;
+      within = rw sizes at has.within;
       looked = along-behind new 0 goes.looked;
       no_further = λ honest. let segment = ap segment_number (there honest) in omega (arith, goes.no_further, goes.segment, segment);
     }
@@ -189,19 +189,17 @@ module _ (index : Index) (n : ℕ) (block : List ℕ) (old now : Disk) (reads : 
         sizes : length new.image ≡ length old.image
         sizes = ap (λ (i : Image). length i) (goes.looked.looked.image ∙ reads.looked.image)
 
-    -- it is there
-    pub no-block : ¬ (None ≡ slice_get (blocks_named after) place.left)
-    no-block none = none-some _ (none ∙ slice_get-get_or (blocks_named after) place.left 0 goes.left_within)
-
     -- but it isn't on the device
-    pub damage-outside : (lbn : ℕ) → Some lbn ≡ slice_get (blocks_named after) place.left → length new.image ≤ lbn → FindsDamage index n old new
-    damage-outside lbn is past = record {
+    pub damage-outside : ((lbn : ℕ) → ¬ HasBlockAt after place.left (length new.image) lbn) → FindsDamage index n old new
+    damage-outside none = record {
       damaged = λ honest sound.
+          let lbn : ℕ = get_or (blocks_named after) place.left 0 in
+          let is : slice_get (blocks_named after) place.left ≡ Some lbn = slice_get-get_or (blocks_named after) place.left 0 goes.left_within in
           let at : slice_get (file_blocks (table index old) n) (vbn - 1) ≡ Some lbn = found lbn is honest in
           let within = sound.within (vbn - 1) 0 (slice_get_within _ _ _ at) in
           let here = get_or_from_slice_get (file_blocks (table index old) n) (vbn - 1) lbn 0 at in
           let size = ap (λ (i : Image). length i) (goes.looked.looked.image ∙ reads.looked.image) in
-          absurd (omega (arith, within, here, past, size));
+          none lbn (record { named = is; within = omega (arith, within, here, size) });
       looked = along-behind new 0 goes.looked;
     }
 

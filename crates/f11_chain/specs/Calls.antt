@@ -5,7 +5,7 @@ use Rattle.f11_dev.specs.Disk.{Disk}
 use Rattle.f11_dev.specs.Looked.{Looked}
 use Rattle.f11_header.specs.Fields.{file_sequence}
 use Rattle.f11_header.specs.Header.{IsHeader}
-use Rattle.f11_map.specs.HeaderBlock.{segment_number, link_of, blocks_named}
+use Rattle.f11_map.specs.HeaderBlock.{segment_number, link_of, blocks_named, LinksToNone}
 use Rattle.f11_index.specs.Headers.{headers_of, IsLastOf}
 use Rattle.f11_index.specs.IndexFile.{Index, is_in_use}
 use Rattle.f11_index.specs.Table.{Table, table_in, IsLive, IsFile, IsHeaderOf, IsWholeFile}
@@ -51,7 +51,7 @@ pub record ReadsNext (index : Index) (m : ℕ) (before block : List ℕ) (old ne
 
 -- The header links to none, and nothing was read.
 pub record FindsLast (before block : List ℕ) (old new : Disk) : Type 0 where
-  pub no_link : (link_of before).number ≡ 0
+  pub no_link : LinksToNone before
   pub block_stays : block ≡ before
   pub disk_stays : new ≡ old
 
@@ -88,6 +88,11 @@ pub record LooksAlongFile (index : Index) (n in_hand : ℕ) (old new : Disk) (fa
   pub few : headers + in_hand ≤ 256
   pub each_once : IsTrue old.honest → headers + in_hand ≤ length (headers_of (table index old) n)
   pub looked : Looked old new headers faults
+
+-- A header names this block in this place, from 0, and it is on a device of so many blocks.
+pub record HasBlockAt (block : List ℕ) (left blocks lbn : ℕ) : Type 0 where
+  pub named : slice_get (blocks_named block) left ≡ Some lbn
+  pub within : lbn < blocks
 
 -- Block `vbn` of file n was found, which a header of the file names: that header was read, and those before it.
 pub record Locates (index : Index) (n vbn lbn : ℕ) (old new : Disk) : Type 0 where
@@ -130,7 +135,7 @@ pub record FindsDamage (index : Index) (n : ℕ) (old new : Disk) : Type 0 where
 -- The last header of file n is in hand, and the file's headers and blocks were counted; no header was read behind the last.
 pub record ReadsLast (index : Index) (n in_hand : ℕ) (last : FileEnd) (block : List ℕ) (old new : Disk) : Type 0 where
   pub header : HoldsHeader index last.number block old
-  pub no_link : (link_of block).number ≡ 0
+  pub no_link : LinksToNone block
   pub segment : last.headers ≡ segment_number block + 1
   pub few : last.headers ≤ 256
   pub few_blocks : last.blocks ≤ 32512 * last.headers

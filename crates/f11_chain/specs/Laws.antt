@@ -3,7 +3,7 @@
 use Rattle.std.specs.Prelude.{◌≡◌, ℕ, ◌+◌, ◌<◌, ◌≤◌, List, [], ◌∷◌, ◌++◌, length, take, Contains}
 use Rattle.f11_dev.specs.Image.{Image}
 use Rattle.f11_index.specs.Home.{HomeFields}
-use Rattle.f11_map.specs.HeaderBlock.{segment_number, link_of, blocks_named}
+use Rattle.f11_map.specs.HeaderBlock.{segment_number, link_of, blocks_named, LinksToNone}
 use Rattle.f11_index.specs.Headers.{headers_of, IsLastOf}
 use Rattle.f11_index.specs.IndexFile.{index_file_blocks}
 use Rattle.f11_index.specs.Sound.{IsIndexFile}
@@ -45,25 +45,25 @@ StayBefore f n old new = (m : ℕ) → IsHeaderOf old f m → segment_number (ol
 abbrev pub LastNamesMore : Type 0
 LastNamesMore =
     (old new : Table) (f n : ℕ) (more : List ℕ) → IsLastOf old f n → segment_number (old.header n) < 256 → StayBefore f n old new →
-    (link_of (new.header n)).number ≡ 0 → blocks_named (new.header n) ≡ blocks_named (old.header n) ++ more → HasMore f more old new
+    LinksToNone (new.header n) → blocks_named (new.header n) ≡ blocks_named (old.header n) ++ more → HasMore f more old new
 
 -- a file whose last header links to another, which links to none, has that one more
 abbrev pub LastIsLinked : Type 0
 LastIsLinked =
     (old new : Table) (f n m : ℕ) → IsLastOf old f n → segment_number (old.header n) < 255 → StayBefore f n old new → 0 < m →
-    (link_of (new.header n)).number ≡ m → blocks_named (new.header n) ≡ blocks_named (old.header n) → (link_of (new.header m)).number ≡ 0 →
+    (link_of (new.header n)).number ≡ m → blocks_named (new.header n) ≡ blocks_named (old.header n) → LinksToNone (new.header m) →
     HasHeaderMore f m old new
 
 -- a file one of whose headers no longer links to another ends with it
 abbrev pub HeaderEndsFile : Type 0
 HeaderEndsFile =
     (old new : Table) (f n : ℕ) → IsHeaderOf old f n → segment_number (old.header n) < 256 → StayBefore f n old new →
-    (link_of (new.header n)).number ≡ 0 → EndsWith f n (segment_number (old.header n)) old new
+    LinksToNone (new.header n) → EndsWith f n (segment_number (old.header n)) old new
 
 -- so where it names as many of its first blocks as are left, the file has that many of its own
 abbrev pub FileIsCut : Type 0
 FileIsCut =
     (old new : Table) (f n left : ℕ) → IsHeaderOf old f n → segment_number (old.header n) < 256 → StayBefore f n old new →
-    (link_of (new.header n)).number ≡ 0 → blocks_named (new.header n) ≡ take left (blocks_named (old.header n)) →
+    LinksToNone (new.header n) → blocks_named (new.header n) ≡ take left (blocks_named (old.header n)) →
     left ≤ length (blocks_named (old.header n)) →
     file_blocks new f ≡ take (length (blocks_by old (take (segment_number (old.header n)) (headers_of old f))) + left) (file_blocks old f)

@@ -1,7 +1,8 @@
 //! A file's blocks by virtual block number (VBN), and its last header.
-ghost use Rattle.std.specs.Prelude.{◌≡◌, ◌<◌, ◌≤◌, ◌+◌, length, IfOk, IsErrOf};
-ghost use Rattle.f11_chain.specs.Calls.{HoldsFirst, Locates, Seeks, FindsEnd, FindsDamage, FindsBreak, FailsAlong, ReadsLast};
+ghost use Rattle.std.specs.Prelude.{◌≡◌, ◌<◌, ◌≤◌, ◌+◌, ℕ, length, IfOk, IsErrOf, IsTrue, MatchOption};
+ghost use Rattle.f11_chain.specs.Calls.{HoldsFirst, Locates, Seeks, FindsEnd, FindsDamage, FindsBreak, FailsAlong, HasBlockAt, ReadsLast};
 ghost use Rattle.f11_chain.specs.Windows.{FindsWindow};
+ghost use Rattle.f11_header.specs.Header.{holds_header};
 ghost use Rattle.f11_index.specs.IndexFile.{slots};
 ghost use Rattle.f11_index.specs.Kept.{index_kept, IndexLiesWithin};
 
@@ -44,14 +45,21 @@ pub fn locate<D: Device>(
     let mut block = [0; BLOCK_SIZE];
     first(device, index, n, &mut block)?;
     let place = seek(device, index, n, vbn - 1, &mut block)?;
-    let Some(lbn) = lbn_of(&block, place.left) else {
-        return Err(ChainFault::Damaged);
-    };
-    if lbn < device.blocks() {
-        Ok(lbn)
-    } else {
-        Err(ChainFault::Damaged)
+    match block_at(&block, place.left, device.blocks()) {
+        Some(lbn) => Ok(lbn),
+        None => Err(ChainFault::Damaged),
     }
+}
+
+/// The LBN of block number `left`, from 0, of those that the header in the block names; `None` where it isn't on a device of so many
+/// blocks, or the header names no more.
+pub fn block_at(block: &Block, left: u32, blocks: u32) -> Option<u32>
+    requires header { IsTrue (holds_header block.now) }
+    ensures { MatchOption result ((lbn : ℕ) → ¬ HasBlockAt block.now left blocks lbn)
+        (HasBlockAt block.now left blocks) }
+{
+    let lbn = lbn_of(block, left)?;
+    if lbn < blocks { Some(lbn) } else { None }
 }
 
 /// The window of block `vbn`, from 1, of file `n`, a slot from 1 to the number of slots: the pointer that names the block, and those that

@@ -11,7 +11,7 @@ pub mod laws;
 mod step;
 mod windows;
 
-pub use blocks::{FileEnd, Place, last, last_from, locate, seek, window};
+pub use blocks::{FileEnd, Place, block_at, last, last_from, locate, seek, window};
 pub use fault::ChainFault;
 pub use step::{first, next};
 pub use windows::{Window, window_at};

@@ -8,7 +8,7 @@ use Rattle.f11_header.specs.Header.{IsHeader}
 use Rattle.f11_home.specs.Home.{HomeFields}
 use Rattle.f11_index.specs.Calls.{SetsBit}
 use Rattle.f11_index.specs.Growth.{with_header}
-use Rattle.f11_map.specs.HeaderBlock.{segment_number, link_of, blocks_named}
+use Rattle.f11_map.specs.HeaderBlock.{segment_number, blocks_named, LinksToNone}
 use Rattle.f11_index.specs.Headers.{IsInFile}
 use Rattle.f11_index.specs.IndexFile.{Index, index_of, slots, is_in_use}
 use Rattle.f11_index.specs.Table.{table_of, IsLive, IsNext, IsHeaderOf}
@@ -34,7 +34,7 @@ pub record IsNewExtension (index : Index) (n lbn count : ℕ) (block : List ℕ)
   pub unused : is_in_use index n ≡ false
   pub valid : IsHeader block n
   pub later : 0 < segment_number block
-  pub no_link : (link_of block).number ≡ 0
+  pub no_link : LinksToNone block
   pub names : blocks_named block ≡ range_with_len lbn count
 
 -- It was written, and then its bit set: the volume is sound after each write, the header is live and no file's, and each header

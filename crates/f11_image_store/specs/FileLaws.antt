@@ -7,7 +7,7 @@ use Rattle.f11_header.specs.MapFields.{places}
 use Rattle.f11_home.specs.Home.{HomeFields}
 use Rattle.f11_map.specs.MapArea.{runs_of}
 use Rattle.f11_index.specs.Growth.{IsGoodFor, with_header}
-use Rattle.f11_map.specs.HeaderBlock.{segment_number, link_of, blocks_named}
+use Rattle.f11_map.specs.HeaderBlock.{segment_number, link_of, blocks_named, LinksToNone}
 use Rattle.f11_index.specs.Headers.{headers_of, IsInFile}
 use Rattle.f11_index.specs.Table.{Table, table_of, last_sequence, IsLive, IsNext, IsHeaderOf}
 use Rattle.f11_chain.specs.FileHeaders.{blocks_before}
@@ -45,29 +45,29 @@ pub record MayStand (t : Table) (f n : ℕ) (block : List ℕ) : Type 0 where
 -- It may stand there, the last one, with so many blocks from `lbn` on more, in so many pointers more.
 pub record NamesMoreOf (t : Table) (f n : ℕ) (block : List ℕ) (more lbn count : ℕ) : Type 0 where
   pub stands : MayStand t f n block
-  pub last : (link_of (t.header n)).number ≡ 0
-  pub no_link : (link_of block).number ≡ 0
+  pub last : LinksToNone (t.header n)
+  pub no_link : LinksToNone block
   pub pointers : HasPointersMore more (t.header n) block
   pub blocks : blocks_named block ≡ blocks_named (t.header n) ++ range_with_len lbn count
 
 -- It may stand there, the last one, with a link to header m, which links to none.
 pub record LinksOnTo (t : Table) (f n m : ℕ) (block : List ℕ) : Type 0 where
   pub stands : MayStand t f n block
-  pub last : (link_of (t.header n)).number ≡ 0
+  pub last : LinksToNone (t.header n)
   pub early : segment_number (t.header n) < 255
   pub number : (link_of block).number ≡ m
   pub other : m ≢ n
   pub to : IsLive t m
   pub sequence : (link_of block).sequence ≡ file_sequence (t.header m)
   pub next_segment : segment_number (t.header m) ≡ segment_number (t.header n) + 1
-  pub no_link : (link_of (t.header m)).number ≡ 0
+  pub no_link : LinksToNone (t.header m)
   pub pointers : HasPointersMore 0 (t.header n) block
   pub blocks : blocks_named block ≡ blocks_named (t.header n)
 
 -- It may stand there with the first of the blocks that it names, so many, and no link: the file ends there.
 pub record EndsThere (t : Table) (f n : ℕ) (block : List ℕ) (left : ℕ) : Type 0 where
   pub stands : MayStand t f n block
-  pub no_link : (link_of block).number ≡ 0
+  pub no_link : LinksToNone block
   pub blocks : blocks_named block ≡ take left (blocks_named (t.header n))
   pub within : left ≤ length (blocks_named (t.header n))
 

@@ -1,7 +1,7 @@
 -- Headers that are of no file: those behind the one that a file was cut at, and those of a file whose first header was killed
 -- (Files-11 On-Disk Structure Level 1, "File Header" and "Map Area").
 use Rattle.std.specs.Prelude.{◌≡◌, ℕ, ◌<◌}
-use Rattle.f11_map.specs.HeaderBlock.{segment_number, link_of}
+use Rattle.f11_map.specs.HeaderBlock.{segment_number, LinksToNone}
 use Rattle.f11_index.specs.Headers.{IsInFile, IsChained}
 use Rattle.f11_index.specs.Table.{Table, IsLive, IsNext, IsHeaderOf}
 use Rattle.f11_writes.specs.OtherSlots.{KeepsOtherSlots}
@@ -23,6 +23,6 @@ KilledLeavesFileless = (old new : Table) (f m : ℕ) → IsChained old → Keeps
 -- and so are those behind one that links to none now
 abbrev pub CutLeavesFileless : Type 0
 CutLeavesFileless =
-    (old new : Table) (f n m : ℕ) → IsChained old → KeepsOtherSlots n old new → (link_of (new.header n)).number ≡ 0 → IsHeaderOf old f n →
+    (old new : Table) (f n m : ℕ) → IsChained old → KeepsOtherSlots n old new → LinksToNone (new.header n) → IsHeaderOf old f n →
     IsHeaderOf old f m →
     segment_number (old.header n) < segment_number (old.header m) → IsFileless new m

@@ -3,7 +3,7 @@
 use Rattle.std.specs.Prelude.{◌≡◌, ◌↔◌, ℕ, ◌<◌, ◌≤◌, true}
 use Rattle.f11_header.specs.Fields.{file_sequence}
 use Rattle.f11_header.specs.Header.{IsHeader}
-use Rattle.f11_map.specs.HeaderBlock.{segment_number, link_of}
+use Rattle.f11_map.specs.HeaderBlock.{segment_number, link_of, LinksToNone}
 use Rattle.f11_index.specs.Headers.{IsLastOf}
 use Rattle.f11_index.specs.Table.{Table, IsNext, IsHeaderOf, IsWholeFile}
 
@@ -37,11 +37,11 @@ HeaderStays = (old new : Table) (f n : ℕ) → IsHeaderOf old f n → StayUpTo 
 
 -- its last one, where it links to none
 abbrev pub HeaderBecomesLast : Type 0
-HeaderBecomesLast = (old new : Table) (f n : ℕ) → IsHeaderOf old f n → StayUpTo f n old new → (link_of (new.header n)).number ≡ 0 →
+HeaderBecomesLast = (old new : Table) (f n : ℕ) → IsHeaderOf old f n → StayUpTo f n old new → LinksToNone (new.header n) →
     IsLastOf new f n
 
 -- or the next one is the last, where that links to none
 abbrev pub NextBecomesLast : Type 0
 NextBecomesLast =
-    (old new : Table) (f n m : ℕ) → IsHeaderOf old f n → StayUpTo f n old new → IsNext new n m → (link_of (new.header m)).number ≡ 0 →
+    (old new : Table) (f n m : ℕ) → IsHeaderOf old f n → StayUpTo f n old new → IsNext new n m → LinksToNone (new.header m) →
     IsLastOf new f m

@@ -8,7 +8,7 @@ use Rattle.f11_header.specs.Fields.{file_sequence}
 use Rattle.f11_header.specs.Header.{IsHeader}
 use Rattle.f11_home.specs.Home.{HomeFields}
 use Rattle.f11_index.specs.Calls.{with_blocks_behind}
-use Rattle.f11_map.specs.HeaderBlock.{segment_number, link_of, blocks_named}
+use Rattle.f11_map.specs.HeaderBlock.{segment_number, link_of, blocks_named, LinksToNone}
 use Rattle.f11_index.specs.Headers.{IsLastOf}
 use Rattle.f11_index.specs.IndexFile.{Index, index_of, index_file_blocks, slots, header_lbn, HasNonePast}
 use Rattle.f11_index.specs.Kept.{IsIndexFor}
@@ -26,7 +26,7 @@ pub record MayNameMore (t : Table) (n : ℕ) (block : List ℕ) (lbn count : ℕ
   pub last : IsLastOf t 1 n
   pub few : segment_number (t.header n) < 256
   pub good : IsGoodFor t n block
-  pub no_link : (link_of block).number ≡ 0
+  pub no_link : LinksToNone block
   pub blocks : blocks_named block ≡ blocks_named (t.header n) ++ range_with_len lbn count
 
 -- It may become this block, which names the blocks that it named, and links to header m: m names these blocks more, and is the next
@@ -40,7 +40,7 @@ pub record MayLinkOn (t : Table) (n m : ℕ) (block : List ℕ) (lbn count : ℕ
   pub sequence : (link_of block).sequence ≡ file_sequence (t.header m)
   pub to : IsLive t m
   pub next_segment : segment_number (t.header m) ≡ segment_number (t.header n) + 1
-  pub no_link : (link_of (t.header m)).number ≡ 0
+  pub no_link : LinksToNone (t.header m)
   pub next_blocks : blocks_named (t.header m) ≡ range_with_len lbn count
 
 -- The index file has these blocks too, behind its others, and header n is this block: all else that it says stays.

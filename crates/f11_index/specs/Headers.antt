@@ -4,7 +4,7 @@ use Rattle.std.specs.Prelude.{◌≡◌, ℕ, zero, suc, ◌+◌, ◌<◌, ◌==
 use Rattle.f11_bytes.specs.Words.{word_sum}
 use Rattle.f11_header.specs.Fields.{file_number, file_sequence, check_word}
 use Rattle.f11_header.specs.Header.{holds_header}
-use Rattle.f11_map.specs.HeaderBlock.{segment_number, link_of}
+use Rattle.f11_map.specs.HeaderBlock.{segment_number, link_of, LinksToNone}
 use Rattle.f11_index.specs.Table.{Table, IsNext, IsHeaderOf, LinksRightly}
 
 -- whether header n is live: its slot is in use, and it is valid
@@ -38,7 +38,7 @@ headers_of t f = headers_from 256 t f
 -- header n is file f's last: it links to none
 pub record IsLastOf (t : Table) (f n : ℕ) : Type 0 where
   pub of : IsHeaderOf t f n
-  pub no_link : (link_of (t.header n)).number ≡ 0
+  pub no_link : LinksToNone (t.header n)
 
 -- header n is one of a file
 pub record IsInFile (t : Table) (n : ℕ) : Type 0 where

@@ -5,7 +5,7 @@ use Rattle.f11_dev.specs.Image.{Image, image_block}
 use Rattle.f11_home.specs.Home.{HomeFields}
 use Rattle.f11_header.specs.Fields.{file_number, file_sequence}
 use Rattle.f11_header.specs.Header.{IsHeader}
-use Rattle.f11_map.specs.HeaderBlock.{segment_number, link_of}
+use Rattle.f11_map.specs.HeaderBlock.{segment_number, link_of, LinksToNone}
 use Rattle.f11_index.specs.IndexFile.{Index, index_of, slots, is_in_use, header_lbn}
 
 pub record Table : Type 0 where
@@ -63,7 +63,7 @@ pub data IsHeaderOf (t : Table) (f : ℕ) : ℕ → Type 0 where
 
 -- header n links to its next one, or to none
 abbrev pub LinksRightly : Table → ℕ → Type 0
-LinksRightly t n = ((link_of (t.header n)).number ≡ 0) ⊎ IsNext t n (link_of (t.header n)).number
+LinksRightly t n = LinksToNone (t.header n) ⊎ IsNext t n (link_of (t.header n)).number
 
 -- file f has its first header, and each of its headers links rightly
 pub record IsWholeFile (t : Table) (f : ℕ) : Type 0 where

@@ -1,7 +1,7 @@
 -- Headers and their files where all slots but one are as they were (Files-11 On-Disk Structure Level 1, "Index File" and "File Header").
 use Rattle.std.specs.Prelude.{◌≡◌, ◌≢◌, ◌↔◌, ℕ, true, false}
 use Rattle.f11_index.specs.ChangeLaws.{IsAsGood, StayUpTo}
-use Rattle.f11_map.specs.HeaderBlock.{link_of}
+use Rattle.f11_map.specs.HeaderBlock.{LinksToNone}
 use Rattle.f11_index.specs.Headers.{IsInFile}
 use Rattle.f11_index.specs.Table.{Table, IsLive, IsNext, IsHeaderOf, IsWholeFile}
 use Rattle.f11_chain.specs.Laws.{StayBefore}
@@ -36,4 +36,4 @@ OtherHeadersWere = (old new : Table) (n f m : ℕ) → KeepsOtherSlots n old new
 abbrev pub EnteredIsUnlinked : Type 0
 EnteredIsUnlinked =
     (old new : Volume) (n m : ℕ) → IsSoundVolume old → KeepsOtherSlots n old.table new.table → old.table.in_use n ≡ false →
-    (link_of (new.table.header n)).number ≡ 0 → IsInFile new.table m → ¬ IsNext new.table m n
+    LinksToNone (new.table.header n) → IsInFile new.table m → ¬ IsNext new.table m n

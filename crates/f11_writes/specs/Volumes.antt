@@ -4,7 +4,7 @@ use Rattle.std.specs.List.{slice_get}
 use Rattle.f11_header.specs.Fields.{file_sequence}
 use Rattle.f11_header.specs.Header.{IsHeader, IsDead}
 use Rattle.f11_index.specs.Growth.{IsGoodFor}
-use Rattle.f11_map.specs.HeaderBlock.{segment_number, link_of, blocks_named}
+use Rattle.f11_map.specs.HeaderBlock.{segment_number, link_of, blocks_named, LinksToNone}
 use Rattle.f11_index.specs.Headers.{headers_of, IsInFile}
 use Rattle.f11_index.specs.Sound.{AreApart}
 use Rattle.f11_index.specs.Table.{IsLive, IsFile, IsNext}
@@ -48,12 +48,12 @@ pub record LinksAnew (v : Volume) (block : List ℕ) : Type 0 where
   pub to : IsLive v.table (link_of block).number
   pub sequence : (link_of block).sequence ≡ file_sequence (v.table.header (link_of block).number)
   pub segment : segment_number (v.table.header (link_of block).number) ≡ segment_number block + 1
-  pub no_link : (link_of (v.table.header (link_of block).number)).number ≡ 0
+  pub no_link : LinksToNone (v.table.header (link_of block).number)
   pub no_other : (m : ℕ) → IsInFile v.table m → ¬ IsNext v.table m (link_of block).number
 
 -- header n may have the link of this block: it is none, the one that it has, or one to a header that is then its next
 pub data MayLink (v : Volume) (n : ℕ) (block : List ℕ) : Type 0 where
-  links_to_none : (link_of block).number ≡ 0 → MayLink v n block
+  links_to_none : LinksToNone block → MayLink v n block
   links_as_before : IsLive v.table n → link_of block ≡ link_of (v.table.header n) → MayLink v n block
   links_anew : LinksAnew v block → MayLink v n block
 

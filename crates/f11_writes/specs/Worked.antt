@@ -10,7 +10,7 @@ use Rattle.f11_header.specs.Header.{IsHeader, IsDead}
 use Rattle.f11_home.specs.Home.{HomeFields}
 use Rattle.f11_index.specs.Calls.{SetsBit, with_bitmap_block}
 use Rattle.f11_index.specs.Growth.{IsGoodFor, with_header}
-use Rattle.f11_map.specs.HeaderBlock.{segment_number, link_of, blocks_named}
+use Rattle.f11_map.specs.HeaderBlock.{segment_number, link_of, blocks_named, LinksToNone}
 use Rattle.f11_index.specs.Headers.{headers_of, IsLastOf}
 use Rattle.f11_index.specs.IndexFile.{Index, index_of, slots, is_in_use}
 use Rattle.f11_index.specs.Table.{Table, table_of, IsFile}
@@ -24,7 +24,7 @@ pub record NamesOneMore (t : Table) (f n lbn : ℕ) (header : List ℕ) : Type 0
   pub last : IsLastOf t f n
   pub few : segment_number (t.header n) < 256
   pub good : IsGoodFor t n header
-  pub no_link : (link_of header).number ≡ 0
+  pub no_link : LinksToNone header
   pub names : blocks_named header ≡ blocks_named (t.header n) ++ range_with_len lbn 1
 
 -- the free block was marked used, zeros were written to it, and then the header
@@ -57,7 +57,7 @@ pub record IsNewHeader (index : Index) (n : ℕ) (header : List ℕ) : Type 0 wh
   pub slot : n ≤ slots index
   pub unused : is_in_use index n ≡ false
   pub valid : IsHeader header n
-  pub no_link : (link_of header).number ≡ 0
+  pub no_link : LinksToNone header
   pub no_blocks : blocks_named header ≡ []
 
 -- the header was written, and then its bit set

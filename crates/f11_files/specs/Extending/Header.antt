@@ -8,7 +8,7 @@ use Rattle.f11_dev.specs.Image.{Image}
 use Rattle.f11_header.specs.Fields.{file_sequence, owner, protection, characteristics, attributes, ident_room}
 use Rattle.f11_header.specs.Header.{IsHeader}
 use Rattle.f11_index.specs.Calls.{SetsBit}
-use Rattle.f11_map.specs.HeaderBlock.{segment_number, link_of, blocks_named}
+use Rattle.f11_map.specs.HeaderBlock.{segment_number, blocks_named, LinksToNone}
 use Rattle.f11_index.specs.Kept.{room}
 use Rattle.f11_index.specs.Table.{table_of}
 use Rattle.f11_store.specs.Changes.{with_slots}
@@ -39,7 +39,7 @@ pub record IsExtension (tail : Tail) (id : FileId) (lbn count : ℕ) (block : Li
   pub no_attributes : attributes block ≡ replicate 32 0
   pub no_ident : ident_room block ≡ replicate 46 0
   pub segment : segment_number block ≡ segment_number tail.block + 1
-  pub no_link : (link_of block).number ≡ 0
+  pub no_link : LinksToNone block
   pub names : blocks_named block ≡ range_with_len lbn count
   pub pointer : pointers_in block ≡ 1
   pub room : room_in block ≡ 101

@@ -4,7 +4,7 @@ use Rattle.f11_dev.specs.Disk.{Disk}
 use Rattle.f11_dev.specs.Image.{Image}
 use Rattle.f11_dev.specs.Went.{Went}
 use Rattle.f11_header.specs.Fields.{file_sequence}
-use Rattle.f11_map.specs.HeaderBlock.{segment_number, link_of}
+use Rattle.f11_map.specs.HeaderBlock.{segment_number, LinksToNone}
 use Rattle.f11_index.specs.Headers.{IsInFile, IsLastOf}
 use Rattle.f11_index.specs.Table.{Table, table_of, IsLive, IsNext}
 use Rattle.f11_store.specs.Changes.{with_change}
@@ -23,7 +23,7 @@ pub record MayFollow (t : Table) (tail : Tail) (id : FileId) : Type 0 where
   pub other : id.number ≢ tail.number
   pub sequence : file_sequence (t.header id.number) ≡ id.sequence
   pub segment : segment_number (t.header id.number) ≡ segment_number tail.block + 1
-  pub no_link : (link_of (t.header id.number)).number ≡ 0
+  pub no_link : LinksToNone (t.header id.number)
   pub no_other : (n : ℕ) → IsInFile t n → ¬ IsNext t n id.number
 
 -- where the disk is honest, in an image that stands meanwhile the file has that header more

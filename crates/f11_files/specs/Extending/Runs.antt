@@ -4,7 +4,7 @@ use Rattle.f11_dev.specs.Disk.{Disk}
 use Rattle.f11_dev.specs.Image.{Image}
 use Rattle.f11_header.specs.Fields.{owner, protection}
 use Rattle.f11_home.specs.Home.{HomeFields}
-use Rattle.f11_map.specs.HeaderBlock.{link_of}
+use Rattle.f11_map.specs.HeaderBlock.{link_of, LinksToNone}
 use Rattle.f11_store.specs.Changes.{Extends}
 use Rattle.f11_store.specs.Cost.{growth_cost}
 use Rattle.f11_store.specs.File.{length_of}
@@ -31,7 +31,7 @@ pub record IsTailOf (f : FileId) (first : List ℕ) (number : ℕ) (last : List 
   pub file_is : tail.file ≡ f
   pub owner_is : tail.owner ≡ owner first
   pub protection_is : tail.protection ≡ protection first
-  pub alone : (link_of first).number ≡ 0 → (tail.number ≡ f.number) × (tail.block ≡ first)
+  pub alone : LinksToNone first → (tail.number ≡ f.number) × (tail.block ≡ first)
   pub other : (link_of first).number ≢ 0 → (tail.number ≡ number) × (tail.block ≡ last)
 
 -- A file has a run of blocks more: no block below `end` is free then, and its last header is in hand.

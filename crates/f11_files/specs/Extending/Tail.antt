@@ -8,7 +8,7 @@ use Rattle.f11_header.specs.Fields.{map_area}
 use Rattle.f11_home.specs.Home.{HomeFields}
 use Rattle.f11_map.specs.MapArea.{runs_of}
 use Rattle.f11_map.specs.MapWriting.{joins_last}
-use Rattle.f11_map.specs.HeaderBlock.{segment_number, link_of}
+use Rattle.f11_map.specs.HeaderBlock.{segment_number, LinksToNone}
 use Rattle.f11_index.specs.Headers.{IsLastOf}
 use Rattle.f11_index.specs.Table.{table_of}
 use Rattle.f11_chain.specs.Calls.{HoldsHeader}
@@ -51,7 +51,7 @@ GrowsWithin s tail others after later = StandsWithin s (growth_headers s tail) o
 -- The block is a valid header in use, which links to none; it is the last of the file where the disk is honest.
 pub record HoldsLast (s : Structure) (tail : Tail) (disk : Disk) : Type 0 where
   pub header : HoldsHeader (index_in s) tail.number tail.block disk
-  pub no_link : (link_of tail.block).number ≡ 0
+  pub no_link : LinksToNone tail.block
   pub few : segment_number tail.block < 256
   pub is_last : IsTrue disk.honest → IsLastOf (table_of disk.image (home_of s)) tail.file.number tail.number
 

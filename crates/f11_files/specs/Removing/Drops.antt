@@ -5,7 +5,7 @@ use Rattle.f11_bits.specs.Bitmap.{Marks}
 use Rattle.f11_dev.specs.Disk.{Disk}
 use Rattle.f11_header.specs.Writing.{dead_header}
 use Rattle.f11_home.specs.Home.{HomeFields}
-use Rattle.f11_map.specs.HeaderBlock.{segment_number, link_of, blocks_named}
+use Rattle.f11_map.specs.HeaderBlock.{segment_number, link_of, blocks_named, LinksToNone}
 use Rattle.f11_index.specs.Headers.{headers_from, IsInFile}
 use Rattle.f11_index.specs.Sound.{AreApart}
 use Rattle.f11_index.specs.Table.{Table, table_of, IsNext}
@@ -92,7 +92,7 @@ headers_behind t block = headers_from (255 - segment_number block) t (link_of bl
 
 -- These headers hang behind one in hand: each is the next of the one before, the last has no link, and no header of a file links to any.
 abbrev pub HangsBehind : Table → List ℕ → List ℕ → Type 0
-HangsBehind t before [] = (link_of before).number ≡ 0
+HangsBehind t before [] = LinksToNone before
 HangsBehind t before (n ∷ ns) = IsNextOf t before n × ((m : ℕ) → IsInFile t m → ¬ IsNext t m n) × HangsBehind t (t.header n) ns
 
 -- a store without these headers, which are of no file

@@ -10,9 +10,8 @@ ghost use Rattle.f11_store.specs.Store.{file_named};
 use crate::answer::refusal_for;
 use crate::structure::Structure;
 use f11_bytes::BLOCK_SIZE;
-use f11_chain::seek;
+use f11_chain::{block_at, seek};
 use f11_dev::Device;
-use f11_map::in_hand::lbn_of;
 use f11_store::{FileId, Refusal};
 
 impl Structure {
@@ -44,13 +43,9 @@ impl Structure {
             Ok(place) => place,
             Err(fault) => return Err(refusal_for(fault)),
         };
-        let Some(lbn) = lbn_of(&block, place.left) else {
-            return Err(Refusal::Damaged);
-        };
-        if lbn < device.blocks() {
-            Ok(lbn)
-        } else {
-            Err(Refusal::Damaged)
+        match block_at(&block, place.left, device.blocks()) {
+            Some(lbn) => Ok(lbn),
+            None => Err(Refusal::Damaged),
         }
     }
 }

@@ -1,5 +1,5 @@
 use Rattle.std.proofs.Common.{◌≡◌, ◌+◌, ◌-◌, arith}
-use Rattle.f11_chain.proofs.AlongLemmas.{break-first, damage-break, failed-first, handed-on, along-behind, end-behind, break-behind, locates, damage-outside, no-block}
+use Rattle.f11_chain.proofs.AlongLemmas.{break-first, damage-break, failed-first, handed-on, along-behind, end-behind, break-behind, locates, damage-outside}
 use Rattle.f11_chain.proofs.blocks.locate.Goals as goal
 
 pub returns-in_err-first-clause-damaged : goal.returns-in_err-first-clause-damaged
@@ -21,13 +21,10 @@ pub returns-in_err-place-clause-failed : goal.returns-in_err-place-clause-failed
 returns-in_err-place-clause-failed g c = λ is.
     along-behind _ _ _ _ _ c.in_ok-first.ensures.reads _ _ (c.in_err-place.ensures.failed (handed-on _ _ _ c.from_residual-in_err-place.ensures.1 is))
 
-pub returns-in_default-clause-damaged : goal.returns-in_default-clause-damaged
-returns-in_default-clause-damaged g c = λ _. absurd (no-block _ _ _ _ _ c.in_ok-first.ensures.reads _ _ _ _ c.in_ok-place.ensures.seeks c.in_default.ensures)
+pub returns-in-Some-clause-locates : goal.returns-in-Some-clause-locates
+returns-in-Some-clause-locates g c =
+    locates _ _ _ _ _ c.in_ok-first.ensures.reads _ _ _ _ c.in_ok-place.ensures.seeks _ (rw c.blocks-2.ensures.count at c.in-Some.ensures)
 
-pub returns-then-lbn-blocks-clause-locates : goal.returns-then-lbn-blocks-clause-locates
-returns-then-lbn-blocks-clause-locates g c =
-    locates _ _ _ _ _ c.in_ok-first.ensures.reads _ _ _ _ c.in_ok-place.ensures.seeks _ c.in-Some.ensures (omega (arith, c.if-lbn-blocks.true, c.blocks-2.ensures.count))
-
-pub returns-else-lbn-blocks-clause-damaged : goal.returns-else-lbn-blocks-clause-damaged
-returns-else-lbn-blocks-clause-damaged g c = λ _.
-    damage-outside _ _ _ _ _ c.in_ok-first.ensures.reads _ _ _ _ c.in_ok-place.ensures.seeks _ c.in-Some.ensures (omega (arith, c.if-lbn-blocks.false, c.blocks-2.ensures.count))
+pub returns-in-None-clause-damaged : goal.returns-in-None-clause-damaged
+returns-in-None-clause-damaged g c = λ _.
+    damage-outside _ _ _ _ _ c.in_ok-first.ensures.reads _ _ _ _ c.in_ok-place.ensures.seeks (rw c.blocks-2.ensures.count at c.in-None.ensures)

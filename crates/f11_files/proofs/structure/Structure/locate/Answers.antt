@@ -1,5 +1,5 @@
 use Rattle.std.proofs.Common.{◌≡◌, ◌+◌, ◌-◌, ap, Err, arith}
-use Rattle.f11_chain.proofs.AlongLemmas.{along-behind, end-behind, break-behind, damage-break, locates, damage-outside, no-block}
+use Rattle.f11_chain.proofs.AlongLemmas.{along-behind, end-behind, break-behind, damage-break, locates, damage-outside}
 use Rattle.f11_files.proofs.Finding.Locate.{reads-first, fails-walk, fails-damaged, finds-block}
 use Rattle.f11_files.proofs.structure.Structure.locate.Goals as goal
 
@@ -15,20 +15,16 @@ returns-in-Err-clause-refused g c =
     (λ is. damage-break _ _ _ _ (break-behind _ _ _ _ _ first _ (seek.damaged (ap Err is))))
     (λ is. along-behind _ _ _ _ _ first _ _ (seek.failed (ap Err is))))
 
-pub returns-in_default-clause-refused : goal.returns-in_default-clause-refused
-returns-in_default-clause-refused g c =
-    absurd (no-block _ _ _ _ _ (reads-first _ _ _ _ _ c.in_ok-read_first.ensures.found) _ _ _ _ c.in-Ok.ensures.seeks c.in_default.ensures)
-
-pub returns-then-lbn-blocks-clause-found : goal.returns-then-lbn-blocks-clause-found
-returns-then-lbn-blocks-clause-found g c =
+pub returns-in-Some-clause-found : goal.returns-in-Some-clause-found
+returns-in-Some-clause-found g c =
     let old = g.D.Device.disk c.args.device.now in
     let found = c.in_ok-read_first.ensures.found in
     finds-block c.args.self.now c.args.f _ old _ c.requires.is_for found.holds c.requires.own c.args.vbn _ c.requires.some
-    (locates _ _ _ _ _ (reads-first _ _ _ _ _ found) _ _ _ _ c.in-Ok.ensures.seeks _ c.in-Some.ensures (omega (arith, c.if-lbn-blocks.true, c.blocks-2.ensures.count)))
+    (locates _ _ _ _ _ (reads-first _ _ _ _ _ found) _ _ _ _ c.in-Ok.ensures.seeks _ (rw c.blocks-2.ensures.count at c.in-Some.ensures))
 
-pub returns-else-lbn-blocks-clause-refused : goal.returns-else-lbn-blocks-clause-refused
-returns-else-lbn-blocks-clause-refused g c =
+pub returns-in-None-clause-refused : goal.returns-in-None-clause-refused
+returns-in-None-clause-refused g c =
     let old = g.D.Device.disk c.args.device.now in
     let found = c.in_ok-read_first.ensures.found in
     fails-damaged c.args.self.now c.args.f _ old _ c.requires.is_for found.holds c.requires.own c.args.vbn
-    (damage-outside _ _ _ _ _ (reads-first _ _ _ _ _ found) _ _ _ _ c.in-Ok.ensures.seeks _ c.in-Some.ensures (omega (arith, c.if-lbn-blocks.false, c.blocks-2.ensures.count)))
+    (damage-outside _ _ _ _ _ (reads-first _ _ _ _ _ found) _ _ _ _ c.in-Ok.ensures.seeks (rw c.blocks-2.ensures.count at c.in-None.ensures))
