@@ -10,7 +10,6 @@ pub mod NewFileLemmas
 pub mod FreshStoreLemmas
 pub mod StepLemmas
 pub mod ExtensionLemmas
-pub mod FilelessLemmas
 pub mod SparedLemmas
 pub mod FreeingLemmas
 pub mod ConfinesLemmas

@@ -10,6 +10,5 @@ pub mod FieldLaws
 pub mod NewFileLaws
 pub mod FreshStore
 pub mod ExtensionLaws
-pub mod FilelessLaws
 pub mod Freeing
 pub mod FreeingLaws

@@ -6,7 +6,6 @@ ghost use Rattle.f11_image_store.specs.FieldLaws as fields;
 ghost use Rattle.f11_image_store.specs.FileLaws as files;
 ghost use Rattle.f11_image_store.specs.FreeingLaws as freeing;
 ghost use Rattle.f11_image_store.specs.FreshStore as fresh;
-ghost use Rattle.f11_image_store.specs.FilelessLaws as fileless;
 ghost use Rattle.f11_image_store.specs.NewFileLaws as new;
 ghost use Rattle.f11_image_store.specs.SlotLaws as slots;
 ghost use Rattle.f11_image_store.specs.StoreLaws as laws;
@@ -94,14 +93,6 @@ pub fn new_files()
     ensures free { new.FreeSlotsAreStored }
     ensures written { new.NewFirstMayBeWritten }
     ensures entered { new.NewFileMayBeEntered }
-{}
-
-/// Headers of no file, behind one that a file was cut at, or of a file that was killed.
-pub fn fileless_headers()
-    ensures unlinked { fileless.FilelessIsUnlinked }
-    ensures stays { fileless.FilelessStays }
-    ensures killed { fileless.KilledLeavesFileless }
-    ensures cut { fileless.CutLeavesFileless }
 {}
 
 /// A header for a file that grows, which is written and entered.

@@ -122,18 +122,6 @@ lost-unnamed old new n place lbn sound others was gone named = elim (cases_eq na
   | inr away ↦ away (sound.apart named.header named.place n place lbn (cell-was old.table new.table n named.header named.place lbn others away named.cell) was).0
 ]
 
-pub killed-unnamed : (old new : Volume) (n place lbn : ℕ) → IsSoundVolume old → KeepsOtherSlots n old.table new.table → IsCell old.table n place lbn → ¬ IsLive new.table n
-    → ¬ IsNamed new.table lbn
-killed-unnamed old new n place lbn sound others was gone = lost-unnamed old new n place lbn sound others was (λ i cell. gone cell.live)
-
-pub cut-unnamed : (old new : Volume) (n left place lbn : ℕ) → IsSoundVolume old → KeepsOtherSlots n old.table new.table → IsCell old.table n place lbn → left ≤ place
-    → blocks_named (new.table.header n) ≡ take left (blocks_named (old.table.header n)) → ¬ IsNamed new.table lbn
-cut-unnamed old new n left place lbn sound others was behind names =
-    lost-unnamed old new n place lbn sound others was (λ i cell.
-    let there = take-at left (blocks_named (old.table.header n)) i lbn (ap (λ (bs : List ℕ). slice_get bs i) (sym names) ∙ cell.names) in
-    let same = (sound.apart n i n place lbn (record { live = was.live; names = there.1 }) was).1 in
-    omega (arith, there.0, same, behind))
-
 pub part-unreferenced : (v : Volume) (lbn count from some : ℕ) → AreUnreferenced v lbn count → lbn ≤ from → from + some ≤ lbn + count → AreUnreferenced v from some
 part-unreferenced v lbn count from some unreferenced low high = record {
   inside = omega (arith, high, unreferenced.inside);

@@ -1,18 +1,14 @@
 -- A volume that has lost headers, or has other blocks free.
-use Rattle.std.proofs.Common.{◌≡◌, ℕ, ◌+◌, ◌<◌, List, sym, ap, subst, ◌∙◌}
+use Rattle.std.proofs.Common.{ℕ, ◌+◌, ◌<◌, List, sym, ap, subst, ◌∙◌}
 use Rattle.std.specs.List.{slice_get}
 use Rattle.std.proofs.lemmas.Bool.{false_from_ne_true}
 use Rattle.f11_header.specs.Fields.{file_sequence}
 use Rattle.f11_map.specs.HeaderBlock.{segment_number, link_of, blocks_named}
-use Rattle.f11_index.specs.Headers.{headers_of, IsInFile}
+use Rattle.f11_index.specs.Headers.{IsInFile}
 use Rattle.f11_index.specs.Table.{Table, IsLive, IsFile, IsNext, IsHeaderOf, first, next}
 use Rattle.f11_index.proofs.ChainLemmas.{live_of-header}
-use Rattle.f11_index.proofs.HeadersLemmas.{listed-are, chained-whole}
-use Rattle.f11_chain.specs.FileHeaders.{file_blocks}
-use Rattle.f11_chain.proofs.ChangeLemmas.{file-stays}
 use Rattle.f11_volume.specs.Sound.{LinksOn, IsSoundVolume}
 use Rattle.f11_volume.specs.Volume.{Volume, IsCell, IsLinked}
-use Rattle.f11_volume.proofs.FileLemmas.{sound-chained}
 use Rattle.f11_writes.specs.Volumes.{Shrinks}
 
 module _ (old new : Volume) (s : Shrinks old new) where
@@ -93,8 +89,3 @@ module _ (old new : Volume) (s : Shrinks old new) where
       links = links-on;
       once = λ n one other of also goes comes. sound.once n one other (in-file-was one of) (in-file-was other also) (next-was one n goes) (next-was other n comes);
     }
-
-    pub shrunk-file : (f : ℕ) → IsFile u f → (headers_of u f ≡ headers_of t f) × (file_blocks u f ≡ file_blocks t f)
-    shrunk-file f file = file-stays t u f (λ n listed.
-        let of = listed-are t f n (chained-whole t f (sound-chained old sound) (file-was f file)) listed in
-        s.same n (live_of-header (header-is f file of)))

@@ -56,20 +56,6 @@ LostIsUnnamed =
     (old new : Volume) (n place lbn : ℕ) → IsSoundVolume old → KeepsOtherSlots n old.table new.table → IsCell old.table n place lbn →
     ((i : ℕ) → ¬ IsCell new.table n i lbn) → ¬ IsNamed new.table lbn
 
--- as one that it named where it isn't live now
-abbrev pub KilledIsUnnamed : Type 0
-KilledIsUnnamed =
-    (old new : Volume) (n place lbn : ℕ) → IsSoundVolume old → KeepsOtherSlots n old.table new.table → IsCell old.table n place lbn →
-    ¬ IsLive new.table n →
-    ¬ IsNamed new.table lbn
-
--- and one behind those that it names now, where these are the first of those that it named
-abbrev pub CutIsUnnamed : Type 0
-CutIsUnnamed =
-    (old new : Volume) (n left place lbn : ℕ) → IsSoundVolume old → KeepsOtherSlots n old.table new.table → IsCell old.table n place lbn →
-    left ≤ place →
-    blocks_named (new.table.header n) ≡ take left (blocks_named (old.table.header n)) → ¬ IsNamed new.table lbn
-
 -- some of unreferenced blocks are unreferenced
 abbrev pub PartIsUnreferenced : Type 0
 PartIsUnreferenced =

@@ -5,10 +5,9 @@ use Rattle.f11_header.specs.Fields.{file_sequence}
 use Rattle.f11_header.specs.Header.{IsHeader, IsDead}
 use Rattle.f11_index.specs.Growth.{IsGoodFor}
 use Rattle.f11_map.specs.HeaderBlock.{segment_number, link_of, blocks_named, LinksToNone}
-use Rattle.f11_index.specs.Headers.{headers_of, IsInFile}
+use Rattle.f11_index.specs.Headers.{IsInFile}
 use Rattle.f11_index.specs.Sound.{AreApart}
-use Rattle.f11_index.specs.Table.{IsLive, IsFile, IsNext}
-use Rattle.f11_chain.specs.FileHeaders.{file_blocks}
+use Rattle.f11_index.specs.Table.{IsLive, IsNext}
 use Rattle.f11_volume.specs.Sound.{IsSoundVolume}
 use Rattle.f11_volume.specs.Volume.{Volume, IsCell}
 use Rattle.f11_writes.specs.OtherSlots.{KeepsOtherSlots}
@@ -26,12 +25,6 @@ pub record Shrinks (old new : Volume) : Type 0 where
 -- then it is sound still
 abbrev pub ShrunkIsSound : Type 0
 ShrunkIsSound = (old new : Volume) → IsSoundVolume old → Shrinks old new → IsSoundVolume new
-
--- and each file that it has was one before, with the same headers and the same blocks
-abbrev pub ShrunkKeepsFiles : Type 0
-ShrunkKeepsFiles =
-    (old new : Volume) (f : ℕ) → IsSoundVolume old → Shrinks old new → IsFile new.table f →
-    (headers_of new.table f ≡ headers_of old.table f) × (file_blocks new.table f ≡ file_blocks old.table f)
 
 -- Header n may name these blocks: each is in the volume and used, no other header names it, and none stands twice among them.
 pub record MayName (v : Volume) (n : ℕ) (lbns : List ℕ) : Type 0 where

@@ -8,8 +8,7 @@ ghost use Rattle.f11_writes.specs.Worked as worked;
 
 /// A volume that has lost headers, or has other blocks free.
 pub fn shrunk_volumes()
-    ensures sound { volumes.ShrunkIsSound }
-    ensures files { volumes.ShrunkKeepsFiles }
+    ensures { volumes.ShrunkIsSound }
 {}
 
 /// A volume one of whose headers is set.
@@ -65,8 +64,6 @@ pub fn unnamed_blocks()
     ensures free { names.FreeIsUnnamed }
     ensures taken { names.TakenAreUnreferenced }
     ensures lost { names.LostIsUnnamed }
-    ensures killed { names.KilledIsUnnamed }
-    ensures cut { names.CutIsUnnamed }
 {}
 
 /// Unreferenced blocks, in use and named by no header, which are unreferenced still.
