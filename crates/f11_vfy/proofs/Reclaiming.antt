@@ -5,6 +5,7 @@ pub mod Kill
 pub mod Files
 pub mod Dead
 pub mod Storage
+pub mod Order
 pub mod Places
 pub mod Orphans
 pub mod Idle

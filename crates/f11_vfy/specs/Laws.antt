@@ -1,6 +1,7 @@
 -- Laws of what the verifier reads, of what `init` leaves and of what reclaiming does, which show that the words for it say what is meant
 -- (profile).
 use Rattle.std.specs.Prelude.{◌≡◌, ◌⊎◌, ℕ, ◌≤◌, length}
+use Rattle.f11_bits.specs.Bitmap.{KeepsBitmap}
 use Rattle.f11_dev.specs.Image.{Image, IsImage}
 use Rattle.f11_header.specs.Writing.{dead_header}
 use Rattle.f11_home.specs.Home.{HomeFields, HasNoHome}
@@ -15,7 +16,7 @@ use Rattle.f11_volume.specs.Space.{storage_bitmap}
 use Rattle.f11_volume.specs.Verdict.{IsAccepted}
 use Rattle.f11_volume.specs.Volume.{volume_of}
 use Rattle.f11_vfy.specs.Reclaiming.Moments.{IsReclaiming}
-use Rattle.f11_vfy.specs.Reclaiming.Slots.{IsOrphan}
+use Rattle.f11_vfy.specs.Reclaiming.Slots.{IsOrphan, IsIdle}
 use Rattle.f11_vfy.specs.Reclaiming.Whole.{HasReclaimed}
 use Rattle.f11_vfy.specs.Scanning.Reading.{volume_in}
 use Rattle.f11_vfy.specs.Surveying.Slot.{says_directory}
@@ -49,3 +50,13 @@ FilesGainNone = (home : HomeFields) (old image : Image) → IsReclaiming home ol
 abbrev pub OrphansAreKilled : Type 0
 OrphansAreKilled = (home : HomeFields) (old new : Image) → HasReclaimed home old new → (n : ℕ) → IsOrphan (table_of old home) n →
     (table_of new home).header n ≡ dead_header ((table_of old home).header n)
+
+-- as long as there is an orphan, the index bitmap is as it was
+abbrev pub OrphansGoFirst : Type 0
+OrphansGoFirst = (home : HomeFields) (old image : Image) → IsReclaiming home old image → (n : ℕ) → IsOrphan (table_of image home) n →
+    (index_of image home).bitmap ≡ (index_of old home).bitmap
+
+-- as long as a slot in use is one of no file, the storage bitmap is as it was
+abbrev pub BlocksGoLast : Type 0
+BlocksGoLast = (home : HomeFields) (old image : Image) → IsReclaiming home old image → (n : ℕ) → IsIdle (table_of image home) n →
+    KeepsBitmap (storage_bitmap old home) old image

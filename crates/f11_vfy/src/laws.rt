@@ -12,9 +12,11 @@ pub fn readings()
     ensures volume { laws.VolumeIsRead }
 {}
 
-/// Reclaiming keeps the headers of files at each moment, and kills the orphans.
+/// Reclaiming keeps the headers of files at each moment, and kills the orphans, before any slot leaves use, which is before any block becomes free.
 pub fn reclaiming()
     ensures files { laws.FilesKeepHeaders }
     ensures no_more { laws.FilesGainNone }
     ensures orphans { laws.OrphansAreKilled }
+    ensures first { laws.OrphansGoFirst }
+    ensures last { laws.BlocksGoLast }
 {}

@@ -15,9 +15,9 @@ use Rattle.f11_index.proofs.InUseLemmas.{in_use-some, in_use-slot}
 use Rattle.f11_map.specs.HeaderBlock.{blocks_named}
 use Rattle.f11_vfy.specs.Chain.{IsFit}
 use Rattle.f11_vfy.specs.Reclaiming.Moments.{KeepsPlaces}
-use Rattle.f11_vfy.specs.Reclaiming.Slots.{IsOrphan, IsIdle}
+use Rattle.f11_vfy.specs.Reclaiming.Slots.{IsOrphan, HasNoOrphan, UsedAreOfFiles, IsIdle}
 use Rattle.f11_vfy.specs.Reclaiming.Steps.{IsShown, HasKilledUpTo, IsSwept, HasClearedUpTo, may_be_free, IsTold, HasFreedUpTo}
-use Rattle.f11_vfy.specs.Reclaiming.Whole.{IsReadAs, UnnamedAreFree, UsedAreOfFiles, HasReclaimed}
+use Rattle.f11_vfy.specs.Reclaiming.Whole.{IsReadAs, UnnamedAreFree, HasReclaimed}
 use Rattle.f11_vfy.specs.Surveying.Bits.{has, limit_of}
 use Rattle.f11_vfy.specs.declared.findings.reading.Reading.{Reading}
 use Rattle.f11_vfy.specs.declared.survey.bits.Bits.{Bits}
@@ -87,7 +87,7 @@ module _ (index : Index) (bitmap : Bitmap) (r : Reading) (home : HomeFields) (a 
     files-one : KeepsFiles t u
     files-one = killed-keeps (slots index) t u fit one.table
 
-    pub no-orphan : (n : ℕ) → ¬ IsOrphan u n
+    pub no-orphan : HasNoOrphan u
     no-orphan n left =
         let was = (files-one.was n left.live).0 in
         one.table.killed n (let high = fit.high n was.in_use in omega (arith, high, slot-count))
@@ -180,6 +180,7 @@ module _ (index : Index) (bitmap : Bitmap) (r : Reading) (home : HomeFields) (a 
       pub told-so : ((k : ℕ) → has before k ≡ false) → limit_of before ≡ bitmap.size → IsTold bitmap r.survey.tally.once unreferenced home c
       told-so before_is limit = record {
         sound = two.places.reclaiming.freeing.sound;
+        slots = files-used;
         bitmap_is = is.frame.bitmap_is ∙ sym one.places.bitmap ∙ sym two.places.bitmap;
         tells = λ lbn inside. (may-unnamed before_is lbn, unnamed-may_be limit lbn inside);
       }

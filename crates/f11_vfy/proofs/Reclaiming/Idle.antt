@@ -21,11 +21,11 @@ use Rattle.f11_index.proofs.LawLemmas.{at as block-at}
 use Rattle.f11_image_store.proofs.ConfinesLemmas.{spares-other}
 use Rattle.f11_image_store.proofs.FreeingLemmas.{dead-freed, bit-wrote}
 use Rattle.f11_vfy.specs.Reclaiming.Moments.{any_header, IsReclaiming, KeepsPlaces, Moment}
-use Rattle.f11_vfy.specs.Reclaiming.Slots.{Counts, IsIdle, as_it_was, none, such, other}
+use Rattle.f11_vfy.specs.Reclaiming.Slots.{Counts, HasNoOrphan, IsIdle, ClearsUpTo, as_it_was, none, such, other}
 use Rattle.f11_vfy.specs.Reclaiming.Steps.{IsSwept, SamePlaces, HasClearedUpTo, ClearsIdle, FailsToClear}
 use Rattle.f11_vfy.specs.Surveying.Bits.{has}
 use Rattle.f11_vfy.specs.declared.findings.reading.Reading.{Reading}
-use Rattle.f11_vfy.proofs.Reclaiming.Files.{cleared-keeps, next-used, cleared-other, cleared-more}
+use Rattle.f11_vfy.proofs.Reclaiming.Files.{cleared-keeps, orphan-was, next-used, cleared-other, cleared-more}
 use Rattle.f11_vfy.proofs.Reclaiming.Places.{places-none, places-then, reclaiming-then}
 use Rattle.f11_vfy.proofs.Reclaiming.Storage.{storage-then, storage-write, past-kept}
 use Rattle.f11_volume.specs.Space.{storage_bitmap}
@@ -161,6 +161,18 @@ module _ (index : Index) (r : Reading) (k : ℕ) (mid : Index) (old now : Disk) 
             storage-write now.image home (after.bitmap_lbn + bitmap_place (k + 1)) (bitmap_block after (k + 1))
             here.places.reclaiming.freeing.sound placed
 
+        table : ClearsUpTo (k + 1) (t honest home swept) (table_of cleared home)
+        table =
+            let is = writes.index_file.table in
+            cleared-more k (t honest home swept) (u honest home swept) here.table (table_of cleared home) (ap (λ (v : Table). v.slots) is) (ap (λ (v : Table). v.header) is)
+            (ap (λ (v : Table). v.in_use (k + 1)) is ∙ SetsBit-in_use false (k + 1) mid after (omega arith) few bit)
+            (λ m apart. writes.slot.others.in_use m apart) idle
+
+        no-orphan : HasNoOrphan (table_of cleared home)
+        no-orphan n orphan =
+            swept.no_orphan n
+            (orphan-was (t honest home swept) (table_of cleared home) (cleared-keeps (k + 1) (t honest home swept) (table_of cleared home) table) n orphan)
+
         reclaiming : IsReclaiming home now.image cleared
         reclaiming = record {
           freeing = dead-freed now.image home (k + 1) here.places.reclaiming.freeing.sound after dead bit-of;
@@ -174,6 +186,7 @@ module _ (index : Index) (r : Reading) (k : ℕ) (mid : Index) (old now : Disk) 
             | inr apart ↦ absurd (both_ways _ gone (writes.slot.others.in_use m apart ∙ before))
           ];
           past = past-kept (storage_bitmap now.image home) now.image cleared storage;
+          order = record { kills_first = inr no-orphan; clears_first = inl storage };
         }
 
         places : KeepsPlaces home now.image cleared
@@ -196,11 +209,7 @@ module _ (index : Index) (r : Reading) (k : ℕ) (mid : Index) (old now : Disk) 
           places = places-then home old.image now.image cleared here.places places;
           index_is = sym writes.index_file.index_is;
           storage = storage-then old.image now.image cleared home here.places.bitmap here.storage storage;
-          table =
-              let is = writes.index_file.table in
-              cleared-more k (t honest home swept) (u honest home swept) here.table (table_of cleared home) (ap (λ (v : Table). v.slots) is) (ap (λ (v : Table). v.header) is)
-              (ap (λ (v : Table). v.in_use (k + 1)) is ∙ SetsBit-in_use false (k + 1) mid after (omega arith) few bit)
-              (λ m apart. writes.slot.others.in_use m apart) idle;
+          table = table;
         }
 
     count-more : (honest : IsTrue old.honest) (home : HomeFields) (swept : IsSwept index r home old.image) → Counts (IsIdle (table_of old.image home)) (k + 1) (so_far.count + 1)

@@ -30,6 +30,7 @@ use Rattle.f11_vfy.specs.declared.findings.reading.Reading.{Reading}
 use Rattle.f11_vfy.specs.declared.survey.bits.Bits.{Bits}
 use Rattle.f11_vfy.proofs.Frames.Earlier.{puts-none, puts-then, puts-same}
 use Rattle.f11_vfy.proofs.Reclaiming.Files.{killed-keeps, next-same, next-live, killed-other, killed-more, in-old}
+use Rattle.f11_vfy.proofs.Reclaiming.Order.{order-kept}
 use Rattle.f11_vfy.proofs.Reclaiming.Places.{places-none, places-then, places-same, reclaiming-then}
 use Rattle.f11_vfy.proofs.Reclaiming.Storage.{storage-then, storage-write, past-kept}
 use Rattle.f11_vfy.proofs.Scanning.Reading.{table-slots}
@@ -167,6 +168,7 @@ module _ (index : Index) (r : Reading) (k : ℕ) (before mid : Bits) (old now : 
           ];
           left = λ m used gone. absurd (both_ways _ gone (ap (λ (f : ℕ → Bool). f m) writes.in_use ∙ used));
           past = past-kept (storage_bitmap now.image home) now.image killed storage;
+          order = order-kept home now.image killed writes.index_file.index storage;
         }
 
         places : KeepsPlaces home now.image killed

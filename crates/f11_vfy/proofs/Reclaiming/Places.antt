@@ -20,6 +20,7 @@ use Rattle.f11_vfy.specs.Reclaiming.Slots.{IsOrphan, IsKeptOrKilled}
 use Rattle.f11_vfy.specs.Reclaiming.Whole.{HasReclaimed}
 use Rattle.f11_vfy.proofs.Reclaiming.Dead.{live-kept, in-file-kept, orphan-dead, kept-then, left-then, same-kept, same-left}
 use Rattle.f11_vfy.proofs.Reclaiming.Files.{KeepsFiles, in-old, in-new, orphan-was}
+use Rattle.f11_vfy.proofs.Reclaiming.Order.{order-kept, order-then}
 use Rattle.f11_volume.specs.Sound.{HasSoundVolume}
 use Rattle.f11_volume.specs.Space.{storage_bitmap}
 
@@ -95,6 +96,7 @@ reclaiming-none home image sound = record {
   headers = same-kept (table_of image home) (table_of image home) refl;
   left = same-left (table_of image home) (table_of image home) refl;
   past = λ k high below. refl;
+  order = order-kept home image image refl (λ i within. refl);
 }
 
 pub places-none : (home : HomeFields) (image : Image) → HasSoundVolume image home → KeepsPlaces home image image
@@ -122,6 +124,7 @@ reclaiming-then home a b c one two = record {
       let (some, few) = used-slot a home n used in
       left-then (table_of a home) (table_of b home) (table_of c home) n (one.reclaiming.left n used) two.left (two.headers n some (omega (arith, few, slots))) gone;
   past = λ k high below. subst (λ (x : Bitmap). KeepsPast x b c) one.bitmap two.past k high below ∙ one.reclaiming.past k high below;
+  order = order-then home a b c (reclaiming-keeps home b c two) (used-was home b c two) one.bitmap one.reclaiming.order two.order;
 }
 
 pub places-then : (home : HomeFields) (a b c : Image) → KeepsPlaces home a b → KeepsPlaces home b c → KeepsPlaces home a c

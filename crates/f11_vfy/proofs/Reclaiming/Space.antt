@@ -12,12 +12,12 @@ use Rattle.f11_dev.specs.Went.{Went}
 use Rattle.f11_dev.proofs.LookedLemmas.{looked_none}
 use Rattle.f11_dev.proofs.WentLemmas.{went_last, went_looked, went_more, went_weaker, went_within}
 use Rattle.f11_home.specs.Home.{HomeFields}
-use Rattle.f11_index.specs.IndexFile.{index_of}
+use Rattle.f11_index.specs.IndexFile.{Index, index_of}
 use Rattle.f11_index.specs.Table.{Table, table_of}
 use Rattle.f11_image_store.proofs.ConfinesLemmas.{spares-bitmap}
 use Rattle.f11_image_store.proofs.FreeingLemmas.{unnamed-freed}
 use Rattle.f11_vfy.specs.Reclaiming.Moments.{any_header, IsReclaiming, KeepsPlaces, KeepsPast, Moment}
-use Rattle.f11_vfy.specs.Reclaiming.Slots.{Counts, none, such, other}
+use Rattle.f11_vfy.specs.Reclaiming.Slots.{Counts, UsedAreOfFiles, none, such, other}
 use Rattle.f11_vfy.specs.Reclaiming.Steps.{may_be_free, IsTold, IsChangedBlock, HasFreedUpTo, FreesUnnamed, FailsToFree}
 use Rattle.f11_vfy.specs.declared.survey.bits.Bits.{Bits}
 use Rattle.f11_vfy.proofs.Reclaiming.Dead.{same-kept, same-left}
@@ -128,6 +128,10 @@ module _ (bitmap : Bitmap) (named unreferenced : Bits) (i : ℕ) (wanted : List 
         headers = same-kept (table_of now.image home) (table_of image home) kept.index_file.table;
         left = same-left (table_of now.image home) (table_of image home) kept.index_file.table;
         past = subst (λ (b : Bitmap). KeepsPast b now.image image) bitmap-is is.past;
+        order = record {
+          kills_first = inl (ap (λ (x : Index). x.bitmap) kept.index_file.index);
+          clears_first = inr (subst UsedAreOfFiles (sym (kept.index_file.table ∙ so.table)) told.slots);
+        };
       }
 
       places : KeepsPlaces home now.image image

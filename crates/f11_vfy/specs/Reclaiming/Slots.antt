@@ -1,5 +1,5 @@
 -- Which headers and slots of a volume go when it is reclaimed (profile).
-use Rattle.std.specs.Prelude.{◌≡◌, ℕ, ◌+◌, ◌<◌, ◌≤◌, true, false, Contains}
+use Rattle.std.specs.Prelude.{◌≡◌, ◌↔◌, ℕ, ◌+◌, ◌<◌, ◌≤◌, true, false, Contains}
 use Rattle.f11_header.specs.Header.{IsDead}
 use Rattle.f11_header.specs.Writing.{dead_header}
 use Rattle.f11_map.specs.HeaderBlock.{blocks_named}
@@ -16,6 +16,14 @@ pub data Counts (P : ℕ → Type 0) : ℕ → ℕ → Type 0 where
 pub record IsOrphan (t : Table) (n : ℕ) : Type 0 where
   pub live : IsLive t n
   pub of_none : ¬ IsInFile t n
+
+-- no header is one
+abbrev pub HasNoOrphan : Table → Type 0
+HasNoOrphan t = (n : ℕ) → ¬ IsOrphan t n
+
+-- A slot is in use exactly where its header is one of a file.
+abbrev pub UsedAreOfFiles : Table → Type 0
+UsedAreOfFiles t = (n : ℕ) → t.in_use n ≡ true ↔ IsInFile t n
 
 -- slot n is idle: it is in use, and its header is one of no file
 pub record IsIdle (t : Table) (n : ℕ) : Type 0 where

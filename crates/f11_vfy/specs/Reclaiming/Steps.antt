@@ -14,7 +14,7 @@ use Rattle.f11_index.specs.IndexFile.{Index, index_of, header_lbn}
 use Rattle.f11_index.specs.Table.{table_in, table_of}
 use Rattle.f11_vfy.specs.Frames.Earlier.{Puts}
 use Rattle.f11_vfy.specs.Reclaiming.Moments.{KeepsPlaces, Where, Moment}
-use Rattle.f11_vfy.specs.Reclaiming.Slots.{Counts, IsOrphan, IsIdle, IsOfOrphan, KillsUpTo, ClearsUpTo}
+use Rattle.f11_vfy.specs.Reclaiming.Slots.{Counts, IsOrphan, HasNoOrphan, UsedAreOfFiles, IsIdle, IsOfOrphan, KillsUpTo, ClearsUpTo}
 use Rattle.f11_vfy.specs.Scanning.Reading.{ShowsVolume}
 use Rattle.f11_vfy.specs.Surveying.Bits.{has}
 use Rattle.f11_vfy.specs.declared.findings.reading.Reading.{Reading}
@@ -85,7 +85,7 @@ pub record IsSwept (index : Index) (r : Reading) (home : HomeFields) (image : Im
   pub sound : HasSoundVolume image home
   pub index_is : index ≡ index_of image home
   pub tells : (n : ℕ) → has r.chains.in_file n ≡ true ↔ IsInFile (table_of image home) n
-  pub no_orphan : (n : ℕ) → ¬ IsOrphan (table_of image home) n
+  pub no_orphan : HasNoOrphan (table_of image home)
 
 -- two index files are at the same places
 pub record SamePlaces (old new : Index) : Type 0 where
@@ -120,9 +120,10 @@ pub record FailsToClear (index : Index) (r : Reading) (slots : ℕ) (old new : D
 abbrev pub may_be_free : Bits → Bits → ℕ → Bool
 may_be_free named unreferenced lbn = not (has named lbn) || has unreferenced lbn
 
--- A volume is sound, this is its storage bitmap, and two sets tell which blocks no header names.
+-- A volume is sound, its slots in use are those of files, this is its storage bitmap, and two sets tell which blocks no header names.
 pub record IsTold (bitmap : Bitmap) (named unreferenced : Bits) (home : HomeFields) (image : Image) : Type 0 where
   pub sound : HasSoundVolume image home
+  pub slots : UsedAreOfFiles (table_of image home)
   pub bitmap_is : bitmap ≡ storage_bitmap image home
   pub tells : (lbn : ℕ) → lbn < bitmap.size → may_be_free named unreferenced lbn ≡ true ↔ (¬ IsNamed (table_of image home) lbn)
 

@@ -6,12 +6,11 @@ use Rattle.f11_dev.specs.Image.{Image}
 use Rattle.f11_dev.specs.Looked.{Looked}
 use Rattle.f11_dev.specs.Went.{Went}
 use Rattle.f11_home.specs.Home.{HomeFields}
-use Rattle.f11_index.specs.Headers.{IsInFile}
 use Rattle.f11_index.specs.IndexFile.{Index, index_of}
-use Rattle.f11_index.specs.Table.{Table, table_of}
+use Rattle.f11_index.specs.Table.{table_of}
 use Rattle.f11_vfy.specs.Frames.Frame.{frame_reads}
 use Rattle.f11_vfy.specs.Reclaiming.Moments.{IsReclaiming, Where, Moment}
-use Rattle.f11_vfy.specs.Reclaiming.Slots.{Counts, IsOrphan, IsIdle}
+use Rattle.f11_vfy.specs.Reclaiming.Slots.{Counts, IsOrphan, UsedAreOfFiles, IsIdle}
 use Rattle.f11_vfy.specs.Reclaiming.Steps.{IsChangedBlock}
 use Rattle.f11_vfy.specs.Scanning.Reading.{most_read, ShowsVolume}
 use Rattle.f11_vfy.specs.declared.findings.reading.Reading.{Reading}
@@ -31,10 +30,6 @@ abbrev pub UnnamedAreFree : HomeFields → Image → Type 0
 UnnamedAreFree home image =
     (lbn : ℕ) → lbn < (storage_bitmap image home).size →
     is_free image (storage_bitmap image home) lbn ≡ true ↔ (¬ IsNamed (table_of image home) lbn)
-
--- A slot is in use exactly where its header is one of a file.
-abbrev pub UsedAreOfFiles : Table → Type 0
-UsedAreOfFiles t = (n : ℕ) → t.in_use n ≡ true ↔ IsInFile t n
 
 -- A volume was reclaimed: it is sound and has the files that it had, their headers as they were; a block of it is free exactly where no
 -- header names it, a slot is in use exactly where its header is one of a file, and no note is of lost blocks, dead headers or orphans.

@@ -1,3 +1,4 @@
+use Rattle.f11_vfy.proofs.Reclaiming.Order.{orphans-first, blocks-last}
 use Rattle.f11_vfy.proofs.Reclaiming.Places.{files-keep, files-were, orphans-killed}
 use Rattle.f11_vfy.proofs.laws.reclaiming.Goals as goal
 
@@ -9,3 +10,9 @@ returns-clause-no_more c = files-were
 
 pub returns-clause-orphans : goal.returns-clause-orphans
 returns-clause-orphans c = orphans-killed
+
+pub returns-clause-first : goal.returns-clause-first
+returns-clause-first c = orphans-first
+
+pub returns-clause-last : goal.returns-clause-last
+returns-clause-last c = blocks-last

@@ -1,5 +1,6 @@
-use Rattle.std.proofs.Common.{arith}
+use Rattle.std.proofs.Common.{◌≡◌, length, subst, arith}
 use Rattle.f11_bytes.proofs.ResultLemmas.{OnErr-given}
+use Rattle.f11_vfy.specs.Reclaiming.Steps.{FreesUnnamed}
 use Rattle.f11_vfy.specs.Scanning.Reading.{bitmap_at}
 use Rattle.f11_vfy.proofs.Reclaiming.Space.{space-none, space-more, space-fail}
 use Rattle.f11_vfy.proofs.reclaimer.space.free_unnamed.Goals as goal
@@ -16,3 +17,9 @@ returns-in_err-replace_free-clause-failed g c =
 pub loop-i-preserved : goal.loop-i-preserved
 loop-i-preserved g c =
     space-more (bitmap_at c.args.places.now c.args.size) _ _ c.loop-i.i _ _ _ c.loop-i.invariant c.wanted_bits-wanted.ensures (omega (arith, c.loop-i-test.true, c.loop-i.auto.i-end)) _ c.in_ok-replace_free.ensures.replaced
+
+pub returns-clause-freed : goal.returns-clause-freed
+returns-clause-freed g c =
+    let all : c.loop-i.i ≡ length c.args.places.now = omega (arith, c.loop-i-test.false, c.loop-i.auto.i-end) in
+    subst (λ n. FreesUnnamed (bitmap_at c.args.places.now c.args.size) c.args.named.now c.args.unreferenced.now n (g.D.Device.disk c.args.device.now) (g.D.Device.disk c.loop-i.device)) all
+    c.loop-i.invariant
