@@ -3,6 +3,7 @@ use Rattle.std.proofs.Common.{◌≡◌, ◌↔◌, ◌||◌, ◌*◌, ◌<◌, 
 use Rattle.std.specs.List.{slice_get}
 use Rattle.std.proofs.lemmas.Bool.{both_ways, cases_Bool, leb-true, le-leb}
 use Rattle.f11_bits.specs.Bitmap.{Bitmap, is_free}
+use Rattle.f11_bits.proofs.LawLemmas.{is_free-kept}
 use Rattle.f11_dev.specs.Image.{Image}
 use Rattle.f11_header.proofs.HeaderFacts.{dead-not-valid}
 use Rattle.f11_home.specs.Home.{HomeFields}
@@ -15,7 +16,7 @@ use Rattle.f11_index.proofs.InUseLemmas.{in_use-some, in_use-slot}
 use Rattle.f11_map.specs.HeaderBlock.{blocks_named}
 use Rattle.f11_vfy.specs.Chain.{IsFit}
 use Rattle.f11_vfy.specs.Reclaiming.Moments.{KeepsPlaces}
-use Rattle.f11_vfy.specs.Reclaiming.Slots.{IsOrphan, HasNoOrphan, UsedAreOfFiles, IsIdle}
+use Rattle.f11_vfy.specs.Reclaiming.Slots.{HasNoOrphan, UsedAreOfFiles, IsIdle}
 use Rattle.f11_vfy.specs.Reclaiming.Steps.{IsShown, HasKilledUpTo, IsSwept, HasClearedUpTo, may_be_free, IsTold, HasFreedUpTo}
 use Rattle.f11_vfy.specs.Reclaiming.Whole.{IsReadAs, UnnamedAreFree, HasReclaimed}
 use Rattle.f11_vfy.specs.Surveying.Bits.{has, limit_of}
@@ -24,6 +25,7 @@ use Rattle.f11_vfy.specs.declared.survey.bits.Bits.{Bits}
 use Rattle.f11_vfy.proofs.Reclaiming.Files.{KeepsFiles, killed-keeps, cleared-keeps, in-old, in-new}
 use Rattle.f11_vfy.proofs.Reclaiming.Places.{places-then}
 use Rattle.f11_vfy.proofs.Reclaiming.Space.{free-unnamed}
+use Rattle.f11_vfy.proofs.Reclaiming.Storage.{storage-then}
 use Rattle.f11_vfy.proofs.Scanning.Reading.{table-slots}
 use Rattle.f11_vfy.proofs.Surveying.Cells.{named-some, some-named}
 use Rattle.f11_volume.specs.Notes.{IsVolumeNote, IsLost, blocks_lost, header_dead, orphan, marked, not_closed, in_no_directory, names_no_file, name_repeated, no_name}
@@ -31,6 +33,7 @@ use Rattle.f11_volume.specs.Sound.{HasSoundVolume}
 use Rattle.f11_volume.specs.Space.{storage_bitmap}
 use Rattle.f11_volume.specs.Verdict.{IsNote}
 use Rattle.f11_volume.specs.Volume.{volume_of, IsCell, IsNamed}
+use Rattle.f11_volume.proofs.FileLemmas.{bitmap-is}
 use Rattle.f11_volume.proofs.MemberLemmas.{at-place, contained}
 
 -- what a test of two sets tells
@@ -177,11 +180,20 @@ module _ (index : Index) (bitmap : Bitmap) (r : Reading) (home : HomeFields) (a 
             ]
       ]
 
-      pub told-so : ((k : ℕ) → has before k ≡ false) → limit_of before ≡ bitmap.size → IsTold bitmap r.survey.tally.once unreferenced home c
+      -- the free blocks are those that were read
+      free-known : (lbn : ℕ) → has r.free lbn ≡ is_free c bitmap lbn
+      unfolding volume_of
+      free-known lbn =
+          let kept = storage-then a b c home one.places.bitmap one.storage two.storage in
+          is.shows.free.each lbn ∙ sym (is_free-kept (storage_bitmap a home) a c lbn (bitmap-is a home is.frame.sound).0 kept)
+          ∙ ap (λ (x : Bitmap). is_free c x lbn) (sym is.frame.bitmap_is)
+
+      pub told-so : ((k : ℕ) → has before k ≡ false) → limit_of before ≡ bitmap.size → IsTold bitmap r.free r.survey.tally.once unreferenced home c
       told-so before_is limit = record {
         sound = two.places.reclaiming.freeing.sound;
         slots = files-used;
         bitmap_is = is.frame.bitmap_is ∙ sym one.places.bitmap ∙ sym two.places.bitmap;
+        free_are = free-known;
         tells = λ lbn inside. (may-unnamed before_is lbn, unnamed-may_be limit lbn inside);
       }
 

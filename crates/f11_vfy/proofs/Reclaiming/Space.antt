@@ -1,10 +1,11 @@
 -- Blocks that no header names, which become free, a block of the storage bitmap after another.
-use Rattle.std.proofs.Common.{◌≡◌, ◌≢◌, ◌⊎◌, ◌+◌, ◌-◌, ◌*◌, ◌/◌, ◌%◌, ◌<◌, ℕ, Bool, true, IsTrue, [], List, length, get_or, inl, inr, refl, sym, ap, subst, ◌∙◌, arith}
+use Rattle.std.proofs.Common.{◌≡◌, ◌≢◌, ◌⊎◌, ◌+◌, ◌-◌, ◌*◌, ◌/◌, ◌%◌, ◌<◌, ℕ, Bool, true, false, IsTrue, [], List, length, get_or, inl, inr, refl, sym, ap, subst, ◌∙◌, arith}
 use Rattle.std.specs.List.{slice_get}
 use Rattle.std.proofs.lemmas.Bool.{both_ways, cases_eq, cases_lt}
 use Rattle.f11_bits.specs.Bitmap.{Bitmap, is_free, KeepsOthers}
 use Rattle.f11_bits.specs.Replacing.{BitmapBlockChanges, Replaces, Replacing, ReplacesOnDisk, read_alone, written, FailsToReplace}
-use Rattle.f11_bits.proofs.BitmapLemmas.{is_free-past}
+use Rattle.f11_bits.proofs.BitmapLemmas.{is_free-past, is_free-same}
+use Rattle.f11_bits.proofs.LawLemmas.{bitmap_bit-same}
 use Rattle.f11_bytes.specs.Bits.{bit}
 use Rattle.f11_dev.specs.Disk.{Disk}
 use Rattle.f11_dev.specs.Image.{Image}
@@ -18,7 +19,8 @@ use Rattle.f11_image_store.proofs.ConfinesLemmas.{spares-bitmap}
 use Rattle.f11_image_store.proofs.FreeingLemmas.{unnamed-freed}
 use Rattle.f11_vfy.specs.Reclaiming.Moments.{any_header, IsReclaiming, KeepsPlaces, KeepsPast, Moment}
 use Rattle.f11_vfy.specs.Reclaiming.Slots.{Counts, UsedAreOfFiles, none, such, other}
-use Rattle.f11_vfy.specs.Reclaiming.Steps.{may_be_free, IsTold, IsChangedBlock, HasFreedUpTo, FreesUnnamed, FailsToFree}
+use Rattle.f11_vfy.specs.Reclaiming.Steps.{may_be_free, IsToChange, IsTold, IsChangedBlock, HasFreedUpTo, FreesUnnamed, FailsToFree}
+use Rattle.f11_vfy.specs.Surveying.Bits.{has}
 use Rattle.f11_vfy.specs.declared.survey.bits.Bits.{Bits}
 use Rattle.f11_vfy.proofs.Reclaiming.Dead.{same-kept, same-left}
 use Rattle.f11_vfy.proofs.Reclaiming.Places.{places-none, places-then, places-same, reclaiming-then}
@@ -52,9 +54,16 @@ pub free-unnamed : (image : Image) (home : HomeFields) (lbn : ℕ) → HasSoundV
 unfolding volume_of
 free-unnamed image home lbn sound free named = both_ways _ (sound.sound.taken named.header named.place lbn named.cell) free
 
+-- two tests that aren't otherwise are the same
+pub same-unless : (a b : Bool) → ¬ (a ≢ b) → a ≡ b
+same-unless true true not_other = refl
+same-unless false false not_other = refl
+same-unless true false not_other = absurd (not_other (λ same. cc))
+same-unless false true not_other = absurd (not_other (λ same. cc))
+
 -- none so far
-pub space-none : (bitmap : Bitmap) (named unreferenced : Bits) (disk : Disk) → FreesUnnamed bitmap named unreferenced 0 disk disk
-space-none bitmap named unreferenced disk = record {
+pub space-none : (bitmap : Bitmap) (known named unreferenced : Bits) (disk : Disk) → FreesUnnamed bitmap known named unreferenced 0 disk disk
+space-none bitmap known named unreferenced disk = record {
   frees = λ honest home told. record {
     places = places-none home disk.image told.sound;
     table = refl;
@@ -63,13 +72,54 @@ space-none bitmap named unreferenced disk = record {
   };
   count = 0;
   counts = λ honest home told. none;
-  went = went_within (Moment (IsTold bitmap named unreferenced) disk) (went_looked (Moment (IsTold bitmap named unreferenced) disk) (looked_none disk)) (omega arith);
+  went = went_within (Moment (IsTold bitmap known named unreferenced) disk) (went_looked (Moment (IsTold bitmap known named unreferenced) disk) (looked_none disk)) (omega arith);
 }
 
-module _ (bitmap : Bitmap) (named unreferenced : Bits) (i : ℕ) (wanted : List ℕ) (old now : Disk) (so_far : FreesUnnamed bitmap named unreferenced i old now)
-    (wanted_is : (k : ℕ) → k < 4096 → 4096 * i + k < bitmap.size → bit wanted k ≡ may_be_free named unreferenced (4096 * i + k))
+module _ (bitmap : Bitmap) (known named unreferenced : Bits) (i : ℕ) (old now : Disk) (so_far : FreesUnnamed bitmap known named unreferenced i old now)
     (few : i < length bitmap.places) where
-  module _ (honest : IsTrue old.honest) (home : HomeFields) (told : IsTold bitmap named unreferenced home old.image) where
+  so-until : (honest : IsTrue old.honest) (home : HomeFields) → IsTold bitmap known named unreferenced home old.image → HasFreedUpTo i bitmap home old.image now.image
+  so-until honest home told = so_far.frees honest home told
+
+  -- this bitmap block is as it was until then
+  still : (honest : IsTrue old.honest) (home : HomeFields) → IsTold bitmap known named unreferenced home old.image → ¬ BitmapBlockChanges bitmap i old.image now.image
+  still honest home told changes = (so-until honest home told).rest (i + 1) (omega arith) (omega (arith, few)) (block-changed bitmap old.image now.image i changes)
+
+  -- so a block is free in it as it was read
+  as-read : (honest : IsTrue old.honest) (home : HomeFields) → IsTold bitmap known named unreferenced home old.image → (lbn : ℕ) → lbn / 4096 ≡ i
+      → is_free now.image bitmap lbn ≡ has known lbn
+  as-read honest home told lbn here =
+      same-unless _ _ (λ differs. still honest home told (λ same.
+      differs (is_free-same old.image now.image bitmap lbn
+      (bitmap_bit-same bitmap old.image now.image lbn (subst (λ (x : ℕ). slice_get now.image (get_or bitmap.places x 0) ≡ slice_get old.image (get_or bitmap.places x 0)) (sym here) same))
+      ∙ sym (told.free_are lbn))))
+
+  -- no bit of it is to change
+  pub space-same : ¬ IsToChange bitmap.size known named unreferenced i → FreesUnnamed bitmap known named unreferenced (i + 1) old now
+  space-same none_here = record {
+    frees = λ honest home told.
+        let so = so-until honest home told in
+        record {
+          places = so.places;
+          table = so.table;
+          free = λ lbn below inside unnamed. elim (cases_eq (lbn / 4096) i) [
+            | inl here ↦
+                as-read honest home told lbn here
+                ∙ same-unless _ _ (λ differs. none_here (record { lbn = lbn; here = here; inside = inside; otherwise = differs }))
+                ∙ (told.tells lbn inside).1 unnamed
+            | inr apart ↦ so.free lbn (omega (arith, below, apart)) inside unnamed
+          ];
+          rest = λ m high within. so.rest m (omega (arith, high)) within;
+        };
+    count = so_far.count;
+    counts = λ honest home told.
+        other i so_far.count (so_far.counts honest home told) (λ changed. still honest home told (changed-block bitmap old.image now.image i changed));
+    went = so_far.went;
+  }
+
+module _ (bitmap : Bitmap) (known named unreferenced : Bits) (i : ℕ) (wanted : List ℕ) (old now : Disk) (so_far : FreesUnnamed bitmap known named unreferenced i old now)
+    (wanted_is : (k : ℕ) → k < 4096 → 4096 * i + k < bitmap.size → bit wanted k ≡ may_be_free named unreferenced (4096 * i + k))
+    (few : i < length bitmap.places) (change : IsToChange bitmap.size known named unreferenced i) where
+  module _ (honest : IsTrue old.honest) (home : HomeFields) (told : IsTold bitmap known named unreferenced home old.image) where
     abbrev t : Table
     t = table_of old.image home
 
@@ -96,6 +146,13 @@ module _ (bitmap : Bitmap) (named unreferenced : Bits) (i : ℕ) (wanted : List 
             inr (subst (λ (u : Table). ¬ IsNamed u lbn) (sym so.table) ((told.tells lbn inside).0 (sym (wanted-at lbn here inside) ∙ sym (is.here lbn here inside) ∙ free)))
         | inr apart ↦ inl (sym (is.elsewhere lbn apart) ∙ free)
       ]
+
+      -- the block whose bit is to change isn't free as it was
+      changes-here : ¬ (image ≡ now.image)
+      changes-here same =
+          change.otherwise
+          (sym (as-read bitmap known named unreferenced i old now so_far few honest home told change.lbn change.here)
+          ∙ ap (λ (x : Image). is_free x bitmap change.lbn) (sym same) ∙ is.here change.lbn change.here change.inside ∙ wanted-at change.lbn change.here change.inside)
 
       -- one that no header names is free then
       here-free : (lbn : ℕ) → lbn / 4096 ≡ i → lbn < bitmap.size → ¬ IsNamed t lbn → is_free image bitmap lbn ≡ true
@@ -154,10 +211,10 @@ module _ (bitmap : Bitmap) (named unreferenced : Bits) (i : ℕ) (wanted : List 
       }
 
   abbrev P : Image → Type 0
-  P = Moment (IsTold bitmap named unreferenced) old
+  P = Moment (IsTold bitmap known named unreferenced) old
 
   went-on : (new : Disk) (most faults : ℕ) → Went (Replacing now.honest bitmap i wanted now.image) now new most faults
-      → Went P old new (i + so_far.count + most) faults
+      → Went P old new (2 * so_far.count + most) faults
   went-on new most faults went =
       went_more P so_far.went
       (went_weaker (Replacing now.honest bitmap i wanted now.image) P
@@ -165,27 +222,18 @@ module _ (bitmap : Bitmap) (named unreferenced : Bits) (i : ℕ) (wanted : List 
 
   -- how many were other than they were before this one
   counts-before : (image : Image) → ((j : ℕ) → j < i → ¬ BitmapBlockChanges bitmap j now.image image) → IsTrue old.honest → (home : HomeFields)
-      → IsTold bitmap named unreferenced home old.image → Counts (IsChangedBlock bitmap old.image image) i so_far.count
+      → IsTold bitmap known named unreferenced home old.image → Counts (IsChangedBlock bitmap old.image image) i so_far.count
   counts-before image stay honest home told = counts-on bitmap old.image now.image image i so_far.count stay (so_far.counts honest home told)
-
-  -- this one is as it was until then
-  still : (honest : IsTrue old.honest) (home : HomeFields) → IsTold bitmap named unreferenced home old.image → ¬ BitmapBlockChanges bitmap i old.image now.image
-  still honest home told changes = (so honest home told).rest (i + 1) (omega arith) (omega (arith, few)) (block-changed bitmap old.image now.image i changes)
 
   others-stay : (image : Image) → Replaces bitmap i wanted now.image image → (j : ℕ) → j < i → ¬ BitmapBlockChanges bitmap j now.image image
   others-stay image is j low = is.others j (omega (arith, low, few)) (λ same. omega (arith, same, low))
 
-  pub space-more : (new : Disk) → ReplacesOnDisk bitmap i wanted now new → FreesUnnamed bitmap named unreferenced (i + 1) old new
+  pub space-more : (new : Disk) → ReplacesOnDisk bitmap i wanted now new → FreesUnnamed bitmap known named unreferenced (i + 1) old new
   space-more new did = elim did.went [
     | read_alone looked ↦ record {
       frees = λ honest home told. more honest home told new.image (did.replaces (so_far.went.honest ∙ honest));
-      count = so_far.count;
-      counts = λ honest home told.
-          other i so_far.count (counts-before new.image (others-stay new.image (did.replaces (so_far.went.honest ∙ honest))) honest home told)
-          (λ changed.
-          unchanged-then bitmap i old.image now.image new.image (still honest home told)
-          (λ changes. changes (ap (λ (image : Image). slice_get image (get_or bitmap.places i 0)) looked.image))
-          (changed-block bitmap old.image new.image i changed));
+      count = so_far.count + 1;
+      counts = λ honest home told. absurd (changes-here honest home told new.image (did.replaces (so_far.went.honest ∙ honest)) looked.image);
       went = went_within P (went_more P so_far.went (went_looked P looked)) (omega arith);
     }
     | written went changes ↦ record {
@@ -194,12 +242,12 @@ module _ (bitmap : Bitmap) (named unreferenced : Bits) (i : ℕ) (wanted : List 
       counts = λ honest home told.
           such i so_far.count (counts-before new.image (others-stay new.image (did.replaces (so_far.went.honest ∙ honest))) honest home told)
           (block-changed bitmap old.image new.image i
-          (stays-changed bitmap i old.image now.image new.image (still honest home told) (changes (so_far.went.honest ∙ honest))));
+          (stays-changed bitmap i old.image now.image new.image (still bitmap known named unreferenced i old now so_far few honest home told) (changes (so_far.went.honest ∙ honest))));
       went = went_within P (went-on new 2 0 went) (omega arith);
     }
   ]
 
-  pub space-fail : (new : Disk) → FailsToReplace bitmap i wanted now new → FailsToFree bitmap named unreferenced old new
+  pub space-fail : (new : Disk) → FailsToReplace bitmap i wanted now new → FailsToFree bitmap known named unreferenced old new
   space-fail new fails = record {
     upto = i;
     within = few;

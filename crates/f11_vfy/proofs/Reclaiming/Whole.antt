@@ -29,7 +29,7 @@ module _ (index : Index) (bitmap : Bitmap) (r : Reading) (before : Bits) (d0 : D
   costs : (home : HomeFields) → K home d0.image → (new : Image) (n orphans m idle blocks changed faults most : ℕ)
       → Counts (IsOrphan (table_of d0.image home)) n orphans → n ≤ slots index → Counts (IsIdle (table_of d0.image home)) m idle → m ≤ slots index
       → Counts (IsChangedBlock bitmap d0.image new) blocks changed → blocks ≤ length bitmap.places
-      → most ≤ 2 * orphans + idle + length bitmap.places + changed + faults → Costs home d0.image new 0 faults most
+      → most ≤ 2 * orphans + idle + 2 * changed + 2 * faults → Costs home d0.image new 0 faults most
   costs home is new n orphans m idle blocks changed faults most orphans_are low idle_are high changed_are within few =
       let count = slot-count index bitmap r home d0.image is in
       let size = ap (λ (b : Bitmap). length b.places) is.frame.bitmap_is in
@@ -46,7 +46,7 @@ module _ (index : Index) (bitmap : Bitmap) (r : Reading) (before : Bits) (d0 : D
         changed = changed;
         changed_are = subst (λ (b : Bitmap). Counts (IsChangedBlock b d0.image new) blocks changed) is.frame.bitmap_is changed_are;
         changed_within = omega (arith, within, size);
-        few = omega (arith, few, size);
+        few = omega (arith, few);
       }
 
   -- no orphan was killed, or not all
@@ -101,14 +101,14 @@ module _ (index : Index) (bitmap : Bitmap) (r : Reading) (before : Bits) (d0 : D
       so-two : (home : HomeFields) → IsTrue d0.honest → K home d0.image → HasClearedUpTo (slots index) after home d1.image d2.image
       so-two home honest is = two.clears (still-one honest) home (swept home honest is)
 
-      told : (home : HomeFields) → IsTrue d0.honest → K home d0.image → IsTold bitmap r.survey.tally.once unreferenced home d2.image
+      told : (home : HomeFields) → IsTrue d0.honest → K home d0.image → IsTold bitmap r.free r.survey.tally.once unreferenced home d2.image
       told home honest is =
           told-so index bitmap r home d0.image is before unreferenced d1.image (so-one home honest is) after d2.image (so-two home honest is) empty limit
 
       still-two : IsTrue d0.honest → IsTrue d2.honest
       still-two honest = two.went.honest ∙ still-one honest
 
-      stands-three : (image : Image) → Moment (IsTold bitmap r.survey.tally.once unreferenced) d2 image → P image
+      stands-three : (image : Image) → Moment (IsTold bitmap r.free r.survey.tally.once unreferenced) d2 image → P image
       stands-three image stands honest home is =
           reclaiming-then home d0.image d2.image image
           (places-two index bitmap r home d0.image is before unreferenced d1.image (so-one home honest is) after d2.image (so-two home honest is))
@@ -121,10 +121,10 @@ module _ (index : Index) (bitmap : Bitmap) (r : Reading) (before : Bits) (d0 : D
           (storage-then d0.image d1.image d2.image home (so-one home honest is).places.bitmap (so-one home honest is).storage (so-two home honest is).storage)
 
       -- some of them were then
-      goes : (d3 : Disk) (faults blocks changed most : ℕ) → Went (Moment (IsTold bitmap r.survey.tally.once unreferenced) d2) d2 d3 most faults
-          → ((home : HomeFields) → IsTrue d2.honest → IsTold bitmap r.survey.tally.once unreferenced home d2.image
+      goes : (d3 : Disk) (faults blocks changed most : ℕ) → Went (Moment (IsTold bitmap r.free r.survey.tally.once unreferenced) d2) d2 d3 most faults
+          → ((home : HomeFields) → IsTrue d2.honest → IsTold bitmap r.free r.survey.tally.once unreferenced home d2.image
           → Counts (IsChangedBlock bitmap d2.image d3.image) blocks changed)
-          → blocks ≤ length bitmap.places → most ≤ length bitmap.places + changed + faults → GoesOn K (λ home. 0) d0 d3 faults
+          → blocks ≤ length bitmap.places → most ≤ 2 * changed + 2 * faults → GoesOn K (λ home. 0) d0 d3 faults
       goes d3 faults blocks changed most went counts within few = record {
         most = 2 * one.count + two.count + most;
         few = λ honest home is.
@@ -134,22 +134,22 @@ module _ (index : Index) (bitmap : Bitmap) (r : Reading) (before : Bits) (d0 : D
             (counts-since bitmap d0.image d2.image d3.image blocks changed within (storage-two home honest is)
             (counts home (still-two honest) (told home honest is))) within (omega (arith, few));
         went = went_more P (went_more P went-one (went_weaker (Moment (IsSwept index r) d1) P stands-two two.went))
-            (went_weaker (Moment (IsTold bitmap r.survey.tally.once unreferenced) d2) P stands-three went);
+            (went_weaker (Moment (IsTold bitmap r.free r.survey.tally.once unreferenced) d2) P stands-three went);
       }
 
       -- they did; not all blocks became free
-      pub fails-third : (d3 : Disk) → FailsToFree bitmap r.survey.tally.once unreferenced d2 d3 → GoesOn K (λ home. 0) d0 d3 1
+      pub fails-third : (d3 : Disk) → FailsToFree bitmap r.free r.survey.tally.once unreferenced d2 d3 → GoesOn K (λ home. 0) d0 d3 1
       fails-third d3 fails =
-          goes d3 1 fails.upto fails.count (fails.upto + fails.count + 2) fails.went (λ home honest is. fails.counts honest home is)
-          (omega (arith, fails.within)) (omega (arith, fails.within))
+          goes d3 1 fails.upto fails.count (2 * fails.count + 2) fails.went (λ home honest is. fails.counts honest home is)
+          (omega (arith, fails.within)) (omega arith)
 
       -- they did
-      pub gives-back : (d3 : Disk) → bitmap.size ≤ 4096 * length bitmap.places → FreesUnnamed bitmap r.survey.tally.once unreferenced (length bitmap.places) d2 d3
+      pub gives-back : (d3 : Disk) → bitmap.size ≤ 4096 * length bitmap.places → FreesUnnamed bitmap r.free r.survey.tally.once unreferenced (length bitmap.places) d2 d3
           → GivesBack K (λ home. 0) d0 d3
       gives-back d3 covered three = record {
         reclaimed = λ honest home is.
             reclaimed-so index bitmap r home d0.image is before unreferenced d1.image (so-one home honest is) after d2.image (so-two home honest is) d3.image covered
             (three.frees (still-two honest) home (told home honest is));
-        goes = goes d3 0 (length bitmap.places) three.count (length bitmap.places + three.count) three.went
+        goes = goes d3 0 (length bitmap.places) three.count (2 * three.count) three.went
             (λ home honest is. three.counts honest home is) (omega arith) (omega arith);
       }

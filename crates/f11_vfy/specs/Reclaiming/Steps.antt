@@ -1,5 +1,6 @@
 -- The three parts of reclaiming (profile): orphans are killed, idle slots leave use, and blocks that no header names become free.
-use Rattle.std.specs.Prelude.{◌≡◌, ◌↔◌, ℕ, ◌+◌, ◌-◌, ◌*◌, ◌<◌, ◌≤◌, ◌||◌, Bool, true, not, IsTrue, List, Contains, length, slice_set}
+use Rattle.std.specs.Prelude.{◌≡◌, ◌≢◌, ◌↔◌, ℕ, ◌+◌, ◌-◌, ◌*◌, ◌/◌, ◌<◌, ◌≤◌, ◌||◌, Bool, true, not, IsTrue}
+use Rattle.std.specs.Prelude.{List, Contains, length, slice_set}
 use Rattle.f11_bits.specs.Bitmap.{Bitmap, is_free, KeepsBitmap}
 use Rattle.f11_bits.specs.Replacing.{BitmapBlockChanges}
 use Rattle.f11_dev.specs.Disk.{Disk}
@@ -120,11 +121,20 @@ pub record FailsToClear (index : Index) (r : Reading) (slots : ℕ) (old new : D
 abbrev pub may_be_free : Bits → Bits → ℕ → Bool
 may_be_free named unreferenced lbn = not (has named lbn) || has unreferenced lbn
 
--- A volume is sound, its slots in use are those of files, this is its storage bitmap, and two sets tell which blocks no header names.
-pub record IsTold (bitmap : Bitmap) (named unreferenced : Bits) (home : HomeFields) (image : Image) : Type 0 where
+-- The bit of a block in bitmap block i, from 0, is to change: the block is free and may not be, or it isn't and may be.
+pub record IsToChange (size : ℕ) (free named unreferenced : Bits) (i : ℕ) : Type 0 where
+  pub lbn : ℕ
+  pub here : lbn / 4096 ≡ i
+  pub inside : lbn < size
+  pub otherwise : has free lbn ≢ may_be_free named unreferenced lbn
+
+-- A volume is sound, its slots in use are those of files, this is its storage bitmap, a set has its free blocks, and two sets tell which
+-- blocks no header names.
+pub record IsTold (bitmap : Bitmap) (free named unreferenced : Bits) (home : HomeFields) (image : Image) : Type 0 where
   pub sound : HasSoundVolume image home
   pub slots : UsedAreOfFiles (table_of image home)
   pub bitmap_is : bitmap ≡ storage_bitmap image home
+  pub free_are : (lbn : ℕ) → has free lbn ≡ is_free image bitmap lbn
   pub tells : (lbn : ℕ) → lbn < bitmap.size → may_be_free named unreferenced lbn ≡ true ↔ (¬ IsNamed (table_of image home) lbn)
 
 -- block i of a storage bitmap, from 1, is another than it was
@@ -139,18 +149,18 @@ pub record HasFreedUpTo (n : ℕ) (bitmap : Bitmap) (home : HomeFields) (old new
   pub free : (lbn : ℕ) → lbn < 4096 * n → lbn < bitmap.size → ¬ IsNamed (table_of old home) lbn → is_free new bitmap lbn ≡ true
   pub rest : (i : ℕ) → n < i → i ≤ length bitmap.places → ¬ IsChangedBlock bitmap old new i
 
--- Each block that no header names became free, of those whose bits are in the first so many bitmap blocks, each read once, and written
--- once where it is another than it was.
-pub record FreesUnnamed (bitmap : Bitmap) (named unreferenced : Bits) (n : ℕ) (old new : Disk) : Type 0 where
-  pub frees : Where (IsTold bitmap named unreferenced) old (λ home. HasFreedUpTo n bitmap home old.image new.image)
+-- Each block that no header names became free, of those whose bits are in the first so many bitmap blocks. Each of these that is another
+-- than it was was read once and written once, and no other one was read.
+pub record FreesUnnamed (bitmap : Bitmap) (free named unreferenced : Bits) (n : ℕ) (old new : Disk) : Type 0 where
+  pub frees : Where (IsTold bitmap free named unreferenced) old (λ home. HasFreedUpTo n bitmap home old.image new.image)
   pub count : ℕ
-  pub counts : Where (IsTold bitmap named unreferenced) old (λ home. Counts (IsChangedBlock bitmap old.image new.image) n count)
-  pub went : Went (Moment (IsTold bitmap named unreferenced) old) old new (n + count) 0
+  pub counts : Where (IsTold bitmap free named unreferenced) old (λ home. Counts (IsChangedBlock bitmap old.image new.image) n count)
+  pub went : Went (Moment (IsTold bitmap free named unreferenced) old) old new (2 * count) 0
 
 -- A transfer failed: the read or the write of the bitmap block behind the first so many.
-pub record FailsToFree (bitmap : Bitmap) (named unreferenced : Bits) (old new : Disk) : Type 0 where
+pub record FailsToFree (bitmap : Bitmap) (free named unreferenced : Bits) (old new : Disk) : Type 0 where
   pub upto : ℕ
   pub within : upto < length bitmap.places
   pub count : ℕ
-  pub counts : Where (IsTold bitmap named unreferenced) old (λ home. Counts (IsChangedBlock bitmap old.image new.image) upto count)
-  pub went : Went (Moment (IsTold bitmap named unreferenced) old) old new (upto + count + 2) 1
+  pub counts : Where (IsTold bitmap free named unreferenced) old (λ home. Counts (IsChangedBlock bitmap old.image new.image) upto count)
+  pub went : Went (Moment (IsTold bitmap free named unreferenced) old) old new (2 * count + 2) 1

@@ -39,9 +39,9 @@ pub record HasReclaimed (home : HomeFields) (old new : Image) : Type 0 where
   pub slots : UsedAreOfFiles (table_of new home)
   pub no_note : (code a b : ℕ) → code ≤ 3 → ¬ IsNote new code a b
 
--- At most so many transfers were made besides so many reads: an orphan is read and written, a slot that leaves use costs a write, a block
--- of the storage bitmap a read, and one that is another than it was a write. Where transfers failed, that many more may have been made: the
--- write of a bitmap block may have failed and left it.
+-- At most so many transfers were made besides so many reads: an orphan is read and written, a slot that leaves use costs a write, and a
+-- block of the storage bitmap that is another than it was is read and written. Where a transfer failed, two more may have been made: a
+-- bitmap block was read, and its write failed and left it.
 pub record Costs (home : HomeFields) (image new : Image) (reads faults most : ℕ) : Type 0 where
   pub orphan_slots : ℕ
   pub orphans : ℕ
@@ -55,7 +55,7 @@ pub record Costs (home : HomeFields) (image new : Image) (reads faults most : �
   pub changed : ℕ
   pub changed_are : Counts (IsChangedBlock (storage_bitmap image home) image new) bitmap_blocks changed
   pub changed_within : bitmap_blocks ≤ length (storage_bitmap image home).places
-  pub few : most ≤ reads + 2 * orphans + idle + length (storage_bitmap image home).places + changed + faults
+  pub few : most ≤ reads + 2 * orphans + idle + 2 * changed + 2 * faults
 
 -- So many transfers failed, of those at most. Each image that stood meanwhile is sound and has the files that there were.
 pub record GoesOn (K : HomeFields → Image → Type 0) (reads : HomeFields → ℕ) (old new : Disk) (faults : ℕ) : Type 0 where

@@ -28,8 +28,8 @@ use std::alloc::Global;
 ///
 /// It reads the volume as `verify` does, but for the directories. Then it writes, each time a volume that is accepted: each orphan header, in the order
 /// of their numbers, is read again and killed; then the index bit of each killed or dead header is cleared, by a write each, that of slot 5
-/// too; and then each block of the storage bitmap is read, and written once where it changes. So a block is free then exactly where no header
-/// names it, and a slot is in use exactly where its header is one of a file.
+/// too; and then each block of the storage bitmap that is to change is read again and written, once. So a block is free then exactly where no
+/// header names it, and a slot is in use exactly where its header is one of a file.
 ///
 /// It takes four bits for each block of the volume and some 16 bytes a slot, all before the first write.
 ///
@@ -118,12 +118,6 @@ fn give_back<D: Device>(
     let mut unreferenced = unreferenced;
     kill_orphans(device, &frame.index, reading, &mut unreferenced)?;
     clear_idle(device, &mut frame.index, reading)?;
-    free_unnamed(
-        device,
-        frame.places(),
-        frame.size,
-        &reading.survey.tally.once,
-        &unreferenced,
-    )?;
+    free_unnamed(device, frame.places(), frame.size, reading, &unreferenced)?;
     Ok(())
 }
