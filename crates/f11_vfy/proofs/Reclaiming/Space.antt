@@ -55,7 +55,7 @@ unfolding volume_of
 free-unnamed image home lbn sound free named = both_ways _ (sound.sound.taken named.header named.place lbn named.cell) free
 
 -- two tests that aren't otherwise are the same
-pub same-unless : (a b : Bool) → ¬ (a ≢ b) → a ≡ b
+same-unless : (a b : Bool) → ¬ (a ≢ b) → a ≡ b
 same-unless true true not_other = refl
 same-unless false false not_other = refl
 same-unless true false not_other = absurd (not_other (λ same. cc))
