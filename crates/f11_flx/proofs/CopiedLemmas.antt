@@ -28,6 +28,7 @@ use Rattle.f11_flx.proofs.PourLemmas.{whole-length}
 use Rattle.f11_flx.proofs.ReadingLemmas.{reading-of-file}
 use Rattle.f11_flx.proofs.RtCopyLemmas.{has-copy, took-puts}
 use Rattle.f11_flx.proofs.SeenLemmas.{granted-seen, reading-all}
+use Rattle.f11_flx.proofs.SmallLemmas.{some-one}
 
 -- attributes and length that are the file's say how many blocks are up to its end
 pub same-end : (attr : List ℕ) (n : ℕ) (f : File) → attr ≡ f.attr → n ≡ length_of f → up_to_end attr n ≡ up_to_end f.attr (length_of f)
@@ -41,9 +42,6 @@ pub same-count : (a b : List (List ℕ)) (x y : List ℕ) → All (λ b. length 
     concat a ≡ in_whole_blocks x → concat b ≡ in_whole_blocks y → x ≡ y → length a ≡ length b
 same-count a b x y whole whole' is is' same =
     omega (arith, whole-length a whole, whole-length b whole', ap (λ (l : List ℕ). length l) (is ∙ ap in_whole_blocks same ∙ sym is'))
-
-pub some-one : {x y : List ℕ} → Some x ≡ Some y → x ≡ y
-some-one {x} {y} h = cc
 
 module _ {V E : Type 0} {met : Ghosts E} (S : Service V) (view : V → Store) (is_sound : V → Bool) (seen : IsSeenPlain S view is_sound) (disk : E → Disk)
     (who : Who) (lun : ℕ) (file : FileId) (name : List ℕ) (count day : ℕ) (old new : V) (rt rt' : RtAccepted E met) (sound : is_sound old ≡ true)

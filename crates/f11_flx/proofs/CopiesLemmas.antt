@@ -18,10 +18,7 @@ use Rattle.f11_flx.proofs.AskingLemmas.{reads-denied, reads-more}
 use Rattle.f11_flx.proofs.ConvertLemmas.{option_map-append}
 use Rattle.f11_flx.proofs.EndLemmas.{text_ends}
 use Rattle.f11_flx.proofs.PourLemmas.{option_map-longer, option_map-nothing, option_map-none, took-append, took-one, whole-length}
-
--- what is something is that alone
-some-same : {a b : List ℕ} → Some a ≡ Some b → a ≡ b
-some-same {a} {b} h = cc
+use Rattle.f11_flx.proofs.SmallLemmas.{some-one}
 
 -- whole blocks stay as they are
 whole-blocks : (bytes : List ℕ) (n : ℕ) → length bytes ≡ 512 * n → in_whole_blocks bytes ≡ bytes
@@ -266,6 +263,6 @@ module _ {V W : Type 0} (S : Service V) (K : Taking W) (R : Refusing W) (who : W
         took = h.took;
         refused = subst (λ n. R name n (padded o) e x y) h.place f.refused;
         longer = λ more bytes long is.
-            let same : all-bytes ≡ bytes = some-same (sym (all-of more) ∙ is) in
+            let same : all-bytes ≡ bytes = some-one (sym (all-of more) ∙ is) in
             omega (arith, all-length, ap (λ (l : List ℕ). length l) same, f.some);
       }))

@@ -1,7 +1,7 @@
 -- A file that is made is the same file when a name was entered.
 use Rattle.std.proofs.Common.{◌≡◌, inl, inr, ℕ, ◌≤◌, ◌==◌, ◌&&◌, ◌||◌, not, Bool, true, false, nat_lt, if◌then◌else◌, List, [], ◌∷◌, Option, Some, None, is_none, option_map, refl, sym, ap, ◌∙◌, subst, arith}
 use Rattle.std.specs.Prelude.{unwrap_or}
-use Rattle.std.proofs.lemmas.Bool.{eq-eqb, eqb-true, ltb-true}
+use Rattle.std.proofs.lemmas.Bool.{eq-eqb, eqb-true, ltb-true, or_right}
 use Rattle.f11_store.specs.Causes.{Cause, ◌⇐◌, first_refusal, is_bad, is_missing, lacks_change}
 use Rattle.f11_store.specs.Changes.{EntersAt, EntersAtEnd, Grows, grown_file, with_change, with_end_after, with_entry, with_grown_file}
 use Rattle.f11_store.specs.Directory.{entry_count, index_of_empty, needs_block, record_bytes}
@@ -21,6 +21,7 @@ use Rattle.f11_runs.proofs.AccessLemmas.{there-file, true-false}
 use Rattle.f11_flx.specs.Asking.{BreaksOff, Who, plain}
 use Rattle.f11_flx.specs.CopyFromRt.{Making, entry}
 use Rattle.f11_flx.proofs.NewLemmas.{IsNewIn, none-of}
+use Rattle.f11_flx.proofs.SmallLemmas.{bad-not}
 
 -- A file is there, and is who's it was.
 record StaysOwn (f : File) (t : Store) (k : ℕ) : Type 0 where
@@ -84,7 +85,7 @@ protectable id f word who t low volume sequence owner unmarked h =
     let barred : lacks_change (change.Protect word) who.caller (file_named t id) ≡ false =
     ap (λ (x : File). not (is_of who.caller x.owner class.System || is_of who.caller x.owner class.Owner)) file
     ∙ ap (λ o. not (is_of who.caller o class.System || is_of who.caller o class.Owner)) (h.owner ∙ owner)
-    ∙ ap (λ b. not b) (or-right (is_of who.caller who.caller class.System) (is_of who.caller who.caller class.Owner) (and-both (who.caller.group == who.caller.group) (who.caller.member == who.caller.member) (same_number who.caller.group) (same_number who.caller.member))) in
+    ∙ ap (λ b. not b) (or_right (is_of who.caller who.caller class.System) (is_of who.caller who.caller class.Owner) (and-both (who.caller.group == who.caller.group) (who.caller.member == who.caller.member) (same_number who.caller.group) (same_number who.caller.member))) in
     let five : List Cause = (NoPrivilege ⇐ lacks_change (change.Protect word) who.caller (file_named t id)) ∷ [] in
     let four : List Cause = (Marked ⇐ is_marked (file_named t id)) ∷ five in
     let three : List Cause = (NoSuchFile ⇐ is_missing t id) ∷ four in
@@ -95,10 +96,6 @@ protectable id f word who t low volume sequence owner unmarked h =
     and-both : (a b : Bool) → a ≡ true → b ≡ true → (a && b) ≡ true
     and-both true b h k = k
     and-both false b h k = absurd (true-false (sym h))
-
-    or-right : (a b : Bool) → b ≡ true → (a || b) ≡ true
-    or-right true b h = refl
-    or-right false b h = h
 
     zero-not : (id.number == 0) ≡ false
     zero-not = by (id.number == 0) refl
@@ -113,11 +110,6 @@ protectable id f word who t low volume sequence owner unmarked h =
         by : (b : Bool) → nat_lt id.number 4 ≡ b → b ≡ false
         by true is = absurd (omega (arith, ltb-true id.number 4 is, low))
         by false is = refl
-
-    bad-not : (a b : Bool) → a ≡ false → b ≡ true → (a || not b) ≡ false
-    bad-not false true h k = refl
-    bad-not true b h k = absurd (true-false h)
-    bad-not false false h k = absurd (true-false (sym k))
 
 -- of entering and protecting a new file nothing is refused but the entry: then all is as it was
 pub entry-refused : (making : Making) (who : Who) (id : FileId) (e : Refusal) (s t u : Store) → IsNewIn who.caller id s.access s t → BreaksOff plain who (entry making id) e t u → u ≡ t

@@ -1,6 +1,6 @@
 -- What a copy from RT-11 tells of the device that its file is made on.
 use Rattle.std.proofs.Common.{◌≡◌, inl, inr, ℕ, ◌+◌, ◌==◌, ◌&&◌, ◌||◌, not, Bool, true, false, IsTrue, if◌then◌else◌, List, [], ◌∷◌, ◌++◌, Result, Ok, Err, refl, sym, ap, ◌∙◌, subst, arith}
-use Rattle.std.proofs.lemmas.Bool.{eqb-true, lt-ltb}
+use Rattle.std.proofs.lemmas.Bool.{eqb-true, lt-ltb, or_right}
 use Rattle.f11_dev.specs.Disk.{Disk}
 use Rattle.f11_dev.specs.declared.device.Device.{Ghosts}
 use Rattle.f11_store.specs.Ident.{ident_with}
@@ -28,7 +28,8 @@ use Rattle.f11_flx.specs.Refusal.{is_lethal}
 use Rattle.f11_flx.specs.declared.mode.CopyMode.{CopyMode}
 use Rattle.f11_flx.specs.declared.refusal.FlxRefusal.{FlxRefusal}
 use Rattle.f11_flx.specs.declared.refusal.FlxRefusal.TheVariants.{BadRecord, Files, LineTooLong, Rt}
-use Rattle.f11_flx.proofs.VolumeLemmas.{denied-fared, granted-fared, volume-seen}
+use Rattle.f11_flx.proofs.SmallLemmas.{or-false}
+use Rattle.f11_flx.proofs.VolumeLemmas.{denied-fared, granted-fared, parts-sound, volume-seen}
 
 -- What an answer tells of the device, and whether it failed the volume.
 pub record IsFaring {D T : Type 0} {met : Ghosts D} (result : Result T FlxRefusal) (old new : Volume D met) : Type 0 where
@@ -44,14 +45,6 @@ refused f = Err f
 
 abbrev done : Result Unit FlxRefusal
 done = Ok tt
-
-or-true : (b : Bool) → (b || true) ≡ true
-or-true true = refl
-or-true false = refl
-
-or-false : (b : Bool) → (b || false) ≡ b
-or-false true = refl
-or-false false = refl
 
 -- a refusal that is no device fault or Damaged tells of none
 calm-fault : (f : FlxRefusal) → is_lethal f ≡ false → of_files is_fault (refused f) ≡ false
@@ -118,7 +111,7 @@ module _ {D : Type 0} {met : Ghosts D} where
 
       still : (b c : Bool) → is_spent v ≡ b → (b || c) ≡ true → (is_spent u || c) ≡ true
       still true c is h' = ap (λ x. x || c) (sym (or-false (is_spent u)) ∙ h.spent is)
-      still false true is h' = or-true (is_spent u)
+      still false true is h' = or_right (is_spent u) true refl
       still false false is h' = absurd (true-false (sym h'))
 
   fares-granted : (who : Who) (x : Asking) (v w : Volume D met) → Grants of_volume who x v w → IsFaring done v w
@@ -162,19 +155,14 @@ module _ {D : Type 0} {met : Ghosts D} where
         quiet = λ fault. absurd (cc);
         honest = h.honest;
         next = λ honest. never honest (is_spent v) refl;
-        spent = λ is. or-true (is_spent v);
+        spent = λ is. or_right (is_spent v) true refl;
         accepted = h.accepted;
       }
     where
-      sound-of : (a b : Bool) → IsTrue a → b ≡ false → (a && not b) ≡ true
-      sound-of true false h k = refl
-      sound-of true true h k = absurd (true-false k)
-      sound-of false b h k = absurd (true-false (sym h))
-
       never : IsTrue (state_in v).disk.honest → (b : Bool) → is_spent v ≡ b → is_spent w ≡ (is_spent v || true)
       never honest true is = (granted-fared who (told (request.Create protection ident attr) a) v w g).next ∙ ap (λ x. x || false) is ∙ sym (ap (λ x. x || true) is)
       never honest false is =
-          let sound : is_sound v ≡ true = sound-of (state_in v).disk.honest (is_spent v) honest is in
+          let sound : is_sound v ≡ true = parts-sound (state_in v).disk.honest (is_spent v) honest is in
           let step = (volume-seen.granted who (told (request.Create protection ident attr) a) v w g sound).0.2 in
           let right : is_created a ≡ true = ap is_created step.reply_is in
           absurd (true-false (sym right ∙ wrong))

@@ -23,6 +23,7 @@ use Rattle.f11_flx.proofs.FromRtLemmas.{copies-seen}
 use Rattle.f11_flx.proofs.KeptLemmas.{copies-keep, copies-unfailed, fails-keep, fails-unfailed}
 use Rattle.f11_flx.proofs.LooksLemmas.{copies-looks, fails-looks, is-rt-fault}
 use Rattle.f11_flx.proofs.NotMadeLemmas.{copy-refused, copy-undone}
+use Rattle.f11_flx.proofs.SmallLemmas.{not-true}
 use Rattle.f11_flx.proofs.TriedLemmas.{IsMaking, Tries, copies-tries, fails-tries}
 use Rattle.f11_flx.proofs.VolumeLemmas.{standing, unused, volume-seen}
 
@@ -50,10 +51,6 @@ fault-is (Files e) = refl
 fault-is (Rt e) = refl
 fault-is BadRecord = refl
 fault-is LineTooLong = refl
-
-clean-of : (b : Bool) → not b ≡ true → b ≡ false
-clean-of false h = refl
-clean-of true h = absurd (cc)
 
 module _ {E : Type 0} {met : Ghosts E} (disk : E → Disk) where
   reads-rt : (r : Result ℕ FlxRefusal) (b : Bool) (old new : RtAccepted E met) → of_rt is_rt_fault r ≡ b → Looks disk b old new → KeepsFailed disk r old new → ReadsRt disk r old new
@@ -96,7 +93,7 @@ module _ {D E : Type 0} {met : Ghosts D} {met' : Ghosts E} (disk : E → Disk) (
     fares = fares f (fails-fares disk m who lun name f dir to protection a b v w h);
     keeps = fails-keep disk m who lun name f dir to protection a b v w h;
     asked = asks-only (fails-tries of_volume disk m who lun name is_making making-requests f dir to protection a b v w h);
-    undone = λ e is sound whole. copy-undone of_volume disk m who lun name store_of_volume is_sound volume-seen f dir to protection a b v w (clean-of (is_lethal f) whole) sound (unused v) (standing v sound) h;
+    undone = λ e is sound whole. copy-undone of_volume disk m who lun name store_of_volume is_sound volume-seen f dir to protection a b v w (not-true (is_lethal f) whole) sound (unused v) (standing v sound) h;
   }
     where
       fares : (f : FlxRefusal) → IsFaring {T = Unit} (Err f) v w → FaresFiles (refused f) v w
@@ -112,4 +109,4 @@ module _ {D E : Type 0} {met : Ghosts D} {met' : Ghosts E} (disk : E → Disk) (
   pub copy-not-made : (f : FlxRefusal) → FailsToCopyFrom of_volume disk m who lun name dir to protection f a b v w → is_whole (refused f) ≡ true → is_sound v ≡ true → IsSoundDisk (rt_disk disk a) →
       FailsToCopyFromRt f m name who lun dir to protection (rt_disk disk a) (store_of_volume v) (store_of_volume w)
   copy-not-made f h whole sound s =
-      copy-refused of_volume disk m who lun name store_of_volume is_sound volume-seen f dir to protection a b v w (clean-of (is_lethal f) whole) sound (unused v) (standing v sound) s h
+      copy-refused of_volume disk m who lun name store_of_volume is_sound volume-seen f dir to protection a b v w (not-true (is_lethal f) whole) sound (unused v) (standing v sound) s h

@@ -59,7 +59,8 @@ use Rattle.f11_flx.proofs.KeptLemmas.{
   same-refusal,
   stays-unspent,
 }
-use Rattle.f11_flx.proofs.RtCopyLemmas.{or-false, took-puts}
+use Rattle.f11_flx.proofs.RtCopyLemmas.{took-puts}
+use Rattle.f11_flx.proofs.SmallLemmas.{or-false}
 
 bad-apart : BadRecord ≡ Rt Failed → ⊥
 bad-apart is = cc

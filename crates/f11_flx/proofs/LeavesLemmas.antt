@@ -1,6 +1,7 @@
 -- A making that is refused leaves all as it was before.
 use Rattle.std.proofs.Common.{◌≡◌, inl, inr, ℕ, ◌++◌, length, sym, ◌∙◌, subst}
 use Rattle.f11_runs.specs.Standing.{AccessesStand}
+use Rattle.f11_store.specs.Accesses.{FreeIsEmpty}
 use Rattle.f11_store.specs.Step.{next_id}
 use Rattle.f11_store.specs.Store.{Store}
 use Rattle.f11_store.specs.declared.files.FileId.{FileId}
@@ -14,10 +15,10 @@ use Rattle.f11_flx.proofs.EnteredLemmas.{entry-refused}
 use Rattle.f11_flx.proofs.NewLemmas.{IsNewIn, IsOpenIn, closed, deleted, lun-was-free, new-made, opened}
 use Rattle.f11_flx.proofs.UndoneLemmas.{as-before, filled-closed, filling-breaks}
 
-module _ (who : Who) (lun : ℕ) (s : Store) (stand : AccessesStand s) where
+module _ (who : Who) (lun : ℕ) (s : Store) (tidy : FreeIsEmpty s) (stand : AccessesStand s) where
   -- it is deleted
   gone : (id : FileId) (t u : Store) → IsNewIn who.caller id s.access s t → Granted plain who (deletion id) t u → IsAsBefore s u
-  gone id t u h g = subst (λ x. IsAsBefore s x) (sym g.2) (deleted who.caller id s who t g.0 stand h g.1)
+  gone id t u h g = subst (λ x. IsAsBefore s x) (sym g.2) (deleted who.caller id s who t g.0 tidy stand h g.1)
 
   -- it is given up, and deleted
   given-up : (id : FileId) (t u : Store) → s.access who.task lun ≡ Rattle.std.specs.Prelude.None → IsOpenIn who.caller id s who lun t → Granted plain who (giving_up lun ++ deletion id) t u → IsAsBefore s u
@@ -39,23 +40,23 @@ pub refused-making-leaves : RefusedMakingLeaves
 refused-making-leaves making who lun e s s' tidy stand (inl h) =
     subst (λ x. IsAsBefore s x) (sym (h.undoes ∙ one-refused who making (next_id s) e h.reached h.left h.breaks ∙ h.granted)) (as-before s)
 refused-making-leaves making who lun e s s' tidy stand (inr (inl h)) =
-    let made = new-made making (next_id s) who s h.reached tidy h.granted in
+    let made = new-made making (next_id s) who s h.reached h.granted in
     let here = subst (λ x. IsNewIn who.caller (next_id s) s.access s x) (sym (access-refused who lun (next_id s) e h.reached h.left h.breaks)) made in
-    gone who lun s stand (next_id s) h.left s' here h.undoes
+    gone who lun s tidy stand (next_id s) h.left s' here h.undoes
 refused-making-leaves making who lun e s s' tidy stand (inr (inr (inl h))) =
     let parts = granted-parts plain who (creation making (next_id s)) (opening lun (next_id s)) s h.reached h.granted in
-    let made = new-made making (next_id s) who s parts.0 tidy parts.1 in
-    let o = now-open who lun s stand (next_id s) parts.0 h.reached made parts.2 in
+    let made = new-made making (next_id s) who s parts.0 parts.1 in
+    let o = now-open who lun s tidy stand (next_id s) parts.0 h.reached made parts.2 in
     let at = filling-breaks who lun (next_id s) s (length making.blocks) making.blocks e h.reached h.left o.0 h.breaks in
-    given-up who lun s stand (next_id s) h.left s' o.1 at h.undoes
+    given-up who lun s tidy stand (next_id s) h.left s' o.1 at h.undoes
 refused-making-leaves making who lun e s s' tidy stand (inr (inr (inr h))) =
     let parts = granted-parts plain who (creation making (next_id s)) (opening lun (next_id s) ++ filling lun making.blocks) s h.reached h.granted in
     let rest = granted-parts plain who (opening lun (next_id s)) (filling lun making.blocks) parts.0 h.reached parts.2 in
-    let made = new-made making (next_id s) who s parts.0 tidy parts.1 in
-    let o = now-open who lun s stand (next_id s) parts.0 rest.0 made rest.1 in
+    let made = new-made making (next_id s) who s parts.0 parts.1 in
+    let o = now-open who lun s tidy stand (next_id s) parts.0 rest.0 made rest.1 in
     let c = filled-closed who lun (next_id s) s (length making.blocks) making.blocks rest.0 h.reached o.1 o.0 rest.2 in
     let here = subst (λ x. IsNewIn who.caller (next_id s) s.access s x) (sym (entry-refused making who (next_id s) e s h.reached h.left c h.breaks)) c in
-    gone who lun s stand (next_id s) h.left s' here h.undoes
+    gone who lun s tidy stand (next_id s) h.left s' here h.undoes
 
 pub refused-copy-leaves : RefusedCopyLeaves
 refused-copy-leaves (Files e) m name who lun dir to protection disk s s' tidy stand h = refused-making-leaves _ who lun e s s' tidy stand h.fails

@@ -1,3 +1,4 @@
+pub mod ApartLemmas
 pub mod AskingLemmas
 pub mod BackLemmas
 pub mod NewLemmas
@@ -41,8 +42,10 @@ pub mod RtBlockLemmas
 pub mod RtSourceLemmas
 pub mod SeenLemmas
 pub mod SizeLemmas
+pub mod SmallLemmas
 pub mod SpentLemmas
 pub mod TextLemmas
+pub mod ThereAndBackLemmas
 pub mod TriedLemmas
 pub mod UndoneLemmas
 pub mod VolumeLemmas

@@ -15,10 +15,14 @@ use Rattle.f11_store.specs.declared.files.Change.TheVariants as change
 use Rattle.f11_store.specs.declared.files.FileId.{FileId}
 use Rattle.f11_store.specs.declared.requests.Request.TheVariants as request
 use Rattle.f11_store.proofs.StoreLemmas.{same_number}
+use Rattle.rt11_volume.specs.Files.{file_area}
+use Rattle.rt11_volume.specs.Store.{RtStore}
 use Rattle.f11_flx.specs.Asking.{Granted, Grants, Who, asks, plain, writes, writes_of}
-use Rattle.f11_flx.specs.CopyFromRt.{Making, as_file, creation, entry, filling, giving_up, opening}
+use Rattle.f11_flx.specs.CopyFromRt.{CopiesFromRt, Making, as_file, creation, entry, filling, giving_up, making_of, opening}
 use Rattle.f11_flx.specs.Making.{extension}
-use Rattle.f11_flx.specs.MakingLaws.{CopiedHolds, GrantedIsMade, HasMadeFile}
+use Rattle.f11_flx.specs.MakingLaws.{CopiedHolds, GrantedIsMade, HasCopyOf, HasMadeFile}
+use Rattle.f11_flx.specs.declared.mode.CopyMode.{CopyMode}
+use Rattle.f11_flx.proofs.ApartLemmas.{apart-from, copy-is-none}
 use Rattle.f11_flx.proofs.AskingLemmas.{granted-parts}
 use Rattle.f11_flx.proofs.NewLemmas.{IsNewIn, IsOpenIn, closed, given-back, holds, length-zeros, new-made, written}
 use Rattle.f11_flx.proofs.UndoneLemmas.{extension-stays, writes-stay}
@@ -141,9 +145,13 @@ made-of making who id s t s' apart h k g =
     let r = record_bytes id making.name in
     let protect = with_replacement (change.Protect making.protection) in
     let last : s' ≡ with_change v id.number protect = g.2.2 ∙ g.2.1.3.changes in
+    let files : Some k.file ≡ Some h.file = sym k.there ∙ h.there in
+    let same : k.file ≡ h.file = cc in
     let here : v.file id.number ≡ Some k.file = entered-other o t v making.directory r id.number apart enters ∙ k.there in
     record {
       file = protect k.file;
+      sequence_is = ap (λ (f : File). f.sequence) same ∙ h.sequence;
+      was_free = h.unused;
       there = ap (λ (x : Store). x.file id.number) last ∙ ap (λ b. if b then option_map protect (v.file id.number) else v.file id.number) (same_number id.number) ∙ ap (option_map protect) here;
       blocks_are = k.blocks_are;
       attr_is = k.attr_is;
@@ -172,15 +180,22 @@ made-of making who id s t s' apart h k g =
         by true same = absurd (never a b (sym (eqb-true b a same)) is)
         by false same = refl
 
-pub granted-is-made : GrantedIsMade
-granted-is-made making who lun s s' tidy apart g =
+-- what was granted up to the entry: a file was filled and closed
+record IsFilled (making : Making) (who : Who) (s s' : Store) : Type 0 where
+  pub before : Store
+  pub new : IsNewIn who.caller (next_id s) s.access s before
+  pub such : IsSuch making who.caller making.blocks (next_id s).number before
+  pub entered : Granted plain who (entry making (next_id s)) before s'
+
+granted-is-filled : (making : Making) (who : Who) (lun : ℕ) (s s' : Store) → Granted plain who (making_of making lun (next_id s)) s s' → IsFilled making who s s'
+granted-is-filled making who lun s s' g =
     let id : FileId = next_id s in
     let one = granted-parts plain who (creation making id) (opening lun id ++ (filling lun making.blocks ++ entry making id)) s s' g in
     let two = granted-parts plain who (opening lun id) (filling lun making.blocks ++ entry making id) one.0 s' one.2 in
     let three = granted-parts plain who (filling lun making.blocks) (entry making id) two.0 s' two.2 in
     let four = granted-parts plain who (extension lun (length making.blocks)) (writes_of lun 0 making.blocks ++ giving_up lun) two.0 three.0 three.1 in
     let five = granted-parts plain who (writes_of lun 0 making.blocks) (giving_up lun) four.0 three.0 four.2 in
-    let made = new-made making id who s one.0 tidy one.1 in
+    let made = new-made making id who s one.0 one.1 in
     let o = opened-at id one.0 two.0 made two.1 in
     let same : two.0.file id.number ≡ one.0.file id.number = ap (λ (x : Store). x.file id.number) (two.1.2 ∙ two.1.1.3.changes) in
     let begun = such-stays making who.caller [] id.number one.0 two.0 same (such-created making who s one.0 one.1) in
@@ -189,9 +204,13 @@ granted-is-made making who lun s s' tidy apart g =
     let open3 = writes-stay who lun id s 0 making.blocks four.0 five.0 open2 five.1 in
     let full = such-filled making who lun id s [] making.blocks (zero_blocks (length making.blocks)) four.0 five.0 (length-zeros (length making.blocks)) open2 zeros five.1 in
     let back : three.0 ≡ five.2.0 = five.2.2 in
-    let shut = subst (λ x. IsNewIn who.caller id s.access s x) (sym back) (closed who.caller id s who lun five.0 five.2.0 o.1 open3 five.2.1) in
     let kept : three.0.file id.number ≡ five.0.file id.number = ap (λ (x : Store). x.file id.number) (back ∙ given-back who.caller id s who lun five.0 five.2.0 open3 five.2.1) in
-    made-of making who id s three.0 s' apart shut (such-stays making who.caller making.blocks id.number five.0 three.0 kept full) three.2
+    record {
+      before = three.0;
+      new = subst (λ x. IsNewIn who.caller id s.access s x) (sym back) (closed who.caller id s who lun five.0 five.2.0 o.1 open3 five.2.1);
+      such = such-stays making who.caller making.blocks id.number five.0 three.0 kept full;
+      entered = three.2;
+    }
   where
     opened-at : (id : FileId) (t u : Store) → IsNewIn who.caller id s.access s t → Granted plain who (opening lun id) t u → IsOpenIn who.caller id s who lun u × (s.access who.task lun ≡ None)
     opened-at id t u h g = (
@@ -199,18 +218,29 @@ granted-is-made making who lun s s' tidy apart g =
       Rattle.f11_flx.proofs.NewLemmas.lun-was-free who.caller id s who lun t g.0 h g.1,
     )
 
+pub granted-is-made : GrantedIsMade
+granted-is-made making who lun s s' apart g =
+    let f = granted-is-filled making who lun s s' g in
+    made-of making who (next_id s) s f.before s' apart f.new f.such f.entered
+
+-- a copy is never entered into itself, and what it makes holds it
+pub copy-of : (m : CopyMode) (name : List ℕ) (who : Who) (lun : ℕ) (dir : FileId) (to : List ℕ) (protection blocks : ℕ) (t : RtStore) (s s' : Store) → (h : CopiesFromRt m name who lun dir to protection blocks t s s') →
+    HasCopyOf m name (as_file to dir protection h.attr h.pieces) who.caller (next_id s) blocks t s s'
+copy-of m name who lun dir to protection blocks t s s' h =
+    let making = as_file to dir protection h.attr h.pieces in
+    let f = granted-is-filled making who lun s s' h.asked in
+    let none = copy-is-none m (file_area h.has.file).contents h.has.copy f.such.file h.has.converted (f.such.attr_is ∙ h.has.attr_is) in
+    let apart = apart-from who (next_id s) dir to f.such.file f.before f.entered.0 f.such.there none f.entered.1 in
+    let made = made-of making who (next_id s) s f.before s' apart f.new f.such f.entered in
+    record {
+      source = h.has.file;
+      copy = h.has.copy;
+      converted = h.has.converted;
+      made = made;
+      holds = record { content = ap concat made.blocks_are ∙ h.has.content_is; attr = made.attr_is ∙ h.has.attr_is };
+      blocks_are = ap (λ (l : List (List ℕ)). length l) made.blocks_are ∙ h.blocks_are;
+      whole = subst (All (λ b. length b ≡ 512)) (sym made.blocks_are) h.has.whole;
+    }
+
 pub copied-holds : CopiedHolds
-copied-holds m name who lun dir to protection blocks t s s' tidy apart h =
-    let made = granted-is-made (as_file to dir protection h.attr h.pieces) who lun s s' tidy apart h.asked in (
-      h.attr,
-      h.pieces,
-      record {
-        source = h.has.file;
-        copy = h.has.copy;
-        converted = h.has.converted;
-        made = made;
-        holds = record { content = ap concat made.blocks_are ∙ h.has.content_is; attr = made.attr_is ∙ h.has.attr_is };
-        blocks_are = ap (λ (l : List (List ℕ)). length l) made.blocks_are ∙ h.blocks_are;
-        whole = subst (All (λ b. length b ≡ 512)) (sym made.blocks_are) h.has.whole;
-      },
-    )
+copied-holds m name who lun dir to protection blocks t s s' h = (h.attr, h.pieces, copy-of m name who lun dir to protection blocks t s s' h)

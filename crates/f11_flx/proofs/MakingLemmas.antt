@@ -15,10 +15,11 @@ use Rattle.f11_flx.specs.Passes.{CopiesFile, FailsToCopyFile, IsCopied}
 use Rattle.f11_flx.specs.declared.mode.CopyMode.{CopyMode}
 use Rattle.f11_flx.specs.declared.refusal.FlxRefusal.{FlxRefusal}
 use Rattle.f11_flx.specs.declared.refusal.FlxRefusal.TheVariants.{BadRecord, Files, LineTooLong, Rt}
-use Rattle.f11_flx.proofs.AskingLemmas.{breaks-before, breaks-behind, granted-append}
+use Rattle.f11_flx.proofs.AskingLemmas.{breaks-before, breaks-behind, granted-append, writes-append}
 use Rattle.f11_flx.proofs.PassLemmas.{reads-none}
 use Rattle.f11_flx.proofs.PassedLemmas.{all-of, chop}
-use Rattle.f11_flx.proofs.WritingLemmas.{is-whole, whole-length, writes-append}
+use Rattle.f11_flx.proofs.PourLemmas.{whole-length}
+use Rattle.f11_flx.proofs.WritingLemmas.{is-whole}
 
 -- a request that has this reply is granted
 pub granted-told : {V : Type 0} (S : Service V) (who : Who) (r : Request) (a : Reply) (v w : V) → Grants S who (told r a) v w → Grants S who (asks r) v w
@@ -29,14 +30,18 @@ no-more : (ps more : List (List ℕ)) → All is-whole (ps ++ more) → All is-w
 no-more ps [] w v is = append-nil ps
 no-more ps (m ∷ more) w v is = absurd (omega (arith, is, whole-length (ps ++ m ∷ more) w, whole-length ps v, length-append ps (m ∷ more)))
 
+-- whole blocks with the same bytes are the same
+pub same-blocks : (ps qs : List (List ℕ)) → All is-whole ps → All is-whole qs → concat qs ≡ concat ps → qs ≡ ps
+same-blocks ps qs whole whole' bytes =
+    let more = chop ps qs [] whole whole' (bytes ∙ sym (append-nil (concat ps))) in
+    let all : All is-whole (ps ++ more.0) = subst (All is-whole) more.1 whole' in
+    more.1 ∙ no-more ps more.0 all whole (ap (λ (l : List (List ℕ)). length (concat l)) (sym more.1) ∙ ap (λ (l : List ℕ). length l) bytes)
+
 pub pieces-are : (m : CopyMode) (source ps qs : List (List ℕ)) (a b : List ℕ) → IsCopied m source ps a → IsCopied m source qs b → qs ≡ ps
 pieces-are m source ps qs a b h k =
     let same : Some h.copy ≡ Some k.copy = sym h.converted ∙ k.converted in
     let copy : h.copy ≡ k.copy = cc in
-    let bytes : concat qs ≡ concat ps = k.content_is ∙ ap (λ (c : Copy). c.content) (sym copy) ∙ sym h.content_is in
-    let more = chop ps qs [] h.whole k.whole (bytes ∙ sym (append-nil (concat ps))) in
-    let all : All is-whole (ps ++ more.0) = subst (All is-whole) more.1 k.whole in
-    more.1 ∙ no-more ps more.0 all h.whole (ap (λ (l : List (List ℕ)). length (concat l)) (sym more.1) ∙ ap (λ (l : List ℕ). length l) bytes)
+    same-blocks ps qs h.whole k.whole (k.content_is ∙ ap (λ (c : Copy). c.content) (sym copy) ∙ sym h.content_is)
 
 module _ {V : Type 0} (S : Service V) (who : Who) (lun : ℕ) where
   -- a block was refused, whatever stands behind it

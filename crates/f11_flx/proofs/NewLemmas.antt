@@ -1,7 +1,7 @@
 -- A file that is made, and undone, over the plain store.
 use Rattle.std.proofs.Common.{◌≡◌, ℕ, ◌+◌, ◌-◌, ◌<◌, ◌≤◌, ◌==◌, ◌&&◌, ◌||◌, not, Bool, true, false, nat_le, nat_lt, if◌then◌else◌, List, [], ◌∷◌, length, take, Option, Some, None, is_none, is_some, option_map, refl, sym, ap, ◌∙◌, subst, arith, length-append}
 use Rattle.std.specs.Prelude.{unwrap_or}
-use Rattle.std.proofs.lemmas.Bool.{eq-eqb, eqb-true, leb-false, leb-true, lt-ltb, ltb-true, and_parts}
+use Rattle.std.proofs.lemmas.Bool.{eq-eqb, eqb-true, leb-false, leb-true, lt-ltb, ltb-true, and_parts, or_right}
 use Rattle.std.proofs.lemmas.List.{length-replicate, length-set}
 use Rattle.f11_bytes.specs.Block.{zero_block}
 use Rattle.f11_store.specs.Accesses.{FreeIsEmpty}
@@ -30,6 +30,7 @@ use Rattle.f11_runs.proofs.SlotLists.{in-one, in-two, taken-free}
 use Rattle.f11_flx.specs.Asking.{Denies, Granted, Grants, Who, asks, plain, writes}
 use Rattle.f11_flx.specs.CopyFromRt.{IsAsBefore, Making, creation}
 use Rattle.f11_flx.proofs.FromRtLemmas.{created-next}
+use Rattle.f11_flx.proofs.SmallLemmas.{bad-not}
 
 -- A store is s with one file more, which is the caller's and bars nobody; accesses are these.
 pub record IsNewIn (caller : Uic) (id : FileId) (accesses : ℕ → ℕ → Option Access) (s t : Store) : Type 0 where
@@ -39,7 +40,7 @@ pub record IsNewIn (caller : Uic) (id : FileId) (accesses : ℕ → ℕ → Opti
   pub owner : file.owner ≡ caller
   pub open-to : file.protection ≡ 0
   pub unmarked : is_marked file ≡ false
-  pub nowhere : s.file id.number ≡ None
+  pub unused : s.in_use id.number ≡ false
   pub others : (n : ℕ) → (n == id.number) ≡ false → t.file n ≡ s.file n
   pub free : t.free + length_of file ≡ s.free
   pub slots : t.slots ≡ s.slots
@@ -53,14 +54,10 @@ pub record IsNewIn (caller : Uic) (id : FileId) (accesses : ℕ → ℕ → Opti
 abbrev pub with-held : (ℕ → ℕ → Option Access) → ℕ → ℕ → Option Access → ℕ → ℕ → Option Access
 with-held accesses task lun a = λ t l. if (t == task) && (l == lun) then a else accesses t l
 
-or-right : (a b : Bool) → b ≡ true → (a || b) ≡ true
-or-right true b h = refl
-or-right false b h = h
-
 -- a word of 0 denies nothing
 open-to-all : (caller owner : Uic) → may caller owner 0 right.Delete ≡ true
 open-to-all caller owner =
-    or-right (is_of caller owner class.System && true) _ (or-right (is_of caller owner class.Owner && true) _ (or-right (is_of caller owner class.Group && true) _ refl))
+    or_right (is_of caller owner class.System && true) _ (or_right (is_of caller owner class.Owner && true) _ (or_right (is_of caller owner class.Group && true) _ refl))
 
 -- none of the causes holds
 pub none-of : (c : Cause) (cs : List Cause) → c.holds ≡ false → first_of cs ≡ None → first_of (c ∷ cs) ≡ None
@@ -89,8 +86,8 @@ unaccessed test s t id stand none same =
     held-none test t id (λ task lun low small. ap (λ o. is_to test id o) (same task lun) ∙ unheld test s id stand none task lun low small)
 
 -- the file that was created
-pub new-made : (making : Making) (id : FileId) (who : Who) (s t : Store) → FreeIsEmpty s → Granted plain who (creation making id) s t → IsNewIn who.caller id s.access s t
-new-made making id who s t tidy h =
+pub new-made : (making : Making) (id : FileId) (who : Who) (s t : Store) → Granted plain who (creation making id) s t → IsNewIn who.caller id s.access s t
+new-made making id who s t h =
     let step = h.1.2 in
     let is : id ≡ next_id s = created-next making id who s t h in
     let free = least_free_is_free s (none_first (free_headers s == 0) NoHeader None step.no_cause) in
@@ -102,7 +99,7 @@ new-made making id who s t tidy h =
       owner = refl;
       open-to = refl;
       unmarked = refl;
-      nowhere = tidy (least_free s) free.unused;
+      unused = free.unused;
       others = λ n apart. ap (λ b. if b then Some (file_created s (least_free s) who.caller 0 (ident_with making.name) making.attr) else s.file n) apart;
       free = omega arith;
       slots = refl;
@@ -188,19 +185,15 @@ module _ (caller : Uic) (id : FileId) (s : Store) where
           by true is = absurd (omega (arith, ltb-true n 6 is, low))
           by false is = refl
 
-      bad-not : (a b : Bool) → a ≡ false → b ≡ true → (a || not b) ≡ false
-      bad-not false true h k = refl
-      bad-not true b h k = absurd (true-false h)
-      bad-not false false h k = absurd (true-false (sym k))
-
   -- so it isn't refused
   pub undenied-delete : (who : Who) (t u : Store) (e : Refusal) → who.caller ≡ caller → AccessesStand s → IsNewIn caller id s.access s t → Denies plain who (asks (request.Delete id)) e t u → ⊥
   undenied-delete who t u e is stand h d =
       subst (λ o. MayRefuse o (request.Delete id) e) (subst (λ c. first_refusal t who.task c (request.Delete id) ≡ None) (sym is) (deletable t who.task stand h)) d.2.may_refuse
 
-  pub deleted : (who : Who) (t u : Store) → AccessesStand s → IsNewIn caller id s.access s t → Grants plain who (asks (request.Delete id)) t u → IsAsBefore s u
-  deleted who t u stand h g =
-      let nobody : is_accessed t id ≡ false = unaccessed (λ _. true) s t id stand h.nowhere h.access in
+  pub deleted : (who : Who) (t u : Store) → FreeIsEmpty s → AccessesStand s → IsNewIn caller id s.access s t → Grants plain who (asks (request.Delete id)) t u → IsAsBefore s u
+  deleted who t u tidy stand h g =
+      let nowhere : s.file id.number ≡ None = tidy id.number h.unused in
+      let nobody : is_accessed t id ≡ false = unaccessed (λ _. true) s t id stand nowhere h.access in
       let gone : u ≡ without_file_at t id.number = g.3.changes ∙ ap (λ b. if b then with_marked_file t id.number else without_file_at t id.number) nobody in
       let same : u ≡ without_file t id.number h.file = gone ∙ ap (λ o. without_file t id.number (unwrap_or o no_file)) h.there in
       subst (λ x. IsAsBefore s x) (sym same) (record {
@@ -213,7 +206,7 @@ module _ (caller : Uic) (id : FileId) (s : Store) where
       })
     where
       at : (n : ℕ) (b : Bool) → (n == id.number) ≡ b → (if b then None else t.file n) ≡ s.file n
-      at n true is = sym (ap s.file (eqb-true n id.number is) ∙ h.nowhere)
+      at n true is = sym (ap s.file (eqb-true n id.number is) ∙ tidy id.number h.unused)
       at n false is = h.others n is
 
   -- it is accessed to be written, by a lun that held nothing
@@ -228,7 +221,7 @@ module _ (caller : Uic) (id : FileId) (s : Store) where
         owner = h.owner;
         open-to = h.open-to;
         unmarked = h.unmarked;
-        nowhere = h.nowhere;
+        unused = h.unused;
         others = h.others;
         free = h.free;
         slots = h.slots;
@@ -279,7 +272,7 @@ module _ (caller : Uic) (id : FileId) (s : Store) where
           owner = h.owner;
           open-to = h.open-to;
           unmarked = ap (λ b. b == 1) (mark-of-cleared h.file.characteristics) ∙ h.unmarked;
-          nowhere = h.nowhere;
+          unused = h.unused;
           others = λ m apart. ap (λ b. if b then Some file else t.file m) apart ∙ h.others m apart;
           free = omega (arith, h.free, fits, length-append h.file.blocks (zero_blocks n), length-zeros n);
           slots = h.slots;
@@ -303,7 +296,7 @@ module _ (caller : Uic) (id : FileId) (s : Store) where
           owner = h.owner;
           open-to = h.open-to;
           unmarked = h.unmarked;
-          nowhere = h.nowhere;
+          unused = h.unused;
           others = λ m apart. ap (λ b. if b then option_map (with_block vbn block) (t.file id.number) else t.file m) apart ∙ h.others m apart;
           free = omega (arith, h.free, length-set h.file.blocks (vbn - 1) block);
           slots = h.slots;
@@ -336,7 +329,7 @@ module _ (caller : Uic) (id : FileId) (s : Store) where
           owner = h.owner;
           open-to = h.open-to;
           unmarked = h.unmarked;
-          nowhere = h.nowhere;
+          unused = h.unused;
           others = h.others;
           free = h.free;
           slots = h.slots;

@@ -51,11 +51,11 @@ module _ {V : Type 0} (S : Service V) (who : Who) (lun : ℕ) (view : V → Stor
       )
 
   -- it was created
-  now-new : (making : Making) (id : FileId) (v w : V) → FreeIsEmpty (view v) → is_sound v ≡ true → Granted S who (creation making id) v w →
+  now-new : (making : Making) (id : FileId) (v w : V) → is_sound v ≡ true → Granted S who (creation making id) v w →
       IsNewIn who.caller id (view v).access (view v) (view w) × (is_sound w ≡ true) × Granted plain who (creation making id) (view v) (view w)
-  now-new making id v w tidy sound g =
+  now-new making id v w sound g =
       let one = granted-seen S view is_sound seen who (creation making id) v w g sound in
-      (new-made making id who (view v) (view w) tidy one.0, one.1, one.0)
+      (new-made making id who (view v) (view w) one.0, one.1, one.0)
 
   -- it was refused to create one
   not-created : (making : Making) (e : Refusal) (v w : V) → is_lethal (Files e) ≡ false → is_sound v ≡ true → Fails S who is_created (request.Create 0 (ident_with making.name) making.attr) e v w →
@@ -89,28 +89,28 @@ module _ {V E : Type 0} {met : Ghosts E} (S : Service V) (disk : E → Disk) (m 
       u = clean-undoing S who (request.Delete h.id) h.f f' h.left w clean h.undoes
 
       made : IsNewIn who.caller h.id (view v).access (view v) (view h.created) × (is_sound h.created ≡ true) × Granted plain who (creation making h.id) (view v) (view h.created)
-      made = now-new S who lun view is_sound seen making h.id v h.created tidy sound h.creates
+      made = now-new S who lun view is_sound seen making h.id v h.created sound h.creates
 
       by : FailsToFillFile S disk m who lun name many n h.id h.f a b h.created h.left → IsAsBefore (view v) (view w)
       by (inl k) =
           let d = seen.denied who (asks (request.Access h.id access.Write lun)) k.e h.created h.left k.denied made.1 (calm (Files k.e) h.f k.is u.clean) in
           let here = subst (λ x. IsNewIn who.caller h.id (view v).access (view v) x) (sym d.0.2.store_stays) made.0 in
-          (undone-delete S view is_sound seen who lun (view v) stand h.id h.f f' h.left w d.1 here u).1
+          (undone-delete S view is_sound seen who lun (view v) tidy stand h.id h.f f' h.left w d.1 here u).1
       by (inr k) =
           let x = clean-undoing S who (request.Deaccess lun) k.f h.f k.left h.left u.clean k.undoes in
           let o = now-open S who lun view is_sound seen h.id (view v) h.created k.between made.0 made.1 k.opened in
           let at = still-filling k.f h.id (view v) many n a b k.between k.left x.clean o.0 o.2 k.fails in
-          let c = undone-access S view is_sound seen who lun (view v) stand h.id k.f h.f k.left h.left at.1 o.1 at.0 x in
-          (undone-delete S view is_sound seen who lun (view v) stand h.id h.f f' h.left w c.2 c.1 u).1
+          let c = undone-access S view is_sound seen who lun (view v) tidy stand h.id k.f h.f k.left h.left at.1 o.1 at.0 x in
+          (undone-delete S view is_sound seen who lun (view v) tidy stand h.id h.f f' h.left w c.2 c.1 u).1
   making-undone f' many n making a b v w clean sound tidy stand (inr (inr h)) =
       let u = clean-undoing S who (request.Delete h.id) (Files h.e) f' h.left w clean h.undoes in
-      let made = now-new S who lun view is_sound seen making h.id v h.created tidy sound h.creates in
+      let made = now-new S who lun view is_sound seen making h.id v h.created sound h.creates in
       let o = now-open S who lun view is_sound seen h.id (view v) h.created h.fills.between made.0 made.1 h.fills.opened in
       let g = granted-seen S view is_sound seen who (filling_of lun n h.fills.fills.pieces) h.fills.between h.filled h.fills.fills.granted o.2 in
       let c = filled-closed who lun h.id (view v) n h.fills.fills.pieces (view h.fills.between) (view h.filled) o.1 o.0 g.0 in
       let d = breaks-sound S view is_sound seen who (entry making h.id) h.e h.filled h.left h.breaks g.1 u.clean in
       let here = subst (λ x. IsNewIn who.caller h.id (view v).access (view v) x) (sym (entry-refused making who h.id h.e (view v) (view h.filled) (view h.left) c d.0)) c in
-      (undone-delete S view is_sound seen who lun (view v) stand h.id (Files h.e) f' h.left w d.1 here u).1
+      (undone-delete S view is_sound seen who lun (view v) tidy stand h.id (Files h.e) f' h.left w d.1 here u).1
 
   -- so does a copy
   pub copy-undone : (f : FlxRefusal) (dir : FileId) (to : List ℕ) (protection : ℕ) (a b : RtAccepted E met) (v w : V) → is_lethal f ≡ false → is_sound v ≡ true → FreeIsEmpty (view v) → AccessesStand (view v) →
@@ -135,7 +135,7 @@ module _ {V E : Type 0} {met : Ghosts E} (S : Service V) (disk : E → Disk) (m 
       u = clean-undoing S who (request.Delete h.id) h.f f' h.left w clean h.undoes
 
       made : IsNewIn who.caller h.id (view v).access (view v) (view h.created) × (is_sound h.created ≡ true) × Granted plain who (creation making h.id) (view v) (view h.created)
-      made = now-new S who lun view is_sound seen making h.id v h.created tidy sound h.creates
+      made = now-new S who lun view is_sound seen making h.id v h.created sound h.creates
 
       next : h.id ≡ next_id (view v)
       next = created-next making h.id who (view v) (view h.created) made.2
@@ -159,24 +159,24 @@ module _ {V E : Type 0} {met : Ghosts E} (S : Service V) (disk : E → Disk) (m 
       by (inl k) =
           let d = seen.denied who (asks (request.Access h.id access.Write lun)) k.e h.created h.left k.denied made.1 (calm (Files k.e) h.f k.is u.clean) in
           let here = subst (λ y. IsNewIn who.caller h.id (view v).access (view v) y) (sym d.0.2.store_stays) made.0 in
-          let g = (undone-delete S view is_sound seen who lun (view v) stand h.id h.f f' h.left w d.1 here u).0 in
+          let g = (undone-delete S view is_sound seen who lun (view v) tidy stand h.id h.f f' h.left w d.1 here u).0 in
           as-next k.e (u.same ∙ k.is) (inr (inl (record { reached = view h.created; left = view h.left; granted = made.2; breaks = inl d.0; undoes = (view w, g, refl) })))
       by (inr k) =
           let x = clean-undoing S who (request.Deaccess lun) k.f h.f k.left h.left u.clean k.undoes in
           let o = now-open S who lun view is_sound seen h.id (view v) h.created k.between made.0 made.1 k.opened in
           let at = still-filling k.f h.id (view v) many n a b k.between k.left x.clean o.0 o.2 k.fails in
-          let c = undone-access S view is_sound seen who lun (view v) stand h.id k.f h.f k.left h.left at.1 o.1 at.0 x in
-          let g = (undone-delete S view is_sound seen who lun (view v) stand h.id h.f f' h.left w c.2 c.1 u).0 in
+          let c = undone-access S view is_sound seen who lun (view v) tidy stand h.id k.f h.f k.left h.left at.1 o.1 at.0 x in
+          let g = (undone-delete S view is_sound seen who lun (view v) tidy stand h.id h.f f' h.left w c.2 c.1 u).0 in
           broke k.f k.between k.left x.clean x.same o.2 o.3 k.fails (view h.left, c.0, (view w, g, refl))
   making-refused f' many n making a b v w clean sound tidy stand filled broken unread uncopied (inr (inr h)) =
       let u = clean-undoing S who (request.Delete h.id) (Files h.e) f' h.left w clean h.undoes in
-      let made = now-new S who lun view is_sound seen making h.id v h.created tidy sound h.creates in
+      let made = now-new S who lun view is_sound seen making h.id v h.created sound h.creates in
       let o = now-open S who lun view is_sound seen h.id (view v) h.created h.fills.between made.0 made.1 h.fills.opened in
       let g = granted-seen S view is_sound seen who (filling_of lun n h.fills.fills.pieces) h.fills.between h.filled h.fills.fills.granted o.2 in
       let c = filled-closed who lun h.id (view v) n h.fills.fills.pieces (view h.fills.between) (view h.filled) o.1 o.0 g.0 in
       let d = breaks-sound S view is_sound seen who (entry making h.id) h.e h.filled h.left h.breaks g.1 u.clean in
       let here = subst (λ x. IsNewIn who.caller h.id (view v).access (view v) x) (sym (entry-refused making who h.id h.e (view v) (view h.filled) (view h.left) c d.0)) c in
-      let gone = (undone-delete S view is_sound seen who lun (view v) stand h.id (Files h.e) f' h.left w d.1 here u).0 in
+      let gone = (undone-delete S view is_sound seen who lun (view v) tidy stand h.id (Files h.e) f' h.left w d.1 here u).0 in
       let fill = (granted-seen S view is_sound seen who (filling lun making.blocks) h.fills.between h.filled (filled h.fills.between h.filled h.fills.fills) o.2).0 in
       let front = granted-append plain who (creation making h.id) (opening lun h.id ++ filling lun making.blocks) (view v) (view h.created) (view h.filled) made.2
       (granted-append plain who (opening lun h.id) (filling lun making.blocks) (view h.created) (view h.fills.between) (view h.filled) o.3 fill) in

@@ -28,19 +28,18 @@ use Rattle.f11_flx.specs.Writing.{FailsToWrite, MeetsLongLine, Onward, StopsWrit
 use Rattle.f11_flx.specs.declared.refusal.FlxRefusal.{FlxRefusal}
 use Rattle.f11_flx.specs.declared.refusal.FlxRefusal.TheVariants.{BadRecord, Files, LineTooLong, Rt}
 use Rattle.f11_flx.specs.declared.to_records.ToRecords.{ToRecords}
+use Rattle.f11_flx.proofs.AskingLemmas.{granted-append, writes-append}
 use Rattle.f11_flx.proofs.EndLemmas.{records_end}
+use Rattle.f11_flx.proofs.PourLemmas.{whole-length}
 use Rattle.f11_flx.proofs.SizeLemmas.{records_are_few}
-use Rattle.f11_flx.proofs.WritingLemmas.{granted-append, is-whole, onward-then, whole-length, writes-append, writes-start}
+use Rattle.f11_flx.proofs.SmallLemmas.{or-false}
+use Rattle.f11_flx.proofs.WritingLemmas.{is-whole, onward-then, writes-start}
 
 -- what is taken of a list, and the element behind it
 pub take-one : (n : ℕ) (xs : List (List ℕ)) (x : List ℕ) → slice_get xs n ≡ Some x → take (n + 1) xs ≡ take n xs ++ x ∷ []
 take-one n xs x is =
     let next : n + 1 ≡ suc n = omega arith in
     ap (λ k. take k xs) next ∙ take-suc xs n [] (slice_get_within xs n x is) ∙ ap (λ y. take n xs ++ y ∷ []) (get_or_from_slice_get xs n x [] is)
-
-or-false : (b : Bool) → (b || false) ≡ b
-or-false true = refl
-or-false false = refl
 
 module _ {E : Type 0} {met : Ghosts E} (disk : E → Disk) where
   pub looks-none : (v : RtAccepted E met) → Looks disk false v v

@@ -25,7 +25,8 @@ use Rattle.f11_flx.specs.declared.refusal.FlxRefusal.{FlxRefusal}
 use Rattle.f11_flx.specs.declared.refusal.FlxRefusal.TheVariants.{BadRecord, Files, LineTooLong, Rt}
 use Rattle.f11_flx.specs.declared.to_records.ToRecords.{ToRecords}
 use Rattle.f11_flx.proofs.PassLemmas.{few-to-come, granted-writes, in-whole-behind, reads-more, reads-none, stops-reading, to-come}
-use Rattle.f11_flx.proofs.WritingLemmas.{is-whole, whole-length}
+use Rattle.f11_flx.proofs.PourLemmas.{whole-length}
+use Rattle.f11_flx.proofs.WritingLemmas.{is-whole}
 
 -- whole blocks of which the bytes begin with those of others begin with them
 pub chop : (ps full : List (List ℕ)) (rest : List ℕ) → All is-whole ps → All is-whole full → concat full ≡ concat ps ++ rest → (more : List (List ℕ)) × (full ≡ ps ++ more)
@@ -49,7 +50,7 @@ chop-last ps full last rest w v is =
 abbrev records-in : List (List ℕ) → List ℕ
 records-in blocks = variable_records (lines_of (without_zeros (concat blocks)))
 
-some-of : (b : Bool) (c copy : Copy) → (if b then None else Some c) ≡ Some copy → (b ≡ false) × (c ≡ copy)
+pub some-of : (b : Bool) (c copy : Copy) → (if b then None else Some c) ≡ Some copy → (b ≡ false) × (c ≡ copy)
 some-of true c copy is = absurd (cc)
 some-of false c copy is = (refl, cc)
 

@@ -1,5 +1,6 @@
 -- What asking a volume leaves of it, on any device.
 use Rattle.std.proofs.Common.{◌≡◌, ◌⊎◌, inl, inr, ℕ, ◌+◌, ◌<◌, ◌&&◌, ◌||◌, Bool, true, false, not, IsTrue, if◌then◌else◌, List, [], ◌∷◌, ◌++◌, length, suc, All, Result, Ok, Err, IfErr, IfOk, refl, sym, ap, ◌∙◌, subst, arith}
+use Rattle.std.proofs.lemmas.Bool.{or_right}
 use Rattle.std.proofs.lemmas.List.Elements.{All-append, All-cons, All-nil}
 use Rattle.f11_dev.specs.Disk.{Disk}
 use Rattle.f11_dev.specs.Looked.{Looked}
@@ -34,9 +35,10 @@ use Rattle.f11_flx.specs.Refusal.{is_lethal}
 use Rattle.f11_flx.specs.ToRt.{CopiesFile, CopiesLocked, CountsAs, FailsLocked, FailsToCopyFile, FailsToFill, GaveUp, Undoes, nowhere_refuses, nowhere_takes, rt_refuses, rt_takes}
 use Rattle.rt11_volume.specs.Files.{is_fault as rt_fault}
 use Rattle.rt11_volume.specs.declared.volume.RtAccepted.{RtAccepted}
-use Rattle.f11_flx.proofs.CopyingLemmas.{not-lethal, seen-plain}
 use Rattle.f11_flx.proofs.KeptToRtLemmas.{copied-keeps, uncopied-keeps}
 use Rattle.f11_flx.proofs.RefusedLemmas.{copied-stays, refused-stays}
+use Rattle.f11_flx.proofs.SmallLemmas.{not-true, or-false}
+use Rattle.f11_flx.proofs.VolumeLemmas.{parts-sound, volume-seen}
 
 -- Things were asked of a volume, and whether the last of them met a device fault, and failed the volume.
 pub record Ran {D : Type 0} {met : Ghosts D} (who : Who) (fault fatal : Bool) (old new : Volume D met) : Type 0 where
@@ -53,10 +55,6 @@ pub record Ran {D : Type 0} {met : Ghosts D} (who : Who) (fault fatal : Bool) (o
 abbrev as-count : Bool → ℕ
 as-count b = if b then 1 else 0
 
-pub false-or : (b : Bool) → (b || false) ≡ b
-false-or true = refl
-false-or false = refl
-
 module _ {D : Type 0} {met : Ghosts D} (who : Who) where
   pub ran-none : (v w : Volume D met) → w ≡ v → Ran who false false v w
   ran-none v w same = subst (λ x. Ran who false false v x) (sym same) (record {
@@ -66,8 +64,8 @@ module _ {D : Type 0} {met : Ghosts D} (who : Who) where
     failures = omega arith;
     quiet = λ h. absurd (cc);
     honest = refl;
-    next = λ h. sym (false-or (is_spent v));
-    spent = λ h. false-or (is_spent v) ∙ h;
+    next = λ h. sym (or-false (is_spent v));
+    spent = λ h. or-false (is_spent v) ∙ h;
     accepted = λ h. h;
   })
 
@@ -83,13 +81,13 @@ module _ {D : Type 0} {met : Ghosts D} (who : Who) where
     failures = k.failures ∙ ap (λ n. n + (if b then 1 else 0)) (omega (arith, h.failures));
     quiet = k.quiet;
     honest = k.honest ∙ h.honest;
-    next = λ t. k.next (h.honest ∙ t) ∙ ap (λ (x : Bool). x || c) (h.next t ∙ false-or (is_spent u));
+    next = λ t. k.next (h.honest ∙ t) ∙ ap (λ (x : Bool). x || c) (h.next t ∙ or-false (is_spent u));
     spent = λ t. by (is_spent v) refl (k.spent t);
     accepted = λ a. k.accepted (h.accepted a);
   }
     where
       by : (s : Bool) → is_spent v ≡ s → (is_spent v || c) ≡ true → (is_spent u || c) ≡ true
-      by true is t = ap (λ (x : Bool). x || c) (sym (false-or (is_spent u)) ∙ h.spent is)
+      by true is t = ap (λ (x : Bool). x || c) (sym (or-false (is_spent u)) ∙ h.spent is)
       by false is t = one (is_spent u) (ap (λ (x : Bool). x || c) (sym is) ∙ t)
         where
           one : (s : Bool) → c ≡ true → (s || c) ≡ true
@@ -250,15 +248,6 @@ clean-both (Rt r) h = (refl, refl)
 clean-both BadRecord h = (refl, refl)
 clean-both LineTooLong h = (refl, refl)
 
-sound-of : (h s : Bool) → IsTrue h → s ≡ false → (h && not s) ≡ true
-sound-of true false h is = refl
-sound-of true true h is = absurd (let never : true ≡ false = is in cc)
-sound-of false s h is = absurd (let never : false ≡ true = h in cc)
-
-or-true : (b : Bool) → (b || true) ≡ true
-or-true true = refl
-or-true false = refl
-
 abbrev ok-reply : Reply → Result Reply Refusal
 ok-reply r = Ok r
 
@@ -273,7 +262,7 @@ module _ {D : Type 0} {met : Ghosts D} (who : Who) (lun : ℕ) (name : List ℕ)
       by : (b : Bool) → is_spent v ≡ b → ⊥
       by true is = let same : ok-reply reply ≡ Err VolumeFailed = g.2.serving.refused is in absurd (cc)
       by false is =
-          let one = seen-plain.granted who (told (request.ReadAttr file) reply) v w g (sound-of (state_in v).disk.honest (is_spent v) honest is) in
+          let one = volume-seen.granted who (told (request.ReadAttr file) reply) v w g (parts-sound (state_in v).disk.honest (is_spent v) honest is) in
           let attr : is_attr reply ≡ true = ap is_attr one.0.2.reply_is in absurd (cc)
 
   told-nothing : (e : FlxRefusal) (r : Refusal) (v w : Volume D met) → e ≡ Files r → TellsNothing of_volume who lun file r v w → Ran who (fault-in e) (fatal-in e) v w
@@ -288,7 +277,7 @@ module _ {D : Type 0} {met : Ghosts D} (who : Who) (lun : ℕ) (name : List ℕ)
         quiet = h.quiet;
         honest = h.honest;
         next = λ t. absurd (wrong d.0 v w d.1 d.3 t);
-        spent = λ t. or-true (is_spent v);
+        spent = λ t. or_right (is_spent v) true refl;
         accepted = h.accepted;
       } in
       by-files who lun name e r v w is (subst (λ x. Ran who (is_fault x) (is_fatal x) v w) (sym d.2) ran)
@@ -398,7 +387,7 @@ module _ {D : Type 0} {met : Ghosts D} (who : Who) (lun : ℕ) (name : List ℕ)
           fares = record { failures = h.failures; quiet = h.quiet; honest = h.honest; next = h.next; spent = h.spent; accepted = p.1 };
           keeps = copied-keeps who disk lun file name day m old new rt rt' count made;
           asked = record { asked = h.asked; tried = h.tried; only = h.only };
-          stays = λ sound whole. copied-stays of_volume store_of_volume is_sound seen-plain who lun file name (store_of_volume old) disk day m count old new rt rt' refl sound made;
+          stays = λ sound whole. copied-stays of_volume store_of_volume is_sound volume-seen who lun file name (store_of_volume old) disk day m count old new rt rt' refl sound made;
         }
     files-told m (Err e) old new rt rt' made failed =
         let p = refused-ran m e old new rt rt' failed in
@@ -407,5 +396,5 @@ module _ {D : Type 0} {met : Ghosts D} (who : Who) (lun : ℕ) (name : List ℕ)
           fares = record { failures = h.failures; quiet = h.quiet; honest = h.honest; next = h.next; spent = h.spent; accepted = p.1 };
           keeps = uncopied-keeps who disk lun file name day m old new rt rt' e failed;
           asked = record { asked = h.asked; tried = h.tried; only = h.only };
-          stays = λ sound whole. refused-stays of_volume store_of_volume is_sound seen-plain who lun file name (store_of_volume old) disk day m e old new rt rt' refl sound (not-lethal (is_lethal e) whole) failed;
+          stays = λ sound whole. refused-stays of_volume store_of_volume is_sound volume-seen who lun file name (store_of_volume old) disk day m e old new rt rt' refl sound (not-true (is_lethal e) whole) failed;
         }

@@ -43,11 +43,12 @@ use Rattle.f11_flx.specs.declared.refusal.FlxRefusal.TheVariants as refusal
 use Rattle.f11_flx.specs.declared.target.Nowhere.{Nowhere}
 use Rattle.f11_flx.specs.declared.to_text.ToText.{ToText}
 use Rattle.f11_flx.proofs.ConvertedLemmas.{copied-text, left-same, no-layout, no-text, text-is, uncopied-text}
-use Rattle.f11_flx.proofs.CopiedLemmas.{same-end, same-start, some-one}
+use Rattle.f11_flx.proofs.CopiedLemmas.{same-end, same-start}
 use Rattle.f11_flx.proofs.PourLemmas.{whole-length}
 use Rattle.f11_flx.proofs.ReadingLemmas.{IsFree, accessed, count-denied, counted, given-up, giving-denied, held, reading-of-file, reads-are, reads-denied, told-denied, told-is}
-use Rattle.f11_flx.proofs.RtCopyLemmas.{has-places, or-false, took-puts}
+use Rattle.f11_flx.proofs.RtCopyLemmas.{has-places, took-puts}
 use Rattle.f11_flx.proofs.SeenLemmas.{breaks-seen, granted-seen, reading-all}
+use Rattle.f11_flx.proofs.SmallLemmas.{or-false, some-one}
 
 pub true-false : true ≡ false → ⊥
 true-false h = absurd (cc)

@@ -16,6 +16,7 @@ use Rattle.f11_flx.specs.CopyToRt.{HasCopy}
 use Rattle.f11_flx.specs.Filling.{Took}
 use Rattle.f11_flx.specs.Target.{Fares, HasPlaces, Puts, Replaces, rt_disk, rt_store}
 use Rattle.f11_flx.specs.ToRt.{rt_takes}
+use Rattle.f11_flx.proofs.SmallLemmas.{or-false}
 
 -- What stands then in the file's contents, of which blocks were replaced from a place on.
 pub record HasWritten (name : List ℕ) (k : ℕ) (pieces : List (List ℕ)) (file : Area) (more : List Area) (t t' : RtStore) : Type 0 where
@@ -90,10 +91,6 @@ module _ (name : List ℕ) (count day : ℕ) (pieces : List (List ℕ)) (t t1 t2
       let same : gone.file ∷ files_named name t3 ≡ record made.file { contents = w.contents } ∷ [] = sym gone.was ∙ w.is in
       let none : files_named name t3 ≡ [] = cc in
       (none ∙ sym made.none, λ other apart. gone.others other apart ∙ (w.others other apart ∙ made.others other apart))
-
-pub or-false : (b : Bool) → (b || false) ≡ b
-or-false true = refl
-or-false false = refl
 
 module _ {E : Type 0} {met : Ghosts E} (disk : E → Disk) where
   pub fares-none : (v : RtAccepted E met) → Fares disk false v v

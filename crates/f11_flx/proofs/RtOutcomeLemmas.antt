@@ -23,7 +23,8 @@ use Rattle.f11_flx.specs.declared.refusal.FlxRefusal.{FlxRefusal}
 use Rattle.f11_flx.specs.declared.refusal.FlxRefusal.TheVariants as refusal
 use Rattle.f11_flx.specs.Filling.{Took}
 use Rattle.f11_flx.specs.declared.to_text.ToText.{ToText}
-use Rattle.f11_flx.proofs.RtCopyLemmas.{fares-none, fares-then, has-gone, has-written, or-false, took-puts}
+use Rattle.f11_flx.proofs.RtCopyLemmas.{fares-none, fares-then, has-gone, has-written, took-puts}
+use Rattle.f11_flx.proofs.SmallLemmas.{or-false}
 
 no-truth : true ≡ false → ⊥
 no-truth h = absurd (cc)

@@ -1,5 +1,6 @@
 -- A copy that isn't made, seen as the plain store: all is as before.
 use Rattle.std.proofs.Common.{◌≡◌, ◌⊎◌, inl, inr, ℕ, suc, ◌==◌, Bool, true, false, if◌then◌else◌, List, [], ◌∷◌, ◌++◌, None, refl, sym, ap, ◌∙◌, subst}
+use Rattle.f11_store.specs.Accesses.{FreeIsEmpty}
 use Rattle.f11_store.specs.Store.{Store}
 use Rattle.f11_store.specs.declared.files.FileId.{FileId}
 use Rattle.f11_store.specs.declared.refusals.Refusal.{Refusal}
@@ -104,7 +105,7 @@ module _ (who : Who) (lun : ℕ) (id : FileId) (s : Store) where
       let open-in = writes-stay 0 pieces parts.0 rest.0 (extension-stays n t parts.0 h parts.1) rest.1 in
       subst (λ x. IsNewIn who.caller id s.access s x) (sym rest.2.2) (closed who.caller id s who lun rest.0 rest.2.0 free open-in rest.2.1)
 
-module _ {V : Type 0} (S : Service V) (view : V → Store) (is_sound : V → Bool) (seen : IsSeenPlain S view is_sound) (who : Who) (lun : ℕ) (s : Store) (stand : AccessesStand s) where
+module _ {V : Type 0} (S : Service V) (view : V → Store) (is_sound : V → Bool) (seen : IsSeenPlain S view is_sound) (who : Who) (lun : ℕ) (s : Store) (tidy : FreeIsEmpty s) (stand : AccessesStand s) where
   -- deleting a new file isn't refused, and all is as before then
   pub undone-delete : (id : FileId) (f f' : FlxRefusal) (v w : V) → is_sound v ≡ true → IsNewIn who.caller id s.access s (view v) → IsCleanUndoing S who (request.Delete id) f f' v w →
       Grants plain who (asks (request.Delete id)) (view v) (view w) × IsAsBefore s (view w)
@@ -112,7 +113,7 @@ module _ {V : Type 0} (S : Service V) (view : V → Store) (is_sound : V → Boo
     where
       by : (Grants S who (asks (request.Delete id)) v w) ⊎ ((e : Refusal) × (is_lethal (Files e) ≡ false) × Denies S who (asks (request.Delete id)) e v w) →
           Grants plain who (asks (request.Delete id)) (view v) (view w) × IsAsBefore s (view w)
-      by (inl g) = let one = (seen.granted who (asks (request.Delete id)) v w g sound).0 in (one, deleted who.caller id s who (view v) (view w) stand h one)
+      by (inl g) = let one = (seen.granted who (asks (request.Delete id)) v w g sound).0 in (one, deleted who.caller id s who (view v) (view w) tidy stand h one)
       by (inr d) = absurd (undenied-delete who.caller id s who (view v) (view w) d.0 refl stand h (seen.denied who (asks (request.Delete id)) d.0 v w d.2 sound d.1).0)
 
   -- nor is giving up a file that is accessed

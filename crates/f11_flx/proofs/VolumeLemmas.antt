@@ -36,7 +36,7 @@ sound-parts true false h = (refl, refl)
 sound-parts true true h = absurd (cc)
 sound-parts false spent h = absurd (cc)
 
-parts-sound : (honest spent : Bool) → honest ≡ true → spent ≡ false → (honest && not spent) ≡ true
+pub parts-sound : (honest spent : Bool) → honest ≡ true → spent ≡ false → (honest && not spent) ≡ true
 parts-sound true false h k = refl
 parts-sound true true h k = absurd (true-false k)
 parts-sound false spent h k = absurd (true-false (sym h))

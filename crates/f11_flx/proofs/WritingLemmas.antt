@@ -15,24 +15,11 @@ use Rattle.f11_flx.specs.ToRecords.{ConvertsText, GoesOn, HasLongLine, StopsText
 use Rattle.f11_flx.specs.Writing.{FailsToWrite, Onward, Writes, WritesNext, out_bytes}
 use Rattle.f11_flx.specs.declared.refusal.FlxRefusal.TheVariants.{Files, LineTooLong}
 use Rattle.f11_flx.specs.declared.to_records.ToRecords.{ToRecords}
+use Rattle.f11_flx.proofs.AskingLemmas.{granted-append, writes-append}
+use Rattle.f11_flx.proofs.PourLemmas.{whole-length}
 
 abbrev pub is-whole : List ℕ → Type 0
 is-whole b = length b ≡ 512
-
--- blocks of 512 bytes have 512 times as many
-pub whole-length : (pieces : List (List ℕ)) → All is-whole pieces → length (concat pieces) ≡ 512 * length pieces
-whole-length [] whole = refl
-whole-length (b ∷ more) whole = omega (arith, All-head is-whole b more whole, whole-length more (All-tail is-whole b more whole), length-append {A = ℕ} b (concat more))
-
--- one list and then another
-pub granted-append : {V : Type 0} (S : Service V) (who : Who) (xs ys : List Asking) (old now new : V) → Granted S who xs old now → Granted S who ys now new → Granted S who (xs ++ ys) old new
-granted-append S who [] ys old now new h k = subst (λ v. Granted S who ys v new) h k
-granted-append S who (x ∷ xs) ys old now new h k = (h.0, h.1, granted-append S who xs ys h.0 now new h.2 k)
-
-pub writes-append : (lun place : ℕ) (xs ys : List (List ℕ)) → writes_of lun place (xs ++ ys) ≡ writes_of lun place xs ++ writes_of lun (place + length xs) ys
-writes-append lun place [] ys = ap (λ n. writes_of lun n ys) (omega arith)
-writes-append lun place (x ∷ xs) ys =
-    ap (λ more. writes lun (suc place) x ∷ more) (writes-append lun (suc place) xs ys ∙ ap (λ n. writes_of lun (suc place) xs ++ writes_of lun n ys) (omega arith))
 
 -- all lines that are read are read one after another
 pub onward-same : (s : ToRecords) (bytes : List ℕ) (o : Out) → Onward s s bytes bytes o o []

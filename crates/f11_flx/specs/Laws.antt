@@ -4,7 +4,7 @@ use Rattle.std.specs.List.{concat}
 use Rattle.f11_bytes.specs.Words.{word}
 use Rattle.f11_store.specs.File.{File, length_of, stated_end}
 use Rattle.f11_flx.specs.Conversion.{Copy, Holds, copied_from_rt, copied_to_rt}
-use Rattle.f11_flx.specs.Lines.{without_zeros, has_crlf, has_long_line, lines_of, text_of, in_whole_blocks}
+use Rattle.f11_flx.specs.Lines.{without_zeros, has_crlf, lines_of, text_of, in_whole_blocks}
 use Rattle.f11_flx.specs.Records.{layout_of, some_of, records_in, records_of}
 use Rattle.f11_flx.specs.Spelled.{image_attributes, text_attributes, variable_records}
 use Rattle.f11_flx.specs.ToText.{ends_record, rest_of, text_left, Converts, StopsAt}
@@ -105,10 +105,10 @@ abbrev pub ImageComesBack : Type 0
 ImageComesBack = (file : File) (copy : Copy) → copied_from_rt Image file.blocks ≡ Some copy → Holds file copy →
     copied_to_rt Image file ≡ Some (concat file.blocks)
 
--- and so is a text of lines each of which is one, none too long
+-- and so is a text of lines each of which is one
 abbrev pub TextComesBack : Type 0
 TextComesBack =
     (records blocks : List (List ℕ)) (file : File) (copy : Copy) →
-    All IsOneLine records → has_long_line records ≡ false → concat blocks ≡ in_whole_blocks (text_of records) →
+    All IsOneLine records → concat blocks ≡ in_whole_blocks (text_of records) →
     copied_from_rt Text blocks ≡ Some copy → Holds file copy → length (concat file.blocks) ≡ 512 * length_of file →
     copied_to_rt Text file ≡ Some (concat blocks)

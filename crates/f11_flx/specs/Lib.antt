@@ -26,6 +26,7 @@ pub mod Seen
 pub mod Source
 pub mod Spelled
 pub mod Target
+pub mod ThereAndBack
 pub mod ToText
 pub mod Stage
 pub mod ToRecords

@@ -41,10 +41,12 @@ pub record IsEntered (making : Making) (id : FileId) (s s' : Store) : Type 0 whe
   pub enters : Enters before making.directory (record_bytes id making.name) after
   pub as_after : s'.file making.directory.number ≡ after.file making.directory.number
 
--- A file was made as it was to be, and entered; all other files, and what tasks hold, are as before.
+-- A file was made as it was to be, in a free slot, and entered; all other files, and what tasks hold, are as before.
 pub record HasMadeFile (making : Making) (caller : Uic) (id : FileId) (s s' : Store) : Type 0 where
   pub file : File
   pub there : s'.file id.number ≡ Some file
+  pub sequence_is : file.sequence ≡ id.sequence
+  pub was_free : s.in_use id.number ≡ false
   pub blocks_are : file.blocks ≡ making.blocks
   pub attr_is : file.attr ≡ making.attr
   pub ident_is : file.ident ≡ ident_with making.name
@@ -57,7 +59,7 @@ pub record HasMadeFile (making : Making) (caller : Uic) (id : FileId) (s s' : St
 -- so it is where the requests of a making are granted, in a directory that is another file
 abbrev pub GrantedIsMade : Type 0
 GrantedIsMade =
-    (making : Making) (who : Who) (lun : ℕ) (s s' : Store) → FreeIsEmpty s → ((next_id s).number == making.directory.number) ≡ false →
+    (making : Making) (who : Who) (lun : ℕ) (s s' : Store) → ((next_id s).number == making.directory.number) ≡ false →
     Granted plain who (making_of making lun (next_id s)) s s' → HasMadeFile making who.caller (next_id s) s s'
 
 -- The file that was made holds the copy of the RT-11 file, of so many blocks.
@@ -72,9 +74,9 @@ pub record HasCopyOf (m : CopyMode) (name : List ℕ) (making : Making) (caller 
     pub blocks_are : length made.file.blocks ≡ blocks
     pub whole : All (λ block. length block ≡ 512) made.file.blocks
 
--- what a copy makes, entered with its name into its directory
+-- what a copy makes, entered with its name into its directory, which it never is itself
 abbrev pub CopiedHolds : Type 0
 CopiedHolds =
     (m : CopyMode) (name : List ℕ) (who : Who) (lun : ℕ) (dir : FileId) (to : List ℕ) (protection blocks : ℕ) (t : RtStore) (s s' : Store) →
-    FreeIsEmpty s → ((next_id s).number == dir.number) ≡ false → CopiesFromRt m name who lun dir to protection blocks t s s' →
+    CopiesFromRt m name who lun dir to protection blocks t s s' →
     (attr : List ℕ) × (pieces : List (List ℕ)) × HasCopyOf m name (as_file to dir protection attr pieces) who.caller (next_id s) blocks t s s'

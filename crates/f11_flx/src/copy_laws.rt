@@ -1,6 +1,12 @@
 //! Laws of copies between two volumes, over their plain stores, each the contract of a function that does nothing.
-ghost use Rattle.f11_fcp.specs.Lists.{store_of_volume};
+ghost use Rattle.std.specs.Prelude.{◌≡◌, true};
+ghost use Rattle.f11_fcp.specs.Lists.{is_sound, store_of_volume};
 ghost use Rattle.f11_flx.specs.CopyLaws as laws;
+ghost use Rattle.f11_flx.specs.Target.{rt_disk, rt_store};
+ghost use Rattle.f11_flx.specs.ThereAndBack as back;
+ghost use Rattle.f11_runs.specs.Standing.{AccessesStand};
+ghost use Rattle.f11_store.specs.Accesses.{FreeIsEmpty};
+ghost use Rattle.rt11_volume.specs.Verifying.Verdict.{IsSoundDisk};
 
 use crate::asked::Asked;
 use f11_dev::Device;
@@ -26,4 +32,23 @@ pub fn copies<S: Asked, E: Device>(rt: &RtAccepted<E>)
 /// Each block of a volume's files has 512 bytes, as each of an image has.
 pub fn blocks<D: Device>(volume: &Volume<D>)
     ensures whole { laws.BlocksAreWhole (store_of_volume volume.now) }
+{}
+
+/// No file of a volume is in a slot that isn't in use, and what tasks hold of a sound one is there.
+pub fn slots<D: Device>(volume: &Volume<D>)
+    ensures unused { FreeIsEmpty (store_of_volume volume.now) }
+    ensures held { is_sound volume.now ≡ true → AccessesStand (store_of_volume volume.now) }
+{}
+
+/// Each block of a sound RT-11 volume's files has 512 bytes.
+pub fn rt_blocks<E: Device>(rt: &RtAccepted<E>)
+    ensures whole { IsSoundDisk (rt_disk E.disk rt.now) → back.ContentsAreWhole (rt_store E.disk rt.now) }
+{}
+
+/// What comes back where two copies follow each other: from a volume to an RT-11 one and from there to any volume, and
+/// the other way round.
+pub fn there_and_back()
+    ensures file { back.FileComesBack }
+    ensures source { back.SourceIsKept }
+    ensures rt_file { back.RtFileComesBack }
 {}
