@@ -1,7 +1,7 @@
 -- Lists of what is asked, put together.
 use Rattle.std.proofs.Common.{◌≡◌, ◌⊎◌, inl, inr, ℕ, suc, ◌+◌, List, [], ◌∷◌, ◌++◌, length, refl, sym, ap, subst, arith}
 use Rattle.f11_store.specs.declared.refusals.Refusal.{Refusal}
-use Rattle.f11_flx.specs.Asking.{Asking, BreaksOff, Denies, Granted, Grants, Service, Tried, Who, reads, reads_of, writes, writes_of}
+use Rattle.f11_flx.specs.Asking.{Asking, BreaksOff, Denies, Granted, Grants, Service, Who, reads, reads_of, writes, writes_of}
 
 module _ {V : Type 0} (S : Service V) (who : Who) where
   pub granted-append : (xs ys : List Asking) (v w u : V) → Granted S who xs v w → Granted S who ys w u → Granted S who (xs ++ ys) v u

@@ -1,10 +1,10 @@
 -- What is read of a file, and what its copy is.
-use Rattle.std.proofs.Common.{◌≡◌, ℕ, ◌+◌, ◌*◌, ◌/◌, ◌≤◌, List, [], ◌∷◌, ◌++◌, length, take, drop, min, Option, Some, None, All, refl, sym, ap, ◌∙◌, subst, length-append, arith}
+use Rattle.std.proofs.Common.{◌≡◌, ℕ, ◌≤◌, List, ◌++◌, length, take, drop, Option, Some, None, All, refl, sym, ap, ◌∙◌, arith}
 use Rattle.std.specs.Prelude.{option_and_then, option_map}
 use Rattle.std.specs.List.{concat}
 use Rattle.std.proofs.lemmas.List.{take-append-drop, take-append-le}
 use Rattle.std.proofs.lemmas.List.Folds.{concat-append}
-use Rattle.f11_store.specs.File.{File, end_of, length_of, stated_end}
+use Rattle.f11_store.specs.File.{File, end_of, length_of}
 use Rattle.f11_flx.specs.Conversion.{copied_to_rt}
 use Rattle.f11_flx.specs.CopyToRt.{HasWholeBlocks}
 use Rattle.f11_flx.specs.Lines.{in_whole_blocks, text_of}
@@ -14,7 +14,7 @@ use Rattle.f11_flx.specs.Source.{StartsText, up_to_end}
 use Rattle.f11_flx.specs.Spelled.{image_of}
 use Rattle.f11_flx.specs.ToText.{HasNoText, converted_text, rest_of, text_left}
 use Rattle.f11_flx.specs.declared.layout.Layout.{Layout}
-use Rattle.f11_flx.specs.declared.mode.CopyMode.TheVariants.{Image, Text}
+use Rattle.f11_flx.specs.declared.mode.CopyMode.TheVariants.{Text}
 use Rattle.f11_flx.specs.declared.to_text.ToText.{ToText}
 use Rattle.f11_flx.proofs.PourLemmas.{whole-length}
 

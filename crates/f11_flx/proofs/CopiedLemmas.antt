@@ -1,5 +1,5 @@
 -- A copy to an RT-11 volume that was made, over the plain stores.
-use Rattle.std.proofs.Common.{◌≡◌, ◌⊎◌, inl, inr, ℕ, ◌+◌, ◌*◌, ◌/◌, ◌≤◌, Bool, true, List, [], ◌∷◌, ◌++◌, length, take, min, Some, All, refl, sym, ap, ◌∙◌, subst, arith}
+use Rattle.std.proofs.Common.{◌≡◌, ℕ, Bool, true, List, [], length, Some, All, refl, sym, ap, ◌∙◌, subst, arith}
 use Rattle.std.specs.List.{concat}
 use Rattle.f11_dev.specs.Disk.{Disk}
 use Rattle.f11_dev.specs.declared.device.Device.{Ghosts}
@@ -11,15 +11,13 @@ use Rattle.f11_store.specs.declared.files.FileId.{FileId}
 use Rattle.rt11_volume.specs.Verifying.Verdict.{IsSoundDisk}
 use Rattle.rt11_volume.specs.declared.volume.RtAccepted.{RtAccepted}
 use Rattle.f11_flx.specs.Asking.{Granted, Service, Who, plain}
-use Rattle.f11_flx.specs.CopyLaws.{IsReading}
-use Rattle.f11_flx.specs.CopyToRt.{CopiesToRt, HasCopy, reading, reading_of, walked_of}
+use Rattle.f11_flx.specs.CopyToRt.{CopiesToRt, reading, reading_of, walked_of}
 use Rattle.f11_flx.specs.Lines.{in_whole_blocks}
 use Rattle.f11_flx.specs.Seen.{IsSeenPlain}
 use Rattle.f11_flx.specs.Source.{StartsText, up_to_end}
 use Rattle.f11_flx.specs.Spelled.{image_of}
 use Rattle.f11_flx.specs.Target.{rt_disk, rt_store}
-use Rattle.f11_flx.specs.ToRt.{CopiesFile, CopiesLocked, rt_takes}
-use Rattle.f11_flx.specs.ToText.{converted_text, text_left}
+use Rattle.f11_flx.specs.ToRt.{CopiesFile}
 use Rattle.f11_flx.specs.declared.mode.CopyMode.{CopyMode}
 use Rattle.f11_flx.specs.declared.mode.CopyMode.TheVariants.{Image, Text}
 use Rattle.f11_flx.specs.declared.to_text.ToText.{ToText}

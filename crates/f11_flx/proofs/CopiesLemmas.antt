@@ -1,23 +1,23 @@
 -- Blocks that are read one by one, and given to a target as they are or as a text.
-use Rattle.std.proofs.Common.{◌≡◌, ◌⊎◌, inl, inr, ℕ, suc, ◌+◌, ◌-◌, ◌*◌, ◌/◌, ◌%◌, ◌<◌, ◌≤◌, false, List, [], ◌∷◌, ◌++◌, length, take, drop, replicate, Option, Some, None, All, refl, sym, ap, ◌∙◌, subst, append_assoc, append-nil, length-append, arith}
+use Rattle.std.proofs.Common.{◌≡◌, inl, inr, ℕ, ◌+◌, ◌-◌, ◌*◌, ◌%◌, ◌<◌, ◌≤◌, false, List, [], ◌∷◌, ◌++◌, length, take, replicate, Option, Some, None, All, refl, sym, ap, ◌∙◌, subst, append_assoc, append-nil, length-append, arith}
 use Rattle.std.specs.Prelude.{option_map}
 use Rattle.std.specs.List.{concat}
 use Rattle.std.proofs.lemmas.List.{length-replicate, length-take-le}
 use Rattle.std.proofs.lemmas.List.Elements.{All-append, All-cons, All-nil}
 use Rattle.std.proofs.lemmas.List.Folds.{concat-append}
 use Rattle.f11_store.specs.declared.refusals.Refusal.{Refusal}
-use Rattle.f11_flx.specs.Asking.{Asking, BreaksOff, Denies, Granted, Grants, Service, Who, reads, reads_of}
-use Rattle.f11_flx.specs.Copies.{CopiesBlocks, CopiesText, FailsToCopyBlocks, FailsToCopyText, HasLongerText, IsDenied, IsNoText, IsNotTaken}
-use Rattle.f11_flx.specs.Filling.{FailsToFinish, FailsToPour, Finishes, FinishesLast, FinishesNone, MeetsBadRecord, Out, Pours, Refusing, StopsTaking, Taking, Took, out_text, padded, pending}
+use Rattle.f11_flx.specs.Asking.{Denies, Granted, Grants, Service, Who, reads, reads_of}
+use Rattle.f11_flx.specs.Copies.{CopiesBlocks, CopiesText, FailsToCopyBlocks, FailsToCopyText}
+use Rattle.f11_flx.specs.Filling.{FailsToFinish, FailsToPour, Finishes, Out, Pours, Refusing, Taking, Took, out_text, padded, pending}
 use Rattle.f11_flx.specs.Lines.{in_whole_blocks}
-use Rattle.f11_flx.specs.ToText.{HasNoText, ends_record, rest_of, text_left}
+use Rattle.f11_flx.specs.ToText.{ends_record, rest_of, text_left}
 use Rattle.f11_flx.specs.declared.refusal.FlxRefusal.{FlxRefusal}
-use Rattle.f11_flx.specs.declared.refusal.FlxRefusal.TheVariants.{BadRecord, Files}
+use Rattle.f11_flx.specs.declared.refusal.FlxRefusal.TheVariants.{Files}
 use Rattle.f11_flx.specs.declared.to_text.ToText.{ToText}
 use Rattle.f11_flx.proofs.AskingLemmas.{reads-denied, reads-more}
 use Rattle.f11_flx.proofs.ConvertLemmas.{option_map-append}
 use Rattle.f11_flx.proofs.EndLemmas.{text_ends}
-use Rattle.f11_flx.proofs.PourLemmas.{option_map-longer, option_map-nothing, option_map-none, took-append, took-one, whole-length}
+use Rattle.f11_flx.proofs.PourLemmas.{option_map-nothing, took-append, took-one, whole-length}
 use Rattle.f11_flx.proofs.SmallLemmas.{some-one}
 
 -- whole blocks stay as they are

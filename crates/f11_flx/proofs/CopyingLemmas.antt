@@ -1,5 +1,5 @@
 -- What a copy to an RT-11 volume tells.
-use Rattle.std.proofs.Common.{◌≡◌, ℕ, Bool, true, false, not, List, Result, Ok, Err, IfErr, IfOk, refl, sym, ◌∙◌, subst}
+use Rattle.std.proofs.Common.{◌≡◌, ℕ, true, false, List, Result, Ok, Err, IfErr, IfOk, refl, sym, ◌∙◌, subst}
 use Rattle.f11_dev.specs.Disk.{Disk}
 use Rattle.f11_dev.specs.declared.device.Device.{Ghosts}
 use Rattle.f11_store.specs.declared.files.FileId.{FileId}

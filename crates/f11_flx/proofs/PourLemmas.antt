@@ -1,14 +1,14 @@
 -- A text that is converted into blocks, a step at a time.
-use Rattle.std.proofs.Common.{◌≡◌, ◌⊎◌, inl, inr, ℕ, zero, suc, ◌+◌, ◌-◌, ◌*◌, ◌<◌, ◌≤◌, ◌==◌, Bool, true, false, if◌then◌else◌, List, [], ◌∷◌, ◌++◌, length, take, drop, Option, Some, None, All, refl, sym, ap, ◌∙◌, subst, append_assoc, append-nil, length-append, length-drop, arith}
+use Rattle.std.proofs.Common.{◌≡◌, ◌⊎◌, inl, inr, ℕ, suc, ◌+◌, ◌-◌, ◌*◌, ◌<◌, ◌≤◌, ◌==◌, Bool, true, false, if◌then◌else◌, List, [], ◌∷◌, ◌++◌, length, take, drop, Option, Some, None, All, refl, sym, ap, ◌∙◌, subst, append-nil, length-append, length-drop, arith}
 use Rattle.std.specs.Prelude.{slice_range, option_map}
 use Rattle.std.specs.List.{concat}
 use Rattle.std.proofs.Math.Seq.{drop-length, take-add, take-length}
 use Rattle.std.proofs.lemmas.List.{drop-drop}
 use Rattle.std.proofs.lemmas.List.Elements.{All-append, All-cons, All-head, All-nil, All-tail}
 use Rattle.std.proofs.lemmas.List.Folds.{concat-append}
-use Rattle.f11_flx.specs.Filling.{FailsToPour, MeetsBadRecord, Out, Pouring, Pours, Refusing, StopsTaking, Taking, TakesNext, Took, out_text, pending}
+use Rattle.f11_flx.specs.Filling.{FailsToPour, Out, Pouring, Pours, Refusing, Taking, TakesNext, Took, out_text, pending}
 use Rattle.f11_flx.specs.Puts.{PutsAt}
-use Rattle.f11_flx.specs.ToText.{Converts, HasNoText, Stops, StopsAt, ending_of, ends_record, rest_of, text_left}
+use Rattle.f11_flx.specs.ToText.{Converts, HasNoText, Stops, StopsAt, rest_of, text_left}
 use Rattle.f11_flx.specs.Place.{ending_at}
 use Rattle.f11_flx.specs.declared.place.Place.{Place}
 use Rattle.f11_flx.specs.declared.place.Place.TheVariants as place

@@ -1,13 +1,12 @@
 -- A file that is locked, read and given up, by the plain store.
-use Rattle.std.proofs.Common.{◌≡◌, ◌⊎◌, inl, inr, ℕ, zero, suc, ◌+◌, ◌-◌, ◌/◌, ◌<◌, ◌≤◌, ◌==◌, ◌&&◌, Bool, true, false, not, nat_lt, is_some, is_none, if◌then◌else◌, List, [], ◌∷◌, ◌++◌, length, take, drop, Option, Some, None, Result, Ok, Err, unwrap_or, refl, sym, ap, ◌∙◌, subst, arith, length-take}
+use Rattle.std.proofs.Common.{◌≡◌, ◌⊎◌, inl, inr, ℕ, zero, suc, ◌+◌, ◌/◌, ◌<◌, ◌≤◌, ◌==◌, ◌&&◌, Bool, true, false, not, nat_lt, is_some, is_none, if◌then◌else◌, List, [], ◌∷◌, ◌++◌, length, take, drop, Option, Some, None, refl, sym, ap, ◌∙◌, subst, arith, length-take}
 use Rattle.std.specs.Prelude.{slice_index_or}
 use Rattle.std.proofs.lemmas.Bool.{eq-eqb, eqb-true, and_from, and_parts, le-ltb, ltb-false, ne_eqb}
 use Rattle.f11_store.specs.Causes.{Cause, causes_of, first_of, first_refusal, holds_none, is_bad, is_missing}
 use Rattle.f11_store.specs.Changes.{after_giving_up, is_due, with_access, without_file_at}
-use Rattle.f11_store.specs.File.{File, end_of, is_marked, length_of, no_file}
-use Rattle.f11_store.specs.Step.{MayRefuse, Refuses, Serves, attributes_of, block_at}
-use Rattle.f11_store.specs.Store.{Access, Store, file_held, file_named, file_of, id_in, is_accessed}
-use Rattle.f11_store.specs.declared.callers.Uic.{Uic}
+use Rattle.f11_store.specs.File.{File, end_of, is_marked, length_of}
+use Rattle.f11_store.specs.Step.{MayRefuse, attributes_of, block_at}
+use Rattle.f11_store.specs.Store.{Access, Store, file_held, file_named, id_in, is_accessed}
 use Rattle.f11_store.specs.declared.files.Attr.{Attr}
 use Rattle.f11_store.specs.declared.files.FileId.{FileId}
 use Rattle.f11_store.specs.declared.files.Mode.TheVariants as mode
@@ -15,7 +14,7 @@ use Rattle.f11_store.specs.declared.refusals.Refusal.{Refusal}
 use Rattle.f11_store.specs.declared.requests.Reply.TheVariants as reply
 use Rattle.f11_store.specs.declared.requests.Request.TheVariants as request
 use Rattle.f11_store.proofs.StoreLemmas.{none_first, none_rest}
-use Rattle.f11_flx.specs.Asking.{Asking, BreaksOff, Denies, Granted, Grants, Who, asks, counts, plain, reads, reads_of, told}
+use Rattle.f11_flx.specs.Asking.{BreaksOff, Denies, Granted, Grants, Who, asks, counts, plain, reads, reads_of, told}
 use Rattle.f11_flx.specs.CopyToRt.{reading, reading_of, walked_of}
 use Rattle.f11_flx.specs.CopyLaws.{AccessAloneIsRefused, IsNotAccessed, IsReading, ReadingIsOfFile, RefusedSourceStays, SourceStays}
 use Rattle.f11_flx.specs.Spelled.{image_of}

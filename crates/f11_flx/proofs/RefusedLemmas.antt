@@ -1,5 +1,5 @@
 -- A copy to an RT-11 volume that was refused, over the plain stores.
-use Rattle.std.proofs.Common.{◌≡◌, ◌⊎◌, inl, inr, ℕ, ◌+◌, ◌-◌, ◌*◌, ◌/◌, ◌%◌, ◌<◌, ◌≤◌, ◌||◌, Bool, true, false, List, [], ◌∷◌, ◌++◌, length, take, drop, replicate, min, Option, Some, None, All, refl, sym, ap, ◌∙◌, subst, length-append, length-take, arith}
+use Rattle.std.proofs.Common.{◌≡◌, ◌⊎◌, inl, inr, ℕ, ◌+◌, ◌-◌, ◌*◌, ◌/◌, ◌%◌, ◌≤◌, Bool, true, false, List, [], ◌∷◌, ◌++◌, length, take, drop, replicate, Some, None, All, refl, sym, ap, ◌∙◌, subst, length-append, length-take, arith}
 use Rattle.std.specs.List.{concat}
 use Rattle.std.proofs.lemmas.List.{take-append-drop, take-take}
 use Rattle.std.proofs.lemmas.List.Elements.{All-take}
@@ -13,29 +13,26 @@ use Rattle.f11_store.specs.declared.files.Attr.{Attr}
 use Rattle.f11_store.specs.declared.files.FileId.{FileId}
 use Rattle.f11_store.specs.declared.files.Mode.TheVariants as mode
 use Rattle.f11_store.specs.declared.refusals.Refusal.{Refusal}
-use Rattle.f11_store.specs.declared.refusals.Refusal.TheVariants.{Damaged}
-use Rattle.f11_store.specs.declared.requests.Reply.{Reply}
 use Rattle.f11_store.specs.declared.requests.Reply.TheVariants as reply
 use Rattle.f11_store.specs.declared.requests.Request.TheVariants as request
 use Rattle.rt11_volume.specs.Calls.{has_failed}
-use Rattle.rt11_volume.specs.Files.{is_fault}
 use Rattle.rt11_volume.specs.Verifying.Verdict.{IsSoundDisk}
 use Rattle.rt11_volume.specs.declared.refusal.RtRefusal.{RtRefusal}
 use Rattle.rt11_volume.specs.declared.volume.RtAccepted.{RtAccepted}
 use Rattle.f11_flx.specs.Asking.{BreaksOff, Denies, Granted, Grants, Service, Who, asks, counts, plain, reads_of, told}
 use Rattle.f11_flx.specs.Conversion.{copied_to_rt}
-use Rattle.f11_flx.specs.Copies.{CopiesText, FailsToCopyText, IsDenied, IsNoText, IsNotTaken}
-use Rattle.f11_flx.specs.CopyToRt.{FailsToCopyToRt, GivesUp, HasNoPlace, HasWholeBlocks, reading, reading_of}
+use Rattle.f11_flx.specs.Copies.{FailsToCopyText, IsDenied}
+use Rattle.f11_flx.specs.CopyToRt.{FailsToCopyToRt, GivesUp, HasNoPlace, HasWholeBlocks, reading}
 use Rattle.f11_flx.specs.Filling.{Took}
 use Rattle.f11_flx.specs.Lines.{in_whole_blocks}
 use Rattle.f11_flx.specs.Records.{layout_of}
 use Rattle.f11_flx.specs.Refusal.{is_lethal}
 use Rattle.f11_flx.specs.Seen.{IsSeenPlain}
-use Rattle.f11_flx.specs.Source.{FailsAs, LacksLength, StartsText, TellsNothing, TellsSource, is_attr, up_to_end}
+use Rattle.f11_flx.specs.Source.{FailsAs, StartsText, TellsNothing, TellsSource, up_to_end}
 use Rattle.f11_flx.specs.Spelled.{image_of}
-use Rattle.f11_flx.specs.Target.{Makes, RefusesBlock, rt_disk, rt_store}
-use Rattle.f11_flx.specs.ToRt.{CopiesFile, CopiesLocked, CountsAs, FailsLocked, FailsToCopyFile, FailsToCount, FailsToFill, GaveUp, IsUndone, Undoes, nowhere_refuses, nowhere_takes, rt_refuses, rt_takes}
-use Rattle.f11_flx.specs.ToText.{HasNoText, converted_text, rest_of, text_left}
+use Rattle.f11_flx.specs.Target.{Makes, rt_disk, rt_store}
+use Rattle.f11_flx.specs.ToRt.{CopiesFile, CopiesLocked, CountsAs, FailsLocked, FailsToCopyFile, FailsToCount, FailsToFill, GaveUp, Undoes, nowhere_refuses, nowhere_takes, rt_refuses, rt_takes}
+use Rattle.f11_flx.specs.ToText.{converted_text, rest_of, text_left}
 use Rattle.f11_flx.specs.declared.mode.CopyMode.{CopyMode}
 use Rattle.f11_flx.specs.declared.mode.CopyMode.TheVariants.{Image, Text}
 use Rattle.f11_flx.specs.declared.refusal.FlxRefusal.{FlxRefusal}
@@ -48,7 +45,7 @@ use Rattle.f11_flx.proofs.PourLemmas.{whole-length}
 use Rattle.f11_flx.proofs.ReadingLemmas.{IsFree, accessed, count-denied, counted, given-up, giving-denied, held, reading-of-file, reads-are, reads-denied, told-denied, told-is}
 use Rattle.f11_flx.proofs.RtCopyLemmas.{has-places, took-puts}
 use Rattle.f11_flx.proofs.SeenLemmas.{breaks-seen, granted-seen, reading-all}
-use Rattle.f11_flx.proofs.SmallLemmas.{or-false, some-one}
+use Rattle.f11_flx.proofs.SmallLemmas.{or-false}
 
 pub true-false : true ≡ false → ⊥
 true-false h = absurd (cc)

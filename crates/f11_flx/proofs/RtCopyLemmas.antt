@@ -1,12 +1,11 @@
 -- Blocks of a file on an RT-11 volume, written one after another.
-use Rattle.std.proofs.Common.{◌≡◌, ◌≢◌, ℕ, zero, suc, ◌+◌, ◌-◌, ◌*◌, ◌<◌, ◌≤◌, ◌||◌, if◌then◌else◌, Bool, true, false, List, [], ◌∷◌, ◌++◌, length, take, drop, slice_set, Result, refl, sym, ap, ◌∙◌, subst, append_assoc, append-nil, length-append, length-set, arith}
+use Rattle.std.proofs.Common.{◌≡◌, ℕ, suc, ◌+◌, ◌<◌, ◌||◌, if◌then◌else◌, Bool, false, List, [], ◌∷◌, ◌++◌, length, take, drop, slice_set, refl, sym, ap, ◌∙◌, subst, append_assoc, append-nil, length-set, arith}
 use Rattle.std.specs.List.{concat}
 use Rattle.std.proofs.Math.Seq.{take-add}
 use Rattle.std.proofs.lemmas.List.{drop-set, take_all, take-set}
 use Rattle.f11_dev.specs.Disk.{Disk}
 use Rattle.f11_dev.specs.declared.device.Device.{Ghosts}
-use Rattle.rt11_volume.specs.Calls.{has_failed, volume_device}
-use Rattle.rt11_volume.specs.Entry.{is_same_name}
+use Rattle.rt11_volume.specs.Calls.{has_failed}
 use Rattle.rt11_volume.specs.Laws.{HasGone, HasMade, HasReplaced, KeepsOtherNames}
 use Rattle.rt11_volume.specs.Named.{files_named}
 use Rattle.rt11_volume.specs.Store.{Area, RtStore}

@@ -1,22 +1,20 @@
 -- What a copy to an RT-11 volume leaves there.
-use Rattle.std.proofs.Common.{◌≡◌, ◌≢◌, ◌⊎◌, inl, inr, ℕ, ◌+◌, ◌≤◌, ◌||◌, Bool, true, false, List, [], ◌∷◌, ◌++◌, length, refl, sym, ap, ◌∙◌, subst, append-nil, arith}
+use Rattle.std.proofs.Common.{◌≡◌, ◌⊎◌, inl, inr, ℕ, Bool, true, false, List, [], length, refl, sym, ap, ◌∙◌, subst}
 use Rattle.f11_dev.specs.Disk.{Disk}
 use Rattle.f11_dev.specs.declared.device.Device.{Ghosts}
 use Rattle.f11_store.specs.declared.files.FileId.{FileId}
 use Rattle.rt11_volume.specs.Calls.{has_failed}
 use Rattle.rt11_volume.specs.Files.{is_fault}
-use Rattle.rt11_volume.specs.Laws.{HasMade}
 use Rattle.rt11_volume.specs.Store.{RtStore, rt_store_of}
 use Rattle.rt11_volume.specs.Verifying.Verdict.{IsRtAccepted, IsSoundDisk}
-use Rattle.rt11_volume.specs.declared.refusal.RtRefusal.{RtRefusal}
 use Rattle.rt11_volume.specs.declared.volume.RtAccepted.{RtAccepted}
 use Rattle.f11_flx.specs.Asking.{Service, Who}
 use Rattle.f11_flx.specs.Copies.{FailsToCopyBlocks, FailsToCopyText}
 use Rattle.f11_flx.specs.Refusal.{is_lethal}
 use Rattle.f11_flx.specs.RtOutcome.{HasSameFiles, LeavesRt, is_rt_fault}
 use Rattle.f11_flx.specs.Source.{CopiesAs, FailsAs, up_to_end}
-use Rattle.f11_flx.specs.Target.{Fares, Makes, Puts, Refused, Replaces, RefusesBlock, rt_disk, rt_store}
-use Rattle.f11_flx.specs.ToRt.{CopiesFile, CopiesLocked, FailsLocked, FailsToCopyFile, FailsToCount, FailsToFill, Fills, GaveUp, Undoes, nowhere_refuses, nowhere_takes, rt_refuses, rt_takes}
+use Rattle.f11_flx.specs.Target.{Fares, Makes, Replaces, rt_disk, rt_store}
+use Rattle.f11_flx.specs.ToRt.{CopiesFile, FailsLocked, FailsToCopyFile, FailsToCount, FailsToFill, GaveUp, Undoes, nowhere_refuses, nowhere_takes, rt_refuses, rt_takes}
 use Rattle.f11_flx.specs.declared.mode.CopyMode.{CopyMode}
 use Rattle.f11_flx.specs.declared.mode.CopyMode.TheVariants.{Image, Text}
 use Rattle.f11_flx.specs.declared.refusal.FlxRefusal.{FlxRefusal}

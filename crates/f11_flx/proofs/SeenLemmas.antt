@@ -1,5 +1,5 @@
 -- What answers, seen as the plain store.
-use Rattle.std.proofs.Common.{◌≡◌, ◌⊎◌, inl, inr, ℕ, Bool, true, false, List, [], ◌∷◌, ◌++◌, refl, sym, ap, ◌∙◌, subst}
+use Rattle.std.proofs.Common.{◌≡◌, inl, inr, ℕ, Bool, true, false, List, [], ◌∷◌, ◌++◌, refl, sym, ap, subst}
 use Rattle.f11_store.specs.Store.{Store}
 use Rattle.f11_store.specs.declared.files.Attr.{Attr}
 use Rattle.f11_store.specs.declared.files.FileId.{FileId}
@@ -7,7 +7,7 @@ use Rattle.f11_store.specs.declared.files.Mode.TheVariants as mode
 use Rattle.f11_store.specs.declared.refusals.Refusal.{Refusal}
 use Rattle.f11_store.specs.declared.requests.Reply.TheVariants as reply
 use Rattle.f11_store.specs.declared.requests.Request.TheVariants as request
-use Rattle.f11_flx.specs.Asking.{Asking, BreaksOff, Denies, Granted, Grants, Service, Who, asks, counts, plain, reads_of, told}
+use Rattle.f11_flx.specs.Asking.{Asking, BreaksOff, Granted, Grants, Service, Who, asks, counts, plain, reads_of, told}
 use Rattle.f11_flx.specs.CopyToRt.{reading}
 use Rattle.f11_flx.specs.Seen.{IsSeenPlain}
 use Rattle.f11_flx.specs.Refusal.{is_lethal}

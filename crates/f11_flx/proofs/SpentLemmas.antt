@@ -1,21 +1,18 @@
 -- A copy on a Files-11 volume that an earlier request has failed.
-use Rattle.std.proofs.Common.{◌≡◌, ◌⊎◌, inl, inr, ℕ, suc, ◌||◌, Bool, true, false, List, [], ◌∷◌, Result, Ok, Err, refl, sym, ap, ◌∙◌, subst}
+use Rattle.std.proofs.Common.{◌≡◌, inl, inr, ℕ, Bool, true, false, List, Result, Ok, Err, refl, sym, ap, ◌∙◌}
 use Rattle.f11_dev.specs.Disk.{Disk}
 use Rattle.f11_dev.specs.declared.device.Device.{Ghosts}
 use Rattle.f11_store.specs.declared.files.FileId.{FileId}
 use Rattle.f11_store.specs.declared.files.Mode.TheVariants as mode
 use Rattle.f11_store.specs.declared.refusals.Refusal.{Refusal}
-use Rattle.f11_store.specs.declared.refusals.Refusal.TheVariants.{VolumeFailed, Damaged}
+use Rattle.f11_store.specs.declared.refusals.Refusal.TheVariants.{VolumeFailed}
 use Rattle.f11_store.specs.declared.requests.Reply.{Reply}
-use Rattle.f11_store.specs.declared.requests.Reply.TheVariants as reply
 use Rattle.f11_store.specs.declared.requests.Request.{Request}
 use Rattle.f11_store.specs.declared.requests.Request.TheVariants as request
-use Rattle.f11_files.specs.Answers.{is_refused}
-use Rattle.f11_fcp.specs.Handles.{is_failed}
-use Rattle.f11_fcp.specs.Serving.{Serving, is_spent, state_in}
+use Rattle.f11_fcp.specs.Serving.{is_spent, state_in}
 use Rattle.f11_fcp.specs.declared.volume.Volume.{Volume}
 use Rattle.rt11_volume.specs.declared.volume.RtAccepted.{RtAccepted}
-use Rattle.f11_flx.specs.Asking.{Asking, BreaksOff, Denies, Grants, Who, asks, counts, reads, reads_of, told, writes}
+use Rattle.f11_flx.specs.Asking.{Asking, Denies, Grants, Who, asks, counts, reads, told, writes}
 use Rattle.f11_flx.specs.Copying.{of_volume}
 use Rattle.f11_flx.specs.ToRt.{CopiesFile, FailsToCopyFile}
 use Rattle.f11_flx.specs.declared.mode.CopyMode.{CopyMode}

@@ -1,5 +1,5 @@
 -- Each block of a volume's files has 512 bytes, as each of an image has.
-use Rattle.std.proofs.Common.{◌≡◌, inl, inr, ℕ, ◌==◌, nat_le, Bool, true, false, List, [], length, Option, Some, None, if◌then◌else◌, unwrap_or, refl, ap, subst, ◌∙◌, arith}
+use Rattle.std.proofs.Common.{◌≡◌, inl, inr, ℕ, ◌==◌, nat_le, Bool, true, false, [], length, Option, Some, None, if◌then◌else◌, unwrap_or, refl, ap, subst, ◌∙◌, arith}
 use Rattle.std.specs.Option.{option_and_then}
 use Rattle.std.proofs.lemmas.Bool.{cases_lt}
 use Rattle.std.proofs.lemmas.List.{get_or_past}

@@ -1,14 +1,14 @@
 -- A text that is converted into the blocks of a file, a step at a time.
-use Rattle.std.proofs.Common.{◌≡◌, inl, inr, ℕ, suc, ◌+◌, ◌-◌, ◌*◌, ◌<◌, ◌≤◌, List, [], ◌∷◌, ◌++◌, length, take, drop, All, refl, sym, ap, ◌∙◌, subst, append_assoc, append-nil, length-append, length-drop, arith}
+use Rattle.std.proofs.Common.{◌≡◌, inl, inr, ℕ, suc, ◌+◌, ◌-◌, ◌*◌, ◌<◌, ◌≤◌, List, [], ◌∷◌, ◌++◌, length, take, drop, refl, sym, ap, ◌∙◌, subst, append_assoc, append-nil, length-append, length-drop, arith}
 use Rattle.std.specs.Prelude.{slice_range}
 use Rattle.std.specs.List.{concat}
 use Rattle.std.proofs.Math.Seq.{drop-length, take-add, take-length}
 use Rattle.std.proofs.lemmas.List.{drop-drop}
-use Rattle.std.proofs.lemmas.List.Elements.{All-append, All-cons, All-head, All-nil, All-tail}
+use Rattle.std.proofs.lemmas.List.Elements.{All-append, All-cons, All-nil}
 use Rattle.std.proofs.lemmas.List.Folds.{concat-append}
 use Rattle.f11_bytes.proofs.PartLemmas.{length-slice_range}
 use Rattle.f11_store.specs.declared.refusals.Refusal.{Refusal}
-use Rattle.f11_flx.specs.Asking.{Asking, Denies, Granted, Service, Who, writes, writes_of}
+use Rattle.f11_flx.specs.Asking.{Denies, Granted, Service, Who, writes, writes_of}
 use Rattle.f11_flx.specs.Filling.{Out, pending}
 use Rattle.f11_flx.specs.Puts.{PutsAt}
 use Rattle.f11_flx.specs.ToRecords.{ConvertsText, GoesOn, HasLongLine, StopsText, bytes_to_come}

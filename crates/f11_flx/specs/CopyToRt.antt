@@ -7,7 +7,6 @@ use Rattle.f11_store.specs.Store.{Store, file_named}
 use Rattle.f11_store.specs.declared.files.Attr.{Attr}
 use Rattle.f11_store.specs.declared.files.FileId.{FileId}
 use Rattle.f11_store.specs.declared.files.Mode.TheVariants as mode
-use Rattle.f11_store.specs.declared.refusals.Refusal.{Refusal}
 use Rattle.f11_store.specs.declared.requests.Reply.TheVariants as reply
 use Rattle.f11_store.specs.declared.requests.Request.TheVariants as request
 use Rattle.f11_dev.specs.Disk.{Disk}

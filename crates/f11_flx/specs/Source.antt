@@ -1,5 +1,5 @@
 -- What reading a source tells, to whose attributes and length its copy goes (profile).
-use Rattle.std.specs.Prelude.{◌≡◌, ◌⊎◌, ℕ, ◌+◌, ◌*◌, ◌/◌, List, [], ◌∷◌, ◌++◌, min, None, Bool, true, false}
+use Rattle.std.specs.Prelude.{◌≡◌, ◌⊎◌, ℕ, ◌+◌, ◌*◌, ◌/◌, List, [], ◌∷◌, min, None, Bool, true, false}
 use Rattle.std.specs.List.{concat}
 use Rattle.f11_store.specs.File.{File, length_of, stated_end}
 use Rattle.f11_store.specs.declared.files.Attr.{Attr}
@@ -8,7 +8,7 @@ use Rattle.f11_store.specs.declared.refusals.Refusal.{Refusal}
 use Rattle.f11_store.specs.declared.requests.Reply.{Reply}
 use Rattle.f11_store.specs.declared.requests.Reply.TheVariants as reply
 use Rattle.f11_store.specs.declared.requests.Request.TheVariants as request
-use Rattle.f11_flx.specs.Asking.{Asking, BreaksOff, Denies, Fails, Granted, Grants, Service, Who, counts, told}
+use Rattle.f11_flx.specs.Asking.{Denies, Fails, Granted, Grants, Service, Who, counts, told}
 use Rattle.f11_flx.specs.Copies.{CopiesBlocks, CopiesText, FailsToCopyBlocks, FailsToCopyText}
 use Rattle.f11_flx.specs.Filling.{Refusing, Taking}
 use Rattle.f11_flx.specs.Records.{layout_of}
@@ -16,7 +16,7 @@ use Rattle.f11_flx.specs.ToText.{converted_text, rest_of, text_left}
 use Rattle.f11_flx.specs.declared.mode.CopyMode.{CopyMode}
 use Rattle.f11_flx.specs.declared.mode.CopyMode.TheVariants.{Image, Text}
 use Rattle.f11_flx.specs.declared.refusal.FlxRefusal.{FlxRefusal}
-use Rattle.f11_flx.specs.declared.refusal.FlxRefusal.TheVariants.{BadRecord, Files}
+use Rattle.f11_flx.specs.declared.refusal.FlxRefusal.TheVariants.{BadRecord}
 use Rattle.f11_flx.specs.declared.to_text.ToText.{ToText}
 
 -- the reply tells attributes

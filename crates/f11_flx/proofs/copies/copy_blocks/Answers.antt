@@ -1,4 +1,3 @@
-use Rattle.std.proofs.Common.{arith}
 use Rattle.f11_flx.specs.Asking.{who_asks}
 use Rattle.f11_flx.proofs.CopiesLemmas.{blocks-denied, blocks-more, blocks-refused, blocks-start}
 use Rattle.f11_flx.proofs.copies.copy_blocks.Goals as goal
