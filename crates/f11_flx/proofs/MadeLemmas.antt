@@ -52,9 +52,6 @@ such-created making who s t h =
     }
 
 module _ (making : Making) (who : Who) (lun : ℕ) (id : FileId) (s : Store) where
-  Such : List (List ℕ) → Store → Type 0
-  Such blocks t = IsSuch making who.caller blocks id.number t
-
   -- blocks are allocated
   such-extended : (n : ℕ) (t u : Store) → IsOpenIn who.caller id s who lun t → IsSuch making who.caller [] id.number t → Granted plain who (extension lun n) t u → IsSuch making who.caller (zero_blocks n) id.number u
   such-extended n t u o h = by (n == 0) refl

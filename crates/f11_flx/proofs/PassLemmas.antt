@@ -221,16 +221,6 @@ in-whole-part bytes n is some few =
     ap (λ (k : ℕ). bytes ++ replicate ((512 - k % 512) % 512) 0) is ∙ ap (λ (k : ℕ). bytes ++ replicate k 0) (omega (arith, some, few))
 
 module _ {V : Type 0} (S : Service V) (who : Who) (lun : ℕ) where
-  pub flush-none : (o : Out) (end : ℕ) (v : V) → o.to ≡ 0 → end ≡ o.place * 512 + o.to → Flushes S who lun o o end v v
-  flush-none o end v empty is = record {
-    pieces = [];
-    granted = refl;
-    place = omega arith;
-    whole = All-nil is-whole;
-    content = ap (λ n. in_whole_blocks (take n o.block)) (sym empty);
-    end_is = is ∙ omega (arith, empty, ap (λ n. length (take n o.block)) empty);
-  }
-
   -- so many bytes are filled
   filled : (o : Out) (block : List ℕ) → length block ≡ 512 → o.to < 512 → block ≡ take o.to o.block ++ replicate (512 - o.to) 0 → length (take o.to o.block) ≡ o.to
   filled o block size room is =
@@ -248,15 +238,6 @@ module _ {V : Type 0} (S : Service V) (who : Who) (lun : ℕ) where
     whole = All-cons is-whole p.block [] full (All-nil is-whole);
     content = append-nil p.block ∙ last-is o p.block full some room is;
     end_is = end-is ∙ omega (arith, filled o p.block full room is);
-  }
-
-  pub flush-refused : (o p : Out) (e : Refusal) (v w : V) → length p.block ≡ 512 → 0 < o.to → o.to < 512 → p.block ≡ take o.to o.block ++ replicate (512 - o.to) 0 → p.place ≡ o.place →
-      Denies S who (writes lun (suc p.place) p.block) e v w → FailsToFlush S who lun o e v w
-  flush-refused o p e v w full some room is same d = record {
-    last = p.block;
-    denied = subst (λ k. Denies S who (writes lun (suc k) p.block) e v w) same d;
-    size = full;
-    content = last-is o p.block full some room is;
   }
 
   -- the end of the text: what is to come of it

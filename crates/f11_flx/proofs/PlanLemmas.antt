@@ -14,10 +14,9 @@ use Rattle.f11_flx.specs.Asking.{Denies, Who, writes}
 use Rattle.f11_flx.specs.Dry.{dry}
 use Rattle.f11_flx.specs.Passes.{CopiesFile, FailsToCopyFile, IsCopied}
 use Rattle.f11_flx.specs.Planning.{FailsToPlan, Plans}
-use Rattle.f11_flx.specs.RtSource.{FindsFile, HasContents, Looks, WhereContents}
+use Rattle.f11_flx.specs.RtSource.{FindsFile, HasContents}
 use Rattle.f11_flx.specs.Spelled.{image_attributes}
 use Rattle.f11_flx.specs.Target.{rt_disk, rt_store}
-use Rattle.f11_flx.specs.declared.mode.CopyMode.{CopyMode}
 use Rattle.f11_flx.specs.declared.mode.CopyMode.TheVariants.{Image, Text}
 use Rattle.f11_flx.specs.declared.refusal.FlxRefusal.{FlxRefusal}
 use Rattle.f11_flx.specs.declared.refusal.FlxRefusal.TheVariants.{BadRecord, Files, LineTooLong, Rt}
@@ -111,6 +110,3 @@ module _ {E : Type 0} {met : Ghosts E} (disk : E → Disk) (name : List ℕ) whe
     none = λ s contents has.
         h.none contents (h.reads.are (stays-sound disk false a b f.looks s) contents (same-contents disk name contents false a b f.looks has)) (f.length_is s contents has);
   }
-
-  pub not-found : (e : RtRefusal) (m : CopyMode) (a b : RtAccepted E met) → Rattle.f11_flx.specs.RtSource.FindsNoFile disk name e a b → FailsToPlan disk m name (Rt e) a b
-  not-found e m a b h = record { looks = h.looks; alive = h.alive; dead = h.dead; why = λ s. h.why }

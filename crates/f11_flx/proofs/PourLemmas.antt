@@ -8,12 +8,11 @@ use Rattle.std.proofs.lemmas.List.Elements.{All-append, All-cons, All-head, All-
 use Rattle.std.proofs.lemmas.List.Folds.{concat-append}
 use Rattle.f11_flx.specs.Filling.{FailsToPour, Out, Pouring, Pours, Refusing, Taking, TakesNext, Took, out_text, pending}
 use Rattle.f11_flx.specs.Puts.{PutsAt}
-use Rattle.f11_flx.specs.ToText.{Converts, HasNoText, Stops, StopsAt, rest_of, text_left}
+use Rattle.f11_flx.specs.ToText.{Converts, Stops, StopsAt, rest_of, text_left}
 use Rattle.f11_flx.specs.Place.{ending_at}
 use Rattle.f11_flx.specs.declared.place.Place.{Place}
 use Rattle.f11_flx.specs.declared.place.Place.TheVariants as place
 use Rattle.f11_flx.specs.declared.refusal.FlxRefusal.{FlxRefusal}
-use Rattle.f11_flx.specs.declared.refusal.FlxRefusal.TheVariants.{BadRecord}
 use Rattle.f11_flx.specs.declared.to_text.ToText.{ToText}
 use Rattle.f11_flx.proofs.ConvertLemmas.{option_map-append}
 
@@ -27,11 +26,6 @@ whole-length (b ∷ more) whole =
 pub option_map-nothing : (o : Option (List ℕ)) → option_map (λ (text : List ℕ). [] ++ text) o ≡ o
 option_map-nothing None = refl
 option_map-nothing (Some text) = refl
-
--- none is none, whatever stands before it
-pub option_map-none : (a : List ℕ) (o : Option (List ℕ)) → option_map (λ (text : List ℕ). a ++ text) o ≡ None → o ≡ None
-option_map-none a None none = refl
-option_map-none a (Some text) none = absurd (cc)
 
 -- what stands before a text is part of it
 pub option_map-longer : (a : List ℕ) (o : Option (List ℕ)) (text : List ℕ) → option_map (λ (t : List ℕ). a ++ t) o ≡ Some text → length a ≤ length text
@@ -55,10 +49,6 @@ ending-small (place.Within left pad) = by (left == 0)
 ending-small (place.LineFeed pad) = omega arith
 ending-small place.Pad = omega arith
 
--- whatever follows, there is no text
-none-before : (a b : List ℕ) (o : Option (List ℕ)) (r : Option (List ℕ)) → option_map (λ (text : List ℕ). a ++ text) o ≡ option_map (λ (text : List ℕ). b ++ text) r → r ≡ None → o ≡ None
-none-before a b o r same none = option_map-none a o (same ∙ ap (option_map (λ (text : List ℕ). b ++ text)) none)
-
 module _ {V : Type 0} (K : Taking V) (name : List ℕ) where
   pub took-append : (place : ℕ) (xs ys : List (List ℕ)) (old now new : V) → Took K name place xs old now → Took K name (place + length xs) ys now new → Took K name place (xs ++ ys) old new
   took-append place [] ys old now new h k = subst (λ v. Took K name place ys v new) h (subst (λ n. Took K name n ys now new) (omega arith) k)
@@ -67,18 +57,6 @@ module _ {V : Type 0} (K : Taking V) (name : List ℕ) where
 
   pub took-one : (place : ℕ) (xs : List (List ℕ)) (x : List ℕ) (old now new : V) → Took K name place xs old now → K name (place + length xs) x now new → Took K name place (xs ++ x ∷ []) old new
   took-one place xs x old now new h k = took-append place xs (x ∷ []) old now new h (new, k, refl)
-
-  pub pouring-start : (t : ToText) (source : List ℕ) (o : Out) (v : V) → Pouring K name t t source 0 o o v v
-  pouring-start t source o v = record {
-    pieces = [];
-    took = refl;
-    place = omega arith;
-    whole = All-nil (λ b. length b ≡ 512);
-    text = λ more long. sym (option_map-nothing (out_text o t (source ++ more)));
-    read = omega arith;
-    within = omega arith;
-    few = omega arith;
-  }
 
   -- bytes are read, and more of the block is filled
   pub pouring-read : (t0 t t' : ToText) (source : List ℕ) (used read next : ℕ) (o0 o o' : Out) (v w : V) →
@@ -153,19 +131,6 @@ module _ {V : Type 0} (K : Taking V) (name : List ℕ) where
       rest : ((read ≡ length (drop used source)) ⊎ (rest_of t ≡ 0)) → rest_of t ≡ rest_of t0 - length source
       rest (inl all) = omega (arith, h.read, all, low, length-drop {A = ℕ} used source)
       rest (inr none) = omega (arith, h.read, none, h.within)
-
-  -- a record goes past the end
-  pub pouring-bad : (R : Refusing V) (t0 t : ToText) (source : List ℕ) (used : ℕ) (o0 o : Out) (v w : V) → Pouring K name t0 t source used o0 o v w →
-      HasNoText t (drop used source) → FailsToPour K R name t0 source o0 BadRecord v w
-  pouring-bad R t0 t source used o0 o v w h none = inl (record {
-    bad = refl;
-    none = λ more long.
-        let enough : rest_of t ≤ length (drop used source ++ more) = omega (arith, h.read, h.within, long, length-append {A = ℕ} source more, length-append {A = ℕ} (drop used source) more, length-drop {A = ℕ} used source) in
-        none-before (pending o0) (concat h.pieces) (text_left t0 (source ++ more)) (out_text o t (drop used source ++ more)) (h.text more long)
-        (ap (option_map (λ (text : List ℕ). pending o ++ text)) (none more enough));
-    pieces = h.pieces;
-    took = h.took;
-  })
 
   -- a block is refused
   pub pouring-refused : (R : Refusing V) (t0 t : ToText) (source : List ℕ) (used : ℕ) (o0 o : Out) (e : FlxRefusal) (v w u : V) →

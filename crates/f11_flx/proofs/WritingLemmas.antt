@@ -11,9 +11,9 @@ use Rattle.f11_store.specs.declared.refusals.Refusal.{Refusal}
 use Rattle.f11_flx.specs.Asking.{Denies, Granted, Service, Who, writes, writes_of}
 use Rattle.f11_flx.specs.Filling.{Out, pending}
 use Rattle.f11_flx.specs.Puts.{PutsAt}
-use Rattle.f11_flx.specs.ToRecords.{ConvertsText, GoesOn, HasLongLine, StopsText, bytes_to_come}
+use Rattle.f11_flx.specs.ToRecords.{ConvertsText, GoesOn, StopsText, bytes_to_come}
 use Rattle.f11_flx.specs.Writing.{FailsToWrite, Onward, Writes, WritesNext, out_bytes}
-use Rattle.f11_flx.specs.declared.refusal.FlxRefusal.TheVariants.{Files, LineTooLong}
+use Rattle.f11_flx.specs.declared.refusal.FlxRefusal.TheVariants.{Files}
 use Rattle.f11_flx.specs.declared.to_records.ToRecords.{ToRecords}
 use Rattle.f11_flx.proofs.AskingLemmas.{granted-append, writes-append}
 use Rattle.f11_flx.proofs.PourLemmas.{whole-length}
@@ -119,14 +119,6 @@ module _ {V : Type 0} (S : Service V) (who : Who) (lun : ℕ) where
         let empty : Out = record { block = []; to = 0; place = 0 } in
         let on = onward-then s0 s s (source ++ more) (rest ++ more) (rest ++ more) o0 o empty h.pieces (o.block ∷ []) (h.onward more) (onward-give s (rest ++ more) o empty full size refl) in
         (out_bytes empty s (rest ++ more), on.bytes);
-  }
-
-  -- a line is too long
-  pub writes-long : (s0 s : ToRecords) (source rest : List ℕ) (o0 o : Out) (v w : V) → Writes S who lun s0 s source rest o0 o v w → HasLongLine s rest → FailsToWrite S who lun s0 source o0 LineTooLong v w
-  writes-long s0 s source rest o0 o v w h long = record {
-    pieces = h.pieces;
-    granted = h.granted;
-    long = λ more. sym (h.onward more).long ∙ long more;
   }
 
   -- few blocks are written meanwhile
