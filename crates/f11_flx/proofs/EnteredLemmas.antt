@@ -1,7 +1,7 @@
 -- A file that is made is the same file when a name was entered.
-use Rattle.std.proofs.Common.{◌≡◌, inl, inr, ℕ, ◌≤◌, ◌==◌, ◌&&◌, ◌||◌, not, Bool, true, false, nat_lt, if◌then◌else◌, List, [], ◌∷◌, Option, Some, None, is_none, option_map, refl, sym, ap, ◌∙◌, subst, arith}
+use Rattle.std.proofs.Common.{◌≡◌, inl, inr, ℕ, ◌≤◌, ◌==◌, ◌||◌, not, Bool, true, false, nat_lt, if◌then◌else◌, List, [], ◌∷◌, Option, Some, None, is_none, option_map, refl, sym, ap, ◌∙◌, subst, arith}
 use Rattle.std.specs.Prelude.{unwrap_or}
-use Rattle.std.proofs.lemmas.Bool.{eq-eqb, eqb-true, ltb-true, or_right}
+use Rattle.std.proofs.lemmas.Bool.{and_from, eq-eqb, eqb-true, le-ltb, ne_eqb, or_right}
 use Rattle.f11_store.specs.Causes.{Cause, ◌⇐◌, first_refusal, is_bad, is_missing, lacks_change}
 use Rattle.f11_store.specs.Changes.{EntersAt, EntersAtEnd, Grows, grown_file, with_change, with_end_after, with_entry, with_grown_file}
 use Rattle.f11_store.specs.Directory.{entry_count, index_of_empty, needs_block, record_bytes}
@@ -17,7 +17,7 @@ use Rattle.f11_store.specs.declared.refusals.Refusal.TheVariants.{BadArgument, M
 use Rattle.f11_store.specs.declared.requests.Request.TheVariants as request
 use Rattle.f11_store.proofs.FateLaws.{mark-of-cleared}
 use Rattle.f11_store.proofs.StoreLemmas.{same_number}
-use Rattle.f11_runs.proofs.AccessLemmas.{there-file, true-false}
+use Rattle.f11_runs.proofs.AccessLemmas.{there-file}
 use Rattle.f11_flx.specs.Asking.{BreaksOff, Who, plain}
 use Rattle.f11_flx.specs.CopyFromRt.{Making, entry}
 use Rattle.f11_flx.proofs.NewLemmas.{IsNewIn, none-of}
@@ -79,37 +79,19 @@ protectable : (id : FileId) (f : File) (word : ℕ) (who : Who) (t : Store) → 
 protectable id f word who t low volume sequence owner unmarked h =
     let named : file_of t id ≡ Some h.now = there-file t id (record { file = h.now; is = h.there; sequence = h.sequence ∙ sequence }) in
     let file : file_named t id ≡ h.now = ap (λ o. unwrap_or o no_file) named in
-    let bad : is_bad id ≡ false = bad-not (id.number == 0) (id.volume == 0) zero-not (eq-eqb id.volume 0 volume) in
+    let bad : is_bad id ≡ false = bad-not (id.number == 0) (id.volume == 0) (ne_eqb id.number 0 (λ is. omega (arith, is, low))) (eq-eqb id.volume 0 volume) in
     let missing : is_missing t id ≡ false = ap (λ o. is_none o) named in
     let marked : is_marked (file_named t id) ≡ false = ap (λ x. is_marked x) file ∙ h.mark ∙ unmarked in
     let barred : lacks_change (change.Protect word) who.caller (file_named t id) ≡ false =
     ap (λ (x : File). not (is_of who.caller x.owner class.System || is_of who.caller x.owner class.Owner)) file
     ∙ ap (λ o. not (is_of who.caller o class.System || is_of who.caller o class.Owner)) (h.owner ∙ owner)
-    ∙ ap (λ b. not b) (or_right (is_of who.caller who.caller class.System) (is_of who.caller who.caller class.Owner) (and-both (who.caller.group == who.caller.group) (who.caller.member == who.caller.member) (same_number who.caller.group) (same_number who.caller.member))) in
+    ∙ ap (λ b. not b) (or_right (is_of who.caller who.caller class.System) (is_of who.caller who.caller class.Owner) (and_from (who.caller.group == who.caller.group) (who.caller.member == who.caller.member) (same_number who.caller.group) (same_number who.caller.member))) in
     let five : List Cause = (NoPrivilege ⇐ lacks_change (change.Protect word) who.caller (file_named t id)) ∷ [] in
     let four : List Cause = (Marked ⇐ is_marked (file_named t id)) ∷ five in
     let three : List Cause = (NoSuchFile ⇐ is_missing t id) ∷ four in
     let two : List Cause = (SystemFile ⇐ nat_lt id.number 4) ∷ three in
-    none-of (BadArgument ⇐ is_bad id) two bad (none-of (SystemFile ⇐ nat_lt id.number 4) three less-not (none-of (NoSuchFile ⇐ is_missing t id) four missing
+    none-of (BadArgument ⇐ is_bad id) two bad (none-of (SystemFile ⇐ nat_lt id.number 4) three (le-ltb id.number 4 (omega (arith, low))) (none-of (NoSuchFile ⇐ is_missing t id) four missing
     (none-of (Marked ⇐ is_marked (file_named t id)) five marked (none-of (NoPrivilege ⇐ lacks_change (change.Protect word) who.caller (file_named t id)) [] barred refl))))
-  where
-    and-both : (a b : Bool) → a ≡ true → b ≡ true → (a && b) ≡ true
-    and-both true b h k = k
-    and-both false b h k = absurd (true-false (sym h))
-
-    zero-not : (id.number == 0) ≡ false
-    zero-not = by (id.number == 0) refl
-      where
-        by : (b : Bool) → (id.number == 0) ≡ b → b ≡ false
-        by true is = absurd (omega (arith, eqb-true id.number 0 is, low))
-        by false is = refl
-
-    less-not : nat_lt id.number 4 ≡ false
-    less-not = by (nat_lt id.number 4) refl
-      where
-        by : (b : Bool) → nat_lt id.number 4 ≡ b → b ≡ false
-        by true is = absurd (omega (arith, ltb-true id.number 4 is, low))
-        by false is = refl
 
 -- of entering and protecting a new file nothing is refused but the entry: then all is as it was
 pub entry-refused : (making : Making) (who : Who) (id : FileId) (e : Refusal) (s t u : Store) → IsNewIn who.caller id s.access s t → BreaksOff plain who (entry making id) e t u → u ≡ t

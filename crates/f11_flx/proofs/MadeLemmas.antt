@@ -3,7 +3,7 @@ use Rattle.std.proofs.Common.{◌≡◌, ℕ, suc, ◌-◌, ◌==◌, Bool, true
 use Rattle.std.specs.Prelude.{slice_set}
 use Rattle.std.specs.List.{concat}
 use Rattle.std.proofs.Math.Seq.{set-append_seam}
-use Rattle.std.proofs.lemmas.Bool.{eqb-true}
+use Rattle.std.proofs.lemmas.Bool.{eqb-true, ne_eqb}
 use Rattle.f11_store.specs.Changes.{EntersAt, EntersAtEnd, Grows, file_created, grown_file, with_block, with_change, with_end_after, with_entry, with_replacement}
 use Rattle.f11_store.specs.Directory.{entry_count, index_of_empty, needs_block, record_bytes}
 use Rattle.f11_store.specs.File.{File, zero_blocks}
@@ -15,6 +15,7 @@ use Rattle.f11_store.specs.declared.files.Change.TheVariants as change
 use Rattle.f11_store.specs.declared.files.FileId.{FileId}
 use Rattle.f11_store.specs.declared.requests.Request.TheVariants as request
 use Rattle.f11_store.proofs.StoreLemmas.{same_number}
+use Rattle.f11_runs.proofs.AccessLemmas.{true-false}
 use Rattle.rt11_volume.specs.Files.{file_area}
 use Rattle.rt11_volume.specs.Store.{RtStore}
 use Rattle.f11_flx.specs.Asking.{Granted, Grants, Who, asks, plain, writes, writes_of}
@@ -168,14 +169,7 @@ made-of making who id s t s' apart h k g =
     }
   where
     other-way : (a b : ℕ) → (a == b) ≡ false → (b == a) ≡ false
-    other-way a b is = by (b == a) refl
-      where
-        never : (a b : ℕ) → a ≡ b → (a == b) ≡ false → ⊥
-        never a b same is = Rattle.f11_runs.proofs.AccessLemmas.true-false (sym (same_number a) ∙ ap (λ n. a == n) same ∙ is)
-
-        by : (c : Bool) → (b == a) ≡ c → c ≡ false
-        by true same = absurd (never a b (sym (eqb-true b a same)) is)
-        by false same = refl
+    other-way a b is = ne_eqb b a (λ same. true-false (sym (same_number a) ∙ ap (λ n. a == n) (sym same) ∙ is))
 
 -- what was granted up to the entry: a file was filled and closed
 record IsFilled (making : Making) (who : Who) (s s' : Store) : Type 0 where

@@ -1,7 +1,7 @@
 -- A file that is made, and undone, over the plain store.
-use Rattle.std.proofs.Common.{◌≡◌, ℕ, ◌+◌, ◌-◌, ◌<◌, ◌≤◌, ◌==◌, ◌&&◌, ◌||◌, not, Bool, true, false, nat_le, nat_lt, if◌then◌else◌, List, [], ◌∷◌, length, take, Option, Some, None, is_none, is_some, option_map, refl, sym, ap, ◌∙◌, subst, arith, length-append}
+use Rattle.std.proofs.Common.{◌≡◌, ℕ, ◌+◌, ◌-◌, ◌<◌, ◌≤◌, ◌==◌, ◌&&◌, ◌||◌, not, Bool, true, false, nat_lt, if◌then◌else◌, List, [], ◌∷◌, length, take, Option, Some, None, is_none, is_some, option_map, refl, sym, ap, ◌∙◌, subst, arith, length-append}
 use Rattle.std.specs.Prelude.{unwrap_or}
-use Rattle.std.proofs.lemmas.Bool.{eq-eqb, eqb-true, leb-false, leb-true, lt-ltb, ltb-true, and_parts, or_right}
+use Rattle.std.proofs.lemmas.Bool.{and_parts, eq-eqb, eqb-true, le-ltb, ltb-false, ne_eqb, or_right}
 use Rattle.std.proofs.lemmas.List.{length-replicate, length-set}
 use Rattle.f11_bytes.specs.Block.{zero_block}
 use Rattle.f11_store.specs.Accesses.{FreeIsEmpty}
@@ -123,14 +123,7 @@ enough-free : (t : Store) (who : Who) (lun n : ℕ) → first_refusal t who.task
 enough-free t who lun n none =
     let growth = none_rest (lacks right.Extend who.caller (file_held t who.task lun)) NoPrivilege _ (none_rest (cannot_write t who.task lun) NoSuchAccess _ (none_rest (n == 0) BadArgument _ none)) in
     let free = none_first (nat_lt t.free n) DeviceFull _ (none_rest (nat_lt 256 (length (file_held t who.task lun).held + need (file_held t who.task lun).room n)) TooManySegments _ growth) in
-    not-less t.free n free
-  where
-    not-less : (a b : ℕ) → nat_lt a b ≡ false → b ≤ a
-    not-less a b is = by (nat_le b a) refl
-      where
-        by : (c : Bool) → nat_le b a ≡ c → b ≤ a
-        by true h = leb-true b a h
-        by false h = absurd (true-false (sym (lt-ltb a b (omega (arith, leb-false b a h))) ∙ is))
+    ltb-false t.free n free
 
 pub length-zeros : (n : ℕ) → length (zero_blocks n) ≡ n
 unfolding zero_blocks
@@ -158,8 +151,8 @@ module _ (caller : Uic) (id : FileId) (s : Store) where
   deletable : (t : Store) (task : ℕ) → AccessesStand s → IsNewIn caller id s.access s t → first_refusal t task caller (request.Delete id) ≡ None
   deletable t task stand h =
       let file : file_named t id ≡ h.file = ap (λ o. unwrap_or o no_file) (named s.access t h) in
-      let bad : is_bad id ≡ false = bad-not (id.number == 0) (id.volume == 0) (zero-not id.number h.low) (eq-eqb id.volume 0 h.volume) in
-      let system : nat_lt id.number 6 ≡ false = less-not id.number h.low in
+      let bad : is_bad id ≡ false = bad-not (id.number == 0) (id.volume == 0) (ne_eqb id.number 0 (λ is. omega (arith, is, h.low))) (eq-eqb id.volume 0 h.volume) in
+      let system : nat_lt id.number 6 ≡ false = le-ltb id.number 6 h.low in
       let missing : is_missing t id ≡ false = ap (λ o. is_none o) (named s.access t h) in
       let marked : (is_marked (file_named t id) && is_accessed t id) ≡ false = ap (λ f. is_marked f && is_accessed t id) file ∙ ap (λ b. b && is_accessed t id) h.unmarked in
       let barred : lacks right.Delete caller (file_named t id) ≡ false =
@@ -170,20 +163,6 @@ module _ (caller : Uic) (id : FileId) (s : Store) where
       let two : List Cause = (SystemFile ⇐ nat_lt id.number 6) ∷ three in
       none-of (BadArgument ⇐ is_bad id) two bad (none-of (SystemFile ⇐ nat_lt id.number 6) three system (none-of (NoSuchFile ⇐ is_missing t id) four missing
       (none-of (Marked ⇐ (is_marked (file_named t id) && is_accessed t id)) five marked (none-of (NoPrivilege ⇐ lacks right.Delete caller (file_named t id)) [] barred refl))))
-    where
-      zero-not : (n : ℕ) → 6 ≤ n → (n == 0) ≡ false
-      zero-not n low = by (n == 0) refl
-        where
-          by : (b : Bool) → (n == 0) ≡ b → b ≡ false
-          by true is = absurd (omega (arith, eqb-true n 0 is, low))
-          by false is = refl
-
-      less-not : (n : ℕ) → 6 ≤ n → nat_lt n 6 ≡ false
-      less-not n low = by (nat_lt n 6) refl
-        where
-          by : (b : Bool) → nat_lt n 6 ≡ b → b ≡ false
-          by true is = absurd (omega (arith, ltb-true n 6 is, low))
-          by false is = refl
 
   -- so it isn't refused
   pub undenied-delete : (who : Who) (t u : Store) (e : Refusal) → who.caller ≡ caller → AccessesStand s → IsNewIn caller id s.access s t → Denies plain who (asks (request.Delete id)) e t u → ⊥
