@@ -21,7 +21,7 @@ use Rattle.f11_flx.specs.Lines.{has_long_line, in_whole_blocks, lines_of, text_o
 use Rattle.f11_flx.specs.MakingLaws.{HasCopyOf}
 use Rattle.f11_flx.specs.Records.{records_of}
 use Rattle.f11_flx.specs.Spelled.{image_attributes, image_of}
-use Rattle.f11_flx.specs.ThereAndBack.{FileComesBack, HasImageOf, HasLinesOf, HasTextOf, IsBack, IsContentBack, RtFileComesBack, SourceIsKept}
+use Rattle.f11_flx.specs.ThereAndBack.{FileComesBack, HasImageOf, HasLinesOf, HasTextOf, IsBack, IsRtBack, AreWhole, RtFileComesBack, SourceIsKept}
 use Rattle.f11_flx.specs.declared.mode.CopyMode.{CopyMode}
 use Rattle.f11_flx.specs.declared.mode.CopyMode.TheVariants.{Image, Text}
 use Rattle.f11_flx.proofs.BackLemmas.{copied-has-lines, image_comes_back}
@@ -148,7 +148,7 @@ module _ (file : File) (name : List ℕ) (t : RtStore) (content : List ℕ) (blo
       }
 
   -- its blocks as they are
-  rt-image-back : (h : IsCopied Image name t blocks file) → copied_to_rt Image file ≡ Some content → All (λ block. length block ≡ 512) (file_area h.source).contents → content ≡ concat (file_area h.source).contents
+  rt-image-back : (h : IsCopied Image name t blocks file) → copied_to_rt Image file ≡ Some content → AreWhole (file_area h.source).contents → content ≡ concat (file_area h.source).contents
   rt-image-back h converted whole =
       let contents = (file_area h.source).contents in
       let copy : record { content = concat contents; attr = image_attributes (length contents) } ≡ h.copy = some-one h.converted in
@@ -159,13 +159,13 @@ module _ (file : File) (name : List ℕ) (t : RtStore) (content : List ℕ) (blo
 pub rt-file-comes-back : RtFileComesBack
 rt-file-comes-back m who who' lun lun' dir name name' to day protection blocks back s s' s'' t u u' h there =
     let k = is-copied m name who lun dir to protection blocks t s s' h in
-    record {
-      source = k.source;
-      file = there.made.file;
-      one = there.made.one;
-      back = subst (λ (l : List ℕ). IsContentBack m (file_area k.source).contents l) (sym there.made.content_is) (by m k there.converted);
-    }
+    record { source = k.source; file = there.made.file; one = there.made.one; back = by m k there.converted }
   where
-    by : (m : CopyMode) → (k : IsCopied m name t blocks (file_named s' (next_id s))) → copied_to_rt m (file_named s' (next_id s)) ≡ Some there.content → IsContentBack m (file_area k.source).contents there.content
-    by Image k converted = λ whole. rt-image-back (file_named s' (next_id s)) name t there.content blocks k converted whole
-    by Text k converted = rt-text-back (file_named s' (next_id s)) name t there.content blocks k converted
+    by : (m : CopyMode) → (k : IsCopied m name t blocks (file_named s' (next_id s))) → copied_to_rt m (file_named s' (next_id s)) ≡ Some there.content →
+        IsRtBack m (file_area k.source).contents there.made.file.contents
+    by Image k converted =
+        let content : AreWhole (file_area k.source).contents → concat there.made.file.contents ≡ concat (file_area k.source).contents = λ whole. there.made.content_is ∙ rt-image-back (file_named s' (next_id s)) name t there.content blocks k converted whole in
+        record { content_is = content; each = λ whole whole'. same-blocks (file_area k.source).contents there.made.file.contents whole whole' (content whole) }
+    by Text k converted =
+        subst (λ (l : List ℕ). HasTextOf (file_area k.source).contents l) (sym there.made.content_is)
+        (rt-text-back (file_named s' (next_id s)) name t there.content blocks k converted)

@@ -63,17 +63,26 @@ pub record HasTextOf (blocks : List (List ℕ)) (content : List ℕ) : Type 0 wh
   pub lines_are : content ≡ in_whole_blocks (text_of (lines_of (without_zeros (concat blocks))))
   pub same : (records : List (List ℕ)) → All IsOneLine records → concat blocks ≡ in_whole_blocks (text_of records) → content ≡ concat blocks
 
+-- each block has 512 bytes
+abbrev pub AreWhole : List (List ℕ) → Type 0
+AreWhole blocks = All (λ block. length block ≡ 512) blocks
+
+-- Of blocks came back all, where each had 512 bytes.
+pub record HasBlocksOf (source blocks : List (List ℕ)) : Type 0 where
+  pub content_is : AreWhole source → concat blocks ≡ concat source
+  pub each : AreWhole source → AreWhole blocks → blocks ≡ source
+
 -- what comes back of an RT-11 file of these blocks
-abbrev pub IsContentBack : CopyMode → List (List ℕ) → List ℕ → Type 0
-IsContentBack Image blocks content = All (λ block. length block ≡ 512) blocks → content ≡ concat blocks
-IsContentBack Text blocks content = HasTextOf blocks content
+abbrev pub IsRtBack : CopyMode → List (List ℕ) → List (List ℕ) → Type 0
+IsRtBack Image source blocks = HasBlocksOf source blocks
+IsRtBack Text source blocks = HasTextOf source (concat blocks)
 
 -- The only file of a name is what came back of the file of another.
-pub record HasContentOf (m : CopyMode) (name name' : List ℕ) (t t' : RtStore) : Type 0 where
+pub record HasRtBack (m : CopyMode) (name name' : List ℕ) (t t' : RtStore) : Type 0 where
   pub source : HasFile name t
   pub file : Area
   pub one : files_named name' t' ≡ file ∷ []
-  pub back : IsContentBack m (file_area source).contents (concat file.contents)
+  pub back : IsRtBack m (file_area source).contents file.contents
 
 -- a file of an RT-11 volume that was copied to a Files-11 volume, and from there to any RT-11 volume, came back
 abbrev pub RtFileComesBack : Type 0
@@ -81,8 +90,8 @@ RtFileComesBack =
     (m : CopyMode) (who who' : Who) (lun lun' : ℕ) (dir : FileId) (name name' to : List ℕ) (day protection blocks back : ℕ)
     (s s' s'' : Store) (t u u' : RtStore) →
     CopiesFromRt m name who lun dir to protection blocks t s s' → CopiesToRt m who' lun' (next_id s) name' day back s' s'' u u' →
-    HasContentOf m name name' t u'
+    HasRtBack m name name' t u'
 
 -- each block of a store's files has 512 bytes
 abbrev pub ContentsAreWhole : RtStore → Type 0
-ContentsAreWhole t = (name : List ℕ) (file : HasFile name t) → All (λ block. length block ≡ 512) (file_area file).contents
+ContentsAreWhole t = (name : List ℕ) (file : HasFile name t) → AreWhole (file_area file).contents
