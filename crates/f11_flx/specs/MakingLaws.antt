@@ -20,8 +20,8 @@ use Rattle.f11_flx.specs.CopyFromRt.{CopiesFromRt, FailsToCopyFromRt, FailsToMak
 use Rattle.f11_flx.specs.declared.mode.CopyMode.{CopyMode}
 use Rattle.f11_flx.specs.declared.refusal.FlxRefusal.{FlxRefusal}
 
--- where no file is in a slot that isn't in use, and accesses are to files that are there, a making that is refused and undone leaves all as it
--- was before
+-- where no file is in a slot that isn't in use, and accesses are to files that are there, a making that is refused and undone leaves all
+-- as it was before
 abbrev pub RefusedMakingLeaves : Type 0
 RefusedMakingLeaves =
     (making : Making) (who : Who) (lun : ℕ) (e : Refusal) (s s' : Store) → FreeIsEmpty s → AccessesStand s →
@@ -63,8 +63,8 @@ GrantedIsMade =
     Granted plain who (making_of making lun (next_id s)) s s' → HasMadeFile making who.caller (next_id s) s s'
 
 -- The file that was made holds the copy of the RT-11 file, of so many blocks.
-pub record HasCopyOf (m : CopyMode) (name : List ℕ) (making : Making) (caller : Uic) (id : FileId) (blocks : ℕ) (t : RtStore) (s s' : Store) :
-    Type 0
+pub record HasCopyOf (m : CopyMode) (name : List ℕ) (making : Making) (caller : Uic) (id : FileId) (blocks : ℕ) (t : RtStore)
+    (s s' : Store) : Type 0
   where
     pub source : HasFile name t
     pub copy : Copy
@@ -79,4 +79,5 @@ abbrev pub CopiedHolds : Type 0
 CopiedHolds =
     (m : CopyMode) (name : List ℕ) (who : Who) (lun : ℕ) (dir : FileId) (to : List ℕ) (protection blocks : ℕ) (t : RtStore) (s s' : Store) →
     CopiesFromRt m name who lun dir to protection blocks t s s' →
-    (attr : List ℕ) × (pieces : List (List ℕ)) × HasCopyOf m name (as_file to dir protection attr pieces) who.caller (next_id s) blocks t s s'
+    (attr : List ℕ) × (pieces : List (List ℕ)) ×
+    HasCopyOf m name (as_file to dir protection attr pieces) who.caller (next_id s) blocks t s s'
