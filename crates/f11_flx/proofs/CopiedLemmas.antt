@@ -76,7 +76,8 @@ module _ {V E : Type 0} {met : Ghosts E} (S : Service V) (view : V → Store) (i
           converted = ap (λ (x : List (List ℕ)). Some (concat x)) (sym image);
           blocks_are = omega (arith, whole-length b.given b.whole, number);
           asked = asked-of Image l.told.of l.blocks [] b.given g.0 r.of_is r.blocks_are refl image;
-          made = has-copy name count day b.given (rt_store disk rt) (rt_store disk l.fills.made) (rt_store disk rt') (l.fills.makes.made sound') (puts.replaced s1) number;
+          made = has-copy name count day b.given (rt_store disk rt) (rt_store disk l.fills.made) (rt_store disk rt') (l.fills.makes.made sound') (puts.replaced s1)
+              (l.fills.makes.lies sound') (puts.directory s1) number;
         }
     copied Text h =
         let l = h.copies in
@@ -102,5 +103,6 @@ module _ {V E : Type 0} {met : Ghosts E} (S : Service V) (view : V → Store) (i
           converted = copied-text f b.bytes text ∙ ap Some (sym b.pieces_are);
           blocks_are = omega (arith, whole-length b.pieces b.whole, number);
           asked = asked-of Text l.told.of l.blocks w.given b.given g.0 r.of_is r.blocks_are image' image;
-          made = has-copy name count day b.pieces (rt_store disk rt) (rt_store disk l.fills.made) (rt_store disk rt') (l.fills.makes.made sound') (puts.replaced s1) number;
+          made = has-copy name count day b.pieces (rt_store disk rt) (rt_store disk l.fills.made) (rt_store disk rt') (l.fills.makes.made sound') (puts.replaced s1)
+              (l.fills.makes.lies sound') (puts.directory s1) number;
         }

@@ -16,10 +16,11 @@ use Rattle.rt11_volume.specs.declared.volume.RtAccepted.{RtAccepted}
 use Rattle.f11_flx.specs.Asking.{Asking, BreaksOff, Denies, Granted, Grants, Service, Who, asks, counts, reads, reads_of, told}
 use Rattle.f11_flx.specs.Copies.{FailsToCopyText}
 use Rattle.f11_flx.specs.Ended.{EndsDenied, IsLast}
-use Rattle.f11_flx.specs.EndedToRt.{EndsHeld, EndsToRt, Holds, IsMadeInPart, is_holding}
+use Rattle.f11_flx.specs.EndedToRt.{EndsHeld, EndsToRt, HasAtMostOneMore, Holds, IsMadeInPart, is_holding}
 use Rattle.f11_flx.specs.Filling.{Refusing, Taking, Took}
 use Rattle.f11_flx.specs.Refusal.{is_lethal}
 use Rattle.f11_flx.specs.Source.{CopiesAs, FailsAs, TellsNothing, TellsSource, up_to_end}
+use Rattle.f11_flx.specs.Target.{rt_store}
 use Rattle.f11_flx.specs.ToRt.{
   CopiesLocked,
   CountsAs,
@@ -42,7 +43,8 @@ use Rattle.f11_flx.specs.declared.refusal.FlxRefusal.TheVariants.{BadRecord, Fil
 use Rattle.f11_flx.specs.declared.to_text.ToText.{ToText}
 use Rattle.f11_flx.proofs.AskingLemmas.{granted-append}
 use Rattle.f11_flx.proofs.EndedLemmas.{Cleanly, cleanly-all, cleanly-denied, cleanly-then}
-use Rattle.f11_flx.proofs.RtOutcomeLemmas.{copies-some}
+use Rattle.f11_flx.proofs.RtCopyLemmas.{has-made, took-puts}
+use Rattle.f11_flx.proofs.RtOutcomeLemmas.{copies-some, locked-leaves}
 
 abbrev held : Asking → Type 0
 held x = is_holding x ≡ true
@@ -289,11 +291,33 @@ module _ {V : Type 0} (S : Service V) (who : Who) (lun : ℕ) (name : List ℕ) 
           let t = copies-some disk name S who lun m k.copies.attr k.copies.blocks f.taken k.copies.walked k.left f.made k.filled f.copies in
           subst (λ x. IsMadeInPart disk name day a x) (sym u.1) (record { blocks = k.count; made = f.made; makes = f.makes; pieces = t.0; took = t.1 })
 
+      -- which on a sound disk is at most one file more
+      none-more : (a b : RtAccepted E met) → b ≡ a → HasAtMostOneMore disk name day a b
+      none-more a b left = subst (λ x. HasAtMostOneMore disk name day a x) (sym left) (record {
+        sound = λ s. s;
+        files = λ s. inl (record { named = refl; others = λ other apart. refl });
+      })
+
+      one-more : (a b : RtAccepted E met) → IsMadeInPart disk name day a b → HasAtMostOneMore disk name day a b
+      one-more a b k =
+          let puts = took-puts disk name 0 k.pieces k.made b k.took in
+          record {
+            sound = λ s. puts.sound (k.makes.sound s);
+            files = λ s. inr (
+              k.blocks,
+              has-made name k.blocks day k.pieces (rt_store disk a) (rt_store disk k.made) (rt_store disk b) (k.makes.made s) (puts.replaced (k.makes.sound s)),
+            );
+          }
+
+      most-one : (a b : RtAccepted E met) → (b ≡ a) ⊎ (IsMadeInPart disk name day a b) → HasAtMostOneMore disk name day a b
+      most-one a b (inl h) = none-more a b h
+      most-one a b (inr h) = one-more a b h
+
       -- an answer by which the copy ended
       came-ends : (m : CopyMode) (e : FlxRefusal) (v w : V) (a b : RtAccepted E met) → Came S who e v w →
           ((r : Refusal) → e ≡ Files r → (b ≡ a) ⊎ (IsMadeInPart disk name day a b)) →
           EndsToRt m S disk who lun file name day e v w a b
-      came-ends m (Files r) v w a b h left = record { files = broke-ends S who r v w h; target = inl (left r refl) }
+      came-ends m (Files r) v w a b h left = record { files = broke-ends S who r v w h; target = inl (left r refl); left = most-one a b (left r refl) }
       came-ends m (Rt r) v w a b h left = h
       came-ends m BadRecord v w a b h left = tt
       came-ends m LineTooLong v w a b h left = tt
@@ -319,6 +343,7 @@ module _ {V : Type 0} (S : Service V) (who : Who) (lun : ℕ) (name : List ℕ) 
               EndsToRt m S disk who lun file name day (Files r) v w a b
           denied r clean d =
               let c = held-cleanly S who v k.stopped (came-held S who k.refusal v k.stopped clean came) in
+              let kept = locked-leaves disk name S who lun file day m k.refusal k.opened k.stopped a b k.fails in
               record {
                 files = record { asked = c.asked; at = k.stopped; tried = c.tried; last = asks (request.Deaccess lun); is_last = inl d };
                 target = inr (record {
@@ -330,6 +355,7 @@ module _ {V : Type 0} (S : Service V) (who : Who) (lun : ℕ) (name : List ℕ) 
                   fails = k.fails;
                   denied = d;
                 });
+                left = record { sound = kept.sound clean; files = λ s. inl (kept.same clean s) };
               }
 
           by : GaveUp S who lun k.refusal e k.stopped w → EndsToRt m S disk who lun file name day e v w a b

@@ -1,12 +1,14 @@
 -- A copy from an RT-11 volume to a Files-11 volume.
-use Rattle.std.proofs.Common.{◌≡◌, ℕ, Bool, true, false, List, Result, Ok, Err, refl, sym, subst}
+use Rattle.std.proofs.Common.{◌≡◌, ℕ, Bool, true, false, List, Result, Ok, Err, refl, sym, ap, subst}
 use Rattle.f11_dev.specs.Disk.{Disk}
 use Rattle.f11_dev.specs.declared.device.Device.{Ghosts}
 use Rattle.f11_store.specs.declared.files.FileId.{FileId}
 use Rattle.f11_fcp.specs.Lists.{is_sound, store_of_volume}
 use Rattle.f11_fcp.specs.declared.volume.Volume.{Volume}
+use Rattle.rt11_volume.specs.Calls.{has_failed}
 use Rattle.rt11_volume.specs.Files.{is_fault as is_rt_fault}
 use Rattle.rt11_volume.specs.Verifying.Verdict.{IsSoundDisk}
+use Rattle.rt11_volume.specs.declared.refusal.RtRefusal.TheVariants.{Failed}
 use Rattle.rt11_volume.specs.declared.volume.RtAccepted.{RtAccepted}
 use Rattle.f11_flx.specs.Asking.{Who}
 use Rattle.f11_flx.specs.Copying.{AsksOnly, FaresFiles, KeepsFailed, MakesFile, ReadsRt, is_making, is_whole, of_rt, of_volume}
@@ -24,6 +26,7 @@ use Rattle.f11_flx.proofs.KeptLemmas.{copies-keep, copies-unfailed, fails-keep, 
 use Rattle.f11_flx.proofs.LooksLemmas.{copies-looks, fails-looks, is-rt-fault}
 use Rattle.f11_flx.proofs.NotMadeLemmas.{copy-refused, copy-undone}
 use Rattle.f11_flx.proofs.SmallLemmas.{not-true}
+use Rattle.f11_flx.proofs.SpentLemmas.{failed-made, failed-unasked, failed-unmade}
 use Rattle.f11_flx.proofs.TriedLemmas.{IsMaking, Tries, copies-tries, fails-tries}
 use Rattle.f11_flx.proofs.VolumeLemmas.{standing, unused, volume-seen}
 
@@ -53,12 +56,13 @@ fault-is BadRecord = refl
 fault-is LineTooLong = refl
 
 module _ {E : Type 0} {met : Ghosts E} (disk : E → Disk) where
-  reads-rt : (r : Result ℕ FlxRefusal) (b : Bool) (old new : RtAccepted E met) → of_rt is_rt_fault r ≡ b → Looks disk b old new → KeepsFailed disk r old new → ReadsRt disk r old new
-  reads-rt r b old new is h kept =
+  reads-rt : (r : Result ℕ FlxRefusal) (b : Bool) (old new : RtAccepted E met) → of_rt is_rt_fault r ≡ b → Looks disk b old new → KeepsFailed disk r old new → (has_failed old ≡ true → r ≡ Err (Rt Failed)) → ReadsRt disk r old new
+  reads-rt r b old new is h kept dead =
       let k = subst (λ x. Looks disk x old new) (sym is) h in
       record {
         fares = record { failures = k.fares.failures; quiet = k.fares.quiet; honest = k.fares.honest; next = k.fares.next };
         keeps = kept;
+        failed = dead;
         image = k.image;
         history = k.history;
       }
@@ -70,10 +74,12 @@ module _ {D E : Type 0} {met : Ghosts D} {met' : Ghosts E} (disk : E → Disk) (
   pub source-read : (blocks : ℕ) → CopiesFrom of_volume disk m who lun name dir to protection blocks a b v w → ReadsRt disk (given blocks) a b
   source-read blocks h = reads-rt disk (given blocks) false a b refl (copies-looks of_volume disk m who lun name dir to protection blocks a b v w h)
       (copies-unfailed of_volume disk m who lun name dir to protection blocks a b v w h)
+      (λ dead. absurd (failed-made of_volume disk m who lun name dir to protection a b v w dead blocks h))
 
   pub source-refused : (f : FlxRefusal) → FailsToCopyFrom of_volume disk m who lun name dir to protection f a b v w → ReadsRt disk (refused f) a b
   source-refused f h = reads-rt disk (refused f) (is-rt-fault f) a b (fault-is f) (fails-looks of_volume disk m who lun name f dir to protection a b v w h)
       (fails-unfailed of_volume disk m who lun name f dir to protection a b v w h)
+      (λ dead. ap refused (failed-unmade of_volume disk m who lun name dir to protection a b v w dead f h))
 
   pub file-made : (blocks : ℕ) → CopiesFrom of_volume disk m who lun name dir to protection blocks a b v w → MakesFile (given blocks) who v w
   file-made blocks h =
@@ -81,6 +87,7 @@ module _ {D E : Type 0} {met : Ghosts D} {met' : Ghosts E} (disk : E → Disk) (
       record {
         fares = record { failures = k.failures; quiet = k.quiet; honest = k.honest; next = k.next; spent = k.spent; accepted = k.accepted };
         keeps = copies-keep disk m who lun name dir to protection blocks a b v w h;
+        unasked = λ is. absurd (differ (Rt Failed) is);
         asked = asks-only (copies-tries of_volume disk m who lun name is_making making-requests dir to protection blocks a b v w h);
         undone = λ e is sound whole. absurd (differ e is);
       }
@@ -92,6 +99,9 @@ module _ {D E : Type 0} {met : Ghosts D} {met' : Ghosts E} (disk : E → Disk) (
   file-not-made f h = record {
     fares = fares f (fails-fares disk m who lun name f dir to protection a b v w h);
     keeps = fails-keep disk m who lun name f dir to protection a b v w h;
+    unasked = λ is.
+        let dead = (fails-unfailed of_volume disk m who lun name f dir to protection a b v w h).only is in
+        failed-unasked of_volume disk m who lun name dir to protection a b v w dead f h;
     asked = asks-only (fails-tries of_volume disk m who lun name is_making making-requests f dir to protection a b v w h);
     undone = λ e is sound whole. copy-undone of_volume disk m who lun name store_of_volume is_sound volume-seen f dir to protection a b v w (not-true (is_lethal f) whole) sound (unused v) (standing v sound) h;
   }

@@ -180,7 +180,6 @@ module _ {D : Type 0} {met : Ghosts D} where
   pub keeps-live : (f : FlxRefusal) (v w : Volume D met) → is_spent v ≡ false → (f ≡ Files VolumeFailed → ⊥) → KeepsSpent (refused f) v w
   keeps-live f v w alive other = record {
     only = λ is. absurd (other (same-refusal f (Files VolumeFailed) is));
-    refused = λ dead. absurd (true-false (sym dead ∙ alive));
     untouched = λ dead. absurd (true-false (sym dead ∙ alive));
   }
 
@@ -188,7 +187,6 @@ module _ {D : Type 0} {met : Ghosts D} where
   pub first-keeps : (who : Who) (r : Request) (e : Refusal) (v w : Volume D met) → Denies of_volume who (asks r) e v w → KeepsSpent (refused (Files e)) v w
   first-keeps who r e v w h = record {
     only = λ is. denied-asks who r v w (subst (λ d. Denies of_volume who (asks r) d v w) (same (same-refusal (Files e) (Files VolumeFailed) is)) h);
-    refused = λ dead. (dead-asks who r e v w dead h).0;
     untouched = λ dead. (dead-asks who r e v w dead h).1;
   }
     where
@@ -202,7 +200,7 @@ module _ {D : Type 0} {met : Ghosts D} where
       differ : Files Damaged ≡ Files VolumeFailed → ⊥
       differ is = cc
 
-  created-alive : (who : Who) (making : Making) (id : FileId) (v w : Volume D met) → Granted of_volume who (creation making id) v w → is_spent v ≡ false
+  pub created-alive : (who : Who) (making : Making) (id : FileId) (v w : Volume D met) → Granted of_volume who (creation making id) v w → is_spent v ≡ false
   created-alive who making id v w h = granted-unspent who (told (request.Create 0 (ident_with making.name) making.attr) (reply.Created id)) v h.0 h.1
 
 module _ {D E : Type 0} {met : Ghosts D} {met' : Ghosts E} (disk : E → Disk) (m : CopyMode) (who : Who) (lun : ℕ) (name : List ℕ) where
@@ -234,9 +232,9 @@ module _ {D E : Type 0} {met : Ghosts D} {met' : Ghosts E} (disk : E → Disk) (
 
   plan-keeps : (f : FlxRefusal) (a b : RtAccepted E met') (v : Volume D met) → FailsToPlan disk m name f a b → KeepsSpent (refused f) v v
   plan-keeps (Files e) a b v h = absurd h
-  plan-keeps (Rt e) a b v h = record { only = λ is. absurd (files-apart e VolumeFailed (same-refusal (Rt e) (Files VolumeFailed) is)); refused = λ dead. tt; untouched = λ dead. refl }
+  plan-keeps (Rt e) a b v h = record { only = λ is. absurd (files-apart e VolumeFailed (same-refusal (Rt e) (Files VolumeFailed) is)); untouched = λ dead. refl }
   plan-keeps BadRecord a b v h = absurd h
-  plan-keeps LineTooLong a b v h = record { only = λ is. absurd (differ (same-refusal LineTooLong (Files VolumeFailed) is)); refused = λ dead. tt; untouched = λ dead. refl }
+  plan-keeps LineTooLong a b v h = record { only = λ is. absurd (differ (same-refusal LineTooLong (Files VolumeFailed) is)); untouched = λ dead. refl }
     where
       differ : LineTooLong ≡ Files VolumeFailed → ⊥
       differ is = cc
@@ -247,7 +245,6 @@ module _ {D E : Type 0} {met : Ghosts D} {met' : Ghosts E} (disk : E → Disk) (
       let alive = created-alive who (as_file to dir protection h.attr []) k.id v k.created k.creates in
       record {
         only = λ is. absurd (no-answer blocks (Files VolumeFailed) is);
-        refused = λ dead. true-false (sym dead ∙ alive);
         untouched = λ dead. absurd (true-false (sym dead ∙ alive));
       }
 
@@ -273,7 +270,6 @@ module _ {E : Type 0} {met : Ghosts E} (disk : E → Disk) where
   pub alive-keeps : (r : Result ℕ FlxRefusal) (a b : RtAccepted E met) → has_failed a ≡ false → (r ≡ Err (Rt Failed) → ⊥) → KeepsFailed disk r a b
   alive-keeps r a b alive other = record {
     only = λ is. absurd (other is);
-    refused = λ dead. absurd (true-false (sym dead ∙ alive));
     untouched = λ dead. absurd (true-false (sym dead ∙ alive));
   }
 
@@ -281,7 +277,6 @@ module _ {E : Type 0} {met : Ghosts E} (disk : E → Disk) where
       (has_failed a ≡ true → (e ≡ Failed) × (disk (volume_device b) ≡ disk (volume_device a))) → KeepsFailed disk (refused (Rt e)) a b
   refused-keeps e a b alive dead = record {
     only = λ is. by (has_failed a) refl (same (same-refusal (Rt e) (Rt Failed) is));
-    refused = λ is. (dead is).0;
     untouched = λ is. (dead is).1;
   }
     where

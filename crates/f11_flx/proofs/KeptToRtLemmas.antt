@@ -17,7 +17,7 @@ use Rattle.rt11_volume.specs.declared.refusal.RtRefusal.TheVariants.{Failed}
 use Rattle.rt11_volume.specs.declared.volume.RtAccepted.{RtAccepted}
 use Rattle.f11_flx.specs.Asking.{Asking, Denies, Service, Who, asks}
 use Rattle.f11_flx.specs.Copies.{FailsToCopyText}
-use Rattle.f11_flx.specs.Copying.{KeepsFailed, KeepsSpent, MayRefuseFailed, of_volume}
+use Rattle.f11_flx.specs.Copying.{KeepsFailed, KeepsSpent, of_volume}
 use Rattle.f11_flx.specs.Ended.{IsLast}
 use Rattle.f11_flx.specs.EndedToRt.{EndsHeld}
 use Rattle.f11_flx.specs.Filling.{Took}
@@ -113,7 +113,6 @@ module _ {D : Type 0} {met : Ghosts D} (who : Who) where
           let alive = granted-unspent who (asks (request.Access file access.Locked lun)) v h.opened h.opens in
           record {
             only = λ is. absurd (no-answer count (Files VolumeFailed) is);
-            refused = λ dead. true-false (sym dead ∙ alive);
             untouched = λ dead. absurd (true-false (sym dead ∙ alive));
           }
 
@@ -132,18 +131,17 @@ module _ {D : Type 0} {met : Ghosts D} (who : Who) where
 -- and of the RT-11 volume
 module _ {E : Type 0} {met : Ghosts E} (disk : E → Disk) where
   -- nothing was asked of it
-  unasked : (f : FlxRefusal) (a b : RtAccepted E met) → (f ≡ Rt Failed → ⊥) → MayRefuseFailed (refused f) → b ≡ a → KeepsFailed disk (refused f) a b
-  unasked f a b other may left = record {
+  unasked : (f : FlxRefusal) (a b : RtAccepted E met) → (f ≡ Rt Failed → ⊥) → b ≡ a → KeepsFailed disk (refused f) a b
+  unasked f a b other left = record {
     only = λ is. absurd (other (same-refusal f (Rt Failed) is));
-    refused = λ dead. may;
     untouched = λ dead. ap (λ (x : RtAccepted E met). disk (volume_device x)) left;
   }
 
   unasked-files : (e : FlxRefusal) (r : Refusal) (a b : RtAccepted E met) → e ≡ Files r → b ≡ a → KeepsFailed disk (refused e) a b
-  unasked-files e r a b is left = subst (λ x. KeepsFailed disk (refused x) a b) (sym is) (unasked (Files r) a b (rt-apart r Failed) tt left)
+  unasked-files e r a b is left = subst (λ x. KeepsFailed disk (refused x) a b) (sym is) (unasked (Files r) a b (rt-apart r Failed) left)
 
   unasked-bad : (e : FlxRefusal) (a b : RtAccepted E met) → e ≡ BadRecord → b ≡ a → KeepsFailed disk (refused e) a b
-  unasked-bad e a b is left = subst (λ x. KeepsFailed disk (refused x) a b) (sym is) (unasked BadRecord a b bad-apart tt left)
+  unasked-bad e a b is left = subst (λ x. KeepsFailed disk (refused x) a b) (sym is) (unasked BadRecord a b bad-apart left)
 
   -- what is refused by a volume that hadn't failed
   taken-other : (name : List ℕ) (e : FlxRefusal) (place : ℕ) (last : List ℕ) (pieces : List (List ℕ)) (a b c : RtAccepted E met) → has_failed a ≡ false →
@@ -218,7 +216,6 @@ module _ {V E : Type 0} {met : Ghosts E} (S : Service V) (disk : E → Disk) (wh
       files : KeepsFailed disk (refused (Files h.refusal)) a b
       files = record {
         only = λ is. absurd (rt-apart h.refusal Failed (same-refusal (Files h.refusal) (Rt Failed) is));
-        refused = λ dead. tt;
         untouched = k.untouched;
       }
 

@@ -43,6 +43,7 @@ pub mod RtSourceLemmas
 pub mod SeenLemmas
 pub mod SizeLemmas
 pub mod SmallLemmas
+pub mod SpentLemmas
 pub mod TextLemmas
 pub mod ThereAndBackLemmas
 pub mod TriedLemmas

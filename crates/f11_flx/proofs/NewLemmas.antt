@@ -44,6 +44,9 @@ pub record IsNewIn (caller : Uic) (id : FileId) (accesses : ℕ → ℕ → Opti
   pub others : (n : ℕ) → (n == id.number) ≡ false → t.file n ≡ s.file n
   pub free : t.free + length_of file ≡ s.free
   pub slots : t.slots ≡ s.slots
+  pub bitmap-blocks : t.bitmap_blocks ≡ s.bitmap_blocks
+  pub index-bitmap-blocks : t.index_bitmap_blocks ≡ s.index_bitmap_blocks
+  pub limit : t.limit ≡ s.limit
   pub in-use : (n : ℕ) → (not (is_in file.held n) && t.in_use n) ≡ s.in_use n
   pub last : (n : ℕ) → s.in_use n ≡ true → t.last n ≡ s.last n
   pub low : 6 ≤ id.number
@@ -103,6 +106,9 @@ new-made making id who s t h =
       others = λ n apart. ap (λ b. if b then Some (file_created s (least_free s) who.caller 0 (ident_with making.name) making.attr) else s.file n) apart;
       free = omega arith;
       slots = refl;
+      bitmap-blocks = refl;
+      index-bitmap-blocks = refl;
+      limit = refl;
       in-use = λ n. used n (is_in (least_free s ∷ []) n) refl free.unused;
       last = λ n used. kept n (is_in (least_free s ∷ []) n) refl used free.unused;
       low = free.low;
@@ -179,6 +185,9 @@ module _ (caller : Uic) (id : FileId) (s : Store) where
         file = λ n. at n (n == id.number) refl;
         free = h.free;
         slots = h.slots;
+        bitmap_blocks = h.bitmap-blocks;
+        index_bitmap_blocks = h.index-bitmap-blocks;
+        limit = h.limit;
         in_use = h.in-use;
         last = h.last;
         access = h.access;
@@ -204,6 +213,9 @@ module _ (caller : Uic) (id : FileId) (s : Store) where
         others = h.others;
         free = h.free;
         slots = h.slots;
+        bitmap-blocks = h.bitmap-blocks;
+        index-bitmap-blocks = h.index-bitmap-blocks;
+        limit = h.limit;
         in-use = h.in-use;
         last = h.last;
         low = h.low;
@@ -255,6 +267,9 @@ module _ (caller : Uic) (id : FileId) (s : Store) where
           others = λ m apart. ap (λ b. if b then Some file else t.file m) apart ∙ h.others m apart;
           free = omega (arith, h.free, fits, length-append h.file.blocks (zero_blocks n), length-zeros n);
           slots = h.slots;
+          bitmap-blocks = h.bitmap-blocks;
+          index-bitmap-blocks = h.index-bitmap-blocks;
+          limit = h.limit;
           in-use = λ m. ap (λ b. not b && (is_in taken m || t.in_use m)) (in-two h.file.held taken m) ∙ used-more (is_in h.file.held m) (is_in taken m) (t.in_use m) (s.in_use m) (taken-free t grows.added m) (h.in-use m);
           last = λ m used. kept-last (is_in taken m) (is_in h.file.held m) (t.in_use m) (t.last m) (s.last m) (taken-free t grows.added m) (h.in-use m ∙ used) (h.last m used);
           low = h.low;
@@ -279,6 +294,9 @@ module _ (caller : Uic) (id : FileId) (s : Store) where
           others = λ m apart. ap (λ b. if b then option_map (with_block vbn block) (t.file id.number) else t.file m) apart ∙ h.others m apart;
           free = omega (arith, h.free, length-set h.file.blocks (vbn - 1) block);
           slots = h.slots;
+          bitmap-blocks = h.bitmap-blocks;
+          index-bitmap-blocks = h.index-bitmap-blocks;
+          limit = h.limit;
           in-use = h.in-use;
           last = h.last;
           low = h.low;
@@ -312,6 +330,9 @@ module _ (caller : Uic) (id : FileId) (s : Store) where
           others = h.others;
           free = h.free;
           slots = h.slots;
+          bitmap-blocks = h.bitmap-blocks;
+          index-bitmap-blocks = h.index-bitmap-blocks;
+          limit = h.limit;
           in-use = h.in-use;
           last = h.last;
           low = h.low;

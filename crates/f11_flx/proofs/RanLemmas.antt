@@ -35,9 +35,11 @@ use Rattle.f11_flx.specs.Refusal.{is_lethal}
 use Rattle.f11_flx.specs.ToRt.{CopiesFile, CopiesLocked, CountsAs, FailsLocked, FailsToCopyFile, FailsToFill, GaveUp, Undoes, nowhere_refuses, nowhere_takes, rt_refuses, rt_takes}
 use Rattle.rt11_volume.specs.Files.{is_fault as rt_fault}
 use Rattle.rt11_volume.specs.declared.volume.RtAccepted.{RtAccepted}
+use Rattle.f11_flx.proofs.KeptLemmas.{refused}
 use Rattle.f11_flx.proofs.KeptToRtLemmas.{copied-keeps, uncopied-keeps}
 use Rattle.f11_flx.proofs.RefusedLemmas.{copied-stays, refused-stays}
 use Rattle.f11_flx.proofs.SmallLemmas.{not-true, or-false}
+use Rattle.f11_flx.proofs.SpentLemmas.{spent-refused, spent-uncopied}
 use Rattle.f11_flx.proofs.VolumeLemmas.{parts-sound, volume-seen}
 
 -- Things were asked of a volume, and whether the last of them met a device fault, and failed the volume.
@@ -386,6 +388,7 @@ module _ {D : Type 0} {met : Ghosts D} (who : Who) (lun : ℕ) (name : List ℕ)
         record {
           fares = record { failures = h.failures; quiet = h.quiet; honest = h.honest; next = h.next; spent = h.spent; accepted = p.1 };
           keeps = copied-keeps who disk lun file name day m old new rt rt' count made;
+          spent = λ dead. absurd (spent-uncopied disk who lun name file day m old new rt rt' dead count made);
           asked = record { asked = h.asked; tried = h.tried; only = h.only };
           stays = λ sound whole. copied-stays of_volume store_of_volume is_sound volume-seen who lun file name (store_of_volume old) disk day m count old new rt rt' refl sound made;
         }
@@ -395,6 +398,7 @@ module _ {D : Type 0} {met : Ghosts D} (who : Who) (lun : ℕ) (name : List ℕ)
         record {
           fares = record { failures = h.failures; quiet = h.quiet; honest = h.honest; next = h.next; spent = h.spent; accepted = p.1 };
           keeps = uncopied-keeps who disk lun file name day m old new rt rt' e failed;
+          spent = λ dead. ap refused (spent-refused disk who lun name file day m old new rt rt' dead e failed);
           asked = record { asked = h.asked; tried = h.tried; only = h.only };
           stays = λ sound whole. refused-stays of_volume store_of_volume is_sound volume-seen who lun file name (store_of_volume old) disk day m e old new rt rt' refl sound (not-true (is_lethal e) whole) failed;
         }

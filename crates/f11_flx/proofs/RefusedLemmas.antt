@@ -289,17 +289,17 @@ module _ {V : Type 0} (S : Service V) (view : V → Store) (is_sound : V → Boo
           let a = opened-at old k.opened is sound k.opens in
           absurd (closing k.refusal k.left new (copied-at m k.count k.opened k.left rt k.filled a.1 k.copies) (undone-clean e (refusal.Files k.refusal) k.filled rt' k.undoes clean) k.denied)
 
-    module _ {E : Type 0} {met : Ghosts E} (disk : E → Disk) (day : ℕ) (rt : RtAccepted E met) (sound' : IsSoundDisk (rt_disk disk rt)) where
+    module _ {E : Type 0} {met : Ghosts E} (disk : E → Disk) (day : ℕ) (rt : RtAccepted E met) (sound' : has_failed rt ≡ false → IsSoundDisk (rt_disk disk rt)) where
       -- a file that was made takes each of its blocks
       all-taken : (count place : ℕ) (made between stopped : RtAccepted E met) (pieces : List (List ℕ)) (last : List ℕ) (e : FlxRefusal) →
           Makes disk name count day rt made → Took (rt_takes disk) name 0 pieces made between → rt_refuses disk name place last e between stopped → is_lethal e ≡ false → count ≤ place
       all-taken count place made between stopped pieces last e makes took refused clean =
           let puts = took-puts disk name 0 pieces made between took in
-          let s1 = makes.sound sound' in
+          let s1 = makes.sound (sound' makes.alive) in
           let alive : has_failed between ≡ false =
           puts.fares.next ∙ or-false (has_failed made) ∙ makes.fares.next ∙ or-false (has_failed rt) ∙ makes.alive in
           refused.past (puts.sound s1) alive (clean-of e (refusal.Rt refused.refusal) refused.is clean) count makes.few
-          (has-places name count day pieces (rt_store disk rt) (rt_store disk made) (rt_store disk between) (makes.made sound') (puts.replaced s1))
+          (has-places name count day pieces (rt_store disk rt) (rt_store disk made) (rt_store disk between) (makes.made (sound' makes.alive)) (puts.replaced s1))
 
       -- so a copy isn't refused whose blocks were counted
       none-refused : (m : CopyMode) (attr : List ℕ) (n count : ℕ) (v w x : V) (made stopped : RtAccepted E met) (e : FlxRefusal) → IsTold attr n v → CountsAs m S who lun name attr n count v w → IsAt w →

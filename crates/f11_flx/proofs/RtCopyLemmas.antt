@@ -1,5 +1,5 @@
 -- Blocks of a file on an RT-11 volume, written one after another.
-use Rattle.std.proofs.Common.{◌≡◌, ℕ, suc, ◌+◌, ◌<◌, ◌||◌, if◌then◌else◌, Bool, false, List, [], ◌∷◌, ◌++◌, length, take, drop, slice_set, refl, sym, ap, ◌∙◌, subst, append_assoc, append-nil, length-set, arith}
+use Rattle.std.proofs.Common.{◌≡◌, ℕ, suc, ◌+◌, ◌<◌, ◌||◌, if◌then◌else◌, Bool, true, false, List, [], ◌∷◌, ◌++◌, length, take, drop, slice_set, refl, sym, ap, ◌∙◌, subst, append_assoc, append-nil, length-set, arith}
 use Rattle.std.specs.List.{concat}
 use Rattle.std.proofs.Math.Seq.{take-add}
 use Rattle.std.proofs.lemmas.List.{drop-set, take_all, take-set}
@@ -8,10 +8,11 @@ use Rattle.f11_dev.specs.declared.device.Device.{Ghosts}
 use Rattle.rt11_volume.specs.Calls.{has_failed}
 use Rattle.rt11_volume.specs.Laws.{HasGone, HasMade, HasReplaced, KeepsOtherNames}
 use Rattle.rt11_volume.specs.Named.{files_named}
+use Rattle.rt11_volume.specs.Operations.{with_new_file}
 use Rattle.rt11_volume.specs.Store.{Area, RtStore}
 use Rattle.rt11_volume.specs.Verifying.Verdict.{IsSoundDisk}
 use Rattle.rt11_volume.specs.declared.volume.RtAccepted.{RtAccepted}
-use Rattle.f11_flx.specs.CopyToRt.{HasCopy}
+use Rattle.f11_flx.specs.CopyToRt.{HasCopy, HasSameDirectory, LiesInFirstArea}
 use Rattle.f11_flx.specs.Filling.{Took}
 use Rattle.f11_flx.specs.Target.{Fares, HasPlaces, Puts, Replaces, rt_disk, rt_store}
 use Rattle.f11_flx.specs.ToRt.{rt_takes}
@@ -62,12 +63,22 @@ has-written name k (b ∷ pieces) file more t t' was h =
       others = λ other apart. rest.others other apart ∙ one.others other apart;
     }
 
+directory-then : (t u v : RtStore) → HasSameDirectory t u → HasSameDirectory u v → HasSameDirectory t v
+directory-then t u v h k = k ∙ ap (λ (x : RtStore). record x { block = v.block }) h
+
+-- a file whose blocks are written lies where it lay
+pub still-lies : (name : List ℕ) (count day : ℕ) (t u v : RtStore) → LiesInFirstArea name count day t u → HasSameDirectory u v → LiesInFirstArea name count day t v
+still-lies name count day t u v h k = record {
+  area = h.area;
+  directory = directory-then (with_new_file t h.area.place h.area.i h.area.segment name count day) u v h.directory k;
+}
+
 module _ (name : List ℕ) (count day : ℕ) (pieces : List (List ℕ)) (t t1 t2 : RtStore) (made : HasMade name count day t t1) (puts : Replaces name 0 pieces t1 t2) where
   written : HasWritten name 0 pieces made.file [] t1 t2
   written = has-written name 0 pieces made.file [] t1 t2 made.one puts
 
-  pub has-copy : length pieces ≡ count → HasCopy name (concat pieces) count day t t2
-  has-copy size =
+  pub has-copy : LiesInFirstArea name count day t t1 → HasSameDirectory t1 t2 → length pieces ≡ count → HasCopy name (concat pieces) count day t t2
+  has-copy lies same size =
       let w = written in
       let all : w.contents ≡ pieces = sym (take_all (0 + length pieces) w.contents (omega (arith, w.size, made.blocks_are, size))) ∙ w.begins in
       record {
@@ -76,6 +87,20 @@ module _ (name : List ℕ) (count day : ℕ) (pieces : List (List ℕ)) (t t1 t2
         one = w.is;
         blocks_are = w.size ∙ made.blocks_are;
         content_is = ap concat all;
+        date_is = made.date_is;
+        unprotected = made.unprotected;
+        others = λ other apart. w.others other apart ∙ made.others other apart;
+        lies = still-lies name count day t t1 t2 lies same;
+      }
+
+  pub has-made : HasMade name count day t t2
+  has-made =
+      let w = written in
+      record {
+        file = record made.file { contents = w.contents };
+        none = made.none;
+        one = w.is;
+        blocks_are = w.size ∙ made.blocks_are;
         date_is = made.date_is;
         unprotected = made.unprotected;
         others = λ other apart. w.others other apart ∙ made.others other apart;
@@ -108,6 +133,7 @@ module _ {E : Type 0} {met : Ghosts E} (disk : E → Disk) where
     fares = subst (λ v. Fares disk false old v) (sym h) (fares-none old);
     sound = λ s. subst (λ (v : RtAccepted E met). IsSoundDisk (rt_disk disk v)) (sym h) s;
     replaced = λ s. ap (rt_store disk) h;
+    directory = λ s. subst (λ (v : RtAccepted E met). HasSameDirectory (rt_store disk old) (rt_store disk v)) (sym h) refl;
   }
   took-puts name place (b ∷ pieces) old new h =
       let one = h.1 in
@@ -118,4 +144,5 @@ module _ {E : Type 0} {met : Ghosts E} (disk : E → Disk) where
         replaced = λ s.
             let r = one.replaced s in
             (rt_store disk h.0, subst (λ (t : RtStore). HasReplaced name place b (rt_store disk old) t) (sym r.2) r.1, rest.replaced (one.sound s));
+        directory = λ s. directory-then (rt_store disk old) (rt_store disk h.0) (rt_store disk new) (one.directory s) (rest.directory (one.sound s));
       }

@@ -10,6 +10,7 @@ use Rattle.rt11_volume.specs.Verifying.Verdict.{IsRtAccepted, IsSoundDisk}
 use Rattle.rt11_volume.specs.declared.volume.RtAccepted.{RtAccepted}
 use Rattle.f11_flx.specs.Asking.{Service, Who}
 use Rattle.f11_flx.specs.Copies.{FailsToCopyBlocks, FailsToCopyText}
+use Rattle.f11_flx.specs.CopyToRt.{HasSameDirectory}
 use Rattle.f11_flx.specs.Refusal.{is_lethal}
 use Rattle.f11_flx.specs.RtOutcome.{HasSameFiles, LeavesRt, is_rt_fault}
 use Rattle.f11_flx.specs.Source.{CopiesAs, FailsAs, up_to_end}
@@ -21,7 +22,7 @@ use Rattle.f11_flx.specs.declared.refusal.FlxRefusal.{FlxRefusal}
 use Rattle.f11_flx.specs.declared.refusal.FlxRefusal.TheVariants as refusal
 use Rattle.f11_flx.specs.Filling.{Took}
 use Rattle.f11_flx.specs.declared.to_text.ToText.{ToText}
-use Rattle.f11_flx.proofs.RtCopyLemmas.{fares-none, fares-then, has-gone, has-written, took-puts}
+use Rattle.f11_flx.proofs.RtCopyLemmas.{fares-none, fares-then, has-gone, has-written, still-lies, took-puts}
 use Rattle.f11_flx.proofs.SmallLemmas.{or-false}
 
 no-truth : true ≡ false → ⊥
@@ -58,6 +59,7 @@ module _ {E : Type 0} {met : Ghosts E} (disk : E → Disk) (name : List ℕ) whe
     fares : Fares disk (is_rt_fault e) old new
     sound : is_lethal e ≡ false → IsSoundDisk (rt_disk disk old) → IsSoundDisk (rt_disk disk new)
     replaced : is_lethal e ≡ false → IsSoundDisk (rt_disk disk old) → Replaces name 0 pieces (rt_store disk old) (rt_store disk new)
+    directory : is_lethal e ≡ false → IsSoundDisk (rt_disk disk old) → HasSameDirectory (rt_store disk old) (rt_store disk new)
 
   fares-as : (b c : Bool) (old new : RtAccepted E met) → b ≡ c → Fares disk b old new → Fares disk c old new
   fares-as b c old new is h = subst (λ x. Fares disk x old new) is h
@@ -65,7 +67,7 @@ module _ {E : Type 0} {met : Ghosts E} (disk : E → Disk) (name : List ℕ) whe
   took-some : (e : FlxRefusal) (pieces : List (List ℕ)) (old new : RtAccepted E met) → is_rt_fault e ≡ false → Took (rt_takes disk) name 0 pieces old new → PutSome e old new
   took-some e pieces old new none took =
       let puts = took-puts disk name 0 pieces old new took in
-      record { pieces = pieces; fares = fares-as false (is_rt_fault e) old new (sym none) puts.fares; sound = λ c s. puts.sound s; replaced = λ c s. puts.replaced s }
+      record { pieces = pieces; fares = fares-as false (is_rt_fault e) old new (sym none) puts.fares; sound = λ c s. puts.sound s; replaced = λ c s. puts.replaced s; directory = λ c s. puts.directory s }
 
   -- an image that stays
   stays-sound : (old new : RtAccepted E met) (b : Bool) → Fares disk b old new → (rt_disk disk new).image ≡ (rt_disk disk old).image → IsSoundDisk (rt_disk disk old) → IsSoundDisk (rt_disk disk new)
@@ -82,6 +84,7 @@ module _ {E : Type 0} {met : Ghosts E} (disk : E → Disk) (name : List ℕ) whe
             (fares-then disk (is_fault r.refusal) old between new puts.fares r.refused.fares);
         sound = λ c s. stays-sound between new (is_fault r.refusal) r.refused.fares (kept c) (puts.sound s);
         replaced = λ c s. subst (λ (t : RtStore). Replaces name 0 pieces (rt_store disk old) t) (ap rt_store_of (sym (kept c))) (puts.replaced s);
+        directory = λ c s. subst (λ (t : RtStore). HasSameDirectory (rt_store disk old) t) (ap rt_store_of (sym (kept c))) (puts.directory s);
       }
 
   module _ {V : Type 0} (S : Service V) (who : Who) (lun : ℕ) where
@@ -109,6 +112,7 @@ module _ {E : Type 0} {met : Ghosts E} (disk : E → Disk) (name : List ℕ) whe
         fares = fares-as false (is_rt_fault e) old old (sym none) (fares-none disk old);
         sound = λ c s. s;
         same = λ c s. record { named = refl; others = λ other apart. refl };
+        directory = λ c s. inl refl;
       })
 
   leaves-as : (e x : FlxRefusal) (old new : RtAccepted E met) → e ≡ x → LeavesRt disk name x old new → LeavesRt disk name e old new
@@ -122,6 +126,7 @@ module _ {E : Type 0} {met : Ghosts E} (disk : E → Disk) (name : List ℕ) whe
         fares = subst (λ v. Fares disk (is_rt_fault x) old v) (sym h.stays) (fares-then disk (is_rt_fault x) old made stopped m.fares p.fares);
         sound = λ c s. absurd (no-truth (sym lethal ∙ c));
         same = λ c s. absurd (no-truth (sym lethal ∙ c));
+        directory = λ c s. absurd (no-truth (sym lethal ∙ c));
       })
   undone count day e x old made stopped new m p (inr (inl h)) =
       let none = clean-fault x h.clean in
@@ -132,6 +137,13 @@ module _ {E : Type 0} {met : Ghosts E} (disk : E → Disk) (name : List ℕ) whe
         same = λ c s.
             let gone = has-gone name count day p.pieces (rt_store disk old) (rt_store disk made) (rt_store disk stopped) (m.made s) (p.replaced h.clean (m.sound s)) (rt_store disk new) (h.deleted.gone (p.sound h.clean (m.sound s))) in
             record { named = gone.0; others = gone.1 };
+        directory = λ c s. inr (record {
+          blocks = count;
+          day = day;
+          made = rt_store disk stopped;
+          lies = still-lies name count day (rt_store disk old) (rt_store disk made) (rt_store disk stopped) (m.lies s) (p.directory h.clean (m.sound s));
+          emptied = h.deleted.emptied (p.sound h.clean (m.sound s));
+        });
       })
   undone count day e x old made stopped new m p (inr (inr h)) = by h.answer_is
     where
@@ -156,11 +168,13 @@ module _ {E : Type 0} {met : Ghosts E} (disk : E → Disk) (name : List ℕ) whe
         fares = fares-as (is_fault h.refusal) (is_rt_fault e) old new (sym (ap is_rt_fault y.1)) all;
         sound = λ c s. absurd (no-truth (sym y.0 ∙ (ap is_lethal (sym y.1) ∙ c)));
         same = λ c s. absurd (no-truth (sym y.0 ∙ (ap is_lethal (sym y.1) ∙ c)));
+        directory = λ c s. absurd (no-truth (sym y.0 ∙ (ap is_lethal (sym y.1) ∙ c)));
       }
       by (inr y) = record {
         fares = fares-as (is_fault h.refusal) (is_rt_fault e) old new (y.0 ∙ sym (ap is_rt_fault y.1 ∙ clean-fault x h.clean)) all;
         sound = λ c s. absurd (never y.0 s);
         same = λ c s. absurd (never y.0 s);
+        directory = λ c s. absurd (never y.0 s);
       }
 
   module _ {V : Type 0} (S : Service V) (who : Who) (lun : ℕ) (file : FileId) (day : ℕ) where
@@ -172,11 +186,12 @@ module _ {E : Type 0} {met : Ghosts E} (disk : E → Disk) (name : List ℕ) whe
           fares = fares-as (is_fault k.refusal) (is_rt_fault e) old new (sym (ap is_rt_fault k.is)) r.fares;
           sound = λ c s. stays-sound old new (is_fault k.refusal) r.fares (kept c) s;
           same = λ c s. subst (λ (t : RtStore). HasSameFiles name (rt_store disk old) t) (ap rt_store_of (sym (kept c))) (record { named = refl; others = λ other apart. refl });
+          directory = λ c s. inl (subst (λ (t : RtStore). HasSameDirectory (rt_store disk old) t) (ap rt_store_of (sym (kept c))) refl);
         }
     filled-leaves m attr n count e v w old new (inr k) =
         undone count day e k.refusal old k.made k.stopped new k.makes (fails-some S who lun m attr n k.refusal v w k.made k.stopped k.fails) k.undoes
 
-    locked-leaves : (m : CopyMode) (e : FlxRefusal) (v w : V) (old new : RtAccepted E met) → FailsLocked m S disk who lun file name day e v w old new → LeavesRt disk name e old new
+    pub locked-leaves : (m : CopyMode) (e : FlxRefusal) (v w : V) (old new : RtAccepted E met) → FailsLocked m S disk who lun file name day e v w old new → LeavesRt disk name e old new
     locked-leaves m e v w old new (inl k) = leaves-none e old new (ap is_rt_fault k.is) k.left
     locked-leaves m e v w old new (inr (inl k)) = leaves-none e old new (count-fault S who lun name m k.attr k.blocks e k.seen w k.fails) k.left
     locked-leaves m e v w old new (inr (inr k)) = filled-leaves m k.attr k.blocks k.count e k.walked w old new k.fails
@@ -194,6 +209,7 @@ module _ {E : Type 0} {met : Ghosts E} (disk : E → Disk) (name : List ℕ) whe
           fares = fares-as (is_rt_fault k.refusal) (is_rt_fault r) old new (clean-fault k.refusal clean ∙ sym none) inner.fares;
           sound = λ c s. absurd (no-truth (sym lethal ∙ c));
           same = λ c s. absurd (no-truth (sym lethal ∙ c));
+          directory = λ c s. absurd (no-truth (sym lethal ∙ c));
         })
 
         by : GaveUp S who lun k.refusal e k.stopped w → LeavesRt disk name e old new

@@ -1,5 +1,5 @@
 -- What the calls on an RT-11 volume tell of a file that is made.
-use Rattle.std.proofs.Common.{◌≡◌, ◌≢◌, ℕ, ◌<◌, ◌≤◌, Bool, true, false, if◌then◌else◌, List, [], ◌∷◌, length, slice_index_or, Result, Ok, Err, OnOk, OnErr, IfErr, refl, sym, ◌∙◌, ap, subst, arith}
+use Rattle.std.proofs.Common.{◌≡◌, ◌≢◌, ℕ, ◌+◌, ◌<◌, ◌≤◌, Bool, true, false, if◌then◌else◌, List, [], ◌∷◌, length, slice_index_or, Result, Ok, Err, OnOk, OnErr, IfErr, refl, sym, ◌∙◌, ap, subst, arith}
 use Rattle.std.proofs.lemmas.List.{length-map}
 use Rattle.std.proofs.lemmas.List.FromFn.{length-range_with_len}
 use Rattle.f11_dev.specs.Disk.{Disk}
@@ -10,6 +10,7 @@ use Rattle.f11_dev.specs.declared.device.Device.{Ghosts}
 use Rattle.rt11_volume.specs.Calls.{has_failed}
 use Rattle.rt11_volume.specs.Files.{AnswersRt, CreatesFile, DeletesFile, FailsToDelete, FailsToReach, HasBlockWritten, faults_in, file_area, is_device_fault, is_fault}
 use Rattle.rt11_volume.specs.Named.{files_named}
+use Rattle.rt11_volume.specs.Operations.{with_block, with_new_file}
 use Rattle.rt11_volume.specs.RtName.{IsRtName}
 use Rattle.rt11_volume.specs.Segment.{Segment}
 use Rattle.rt11_volume.specs.Store.{Area, RtStore, area_at}
@@ -18,6 +19,7 @@ use Rattle.rt11_volume.specs.declared.refusal.RtRefusal.{RtRefusal}
 use Rattle.rt11_volume.specs.declared.refusal.RtRefusal.TheVariants as rt
 use Rattle.rt11_volume.specs.declared.volume.RtAccepted.{RtAccepted}
 use Rattle.rt11_volume.proofs.Named.Laws.{created-made, deleted-gone, written-replaced, file-first, no-file}
+use Rattle.f11_flx.specs.CopyToRt.{HasSameDirectory}
 use Rattle.f11_flx.specs.Target.{Deletes, FailsDeleting, FailsPutting, Fares, HasPlaces, Makes, Puts, Refused, rt_disk, rt_store}
 
 abbrev pub as-ok : {T : Type 0} → T → Result T RtRefusal
@@ -30,6 +32,14 @@ as-err e = Err e
 pub area-length : (store : RtStore) (seg : Segment) (i : ℕ) → length (area_at store seg i).contents ≡ (area_at store seg i).length
 unfolding area_at
 area-length store seg i = simp (length-map, length-range_with_len)
+
+-- a store that is the same has the same directory, and so has one with another block
+same-directory : (t t' : RtStore) → t' ≡ t → HasSameDirectory t t'
+same-directory t t' is = subst (λ (x : RtStore). x ≡ record t { block = x.block }) (sym is) refl
+
+block-written : (t t' : RtStore) (lbn : ℕ) (block : List ℕ) → t' ≡ with_block t lbn block → HasSameDirectory t t'
+unfolding with_block
+block-written t t' lbn block is = subst (λ (x : RtStore). x ≡ record t { block = x.block }) (sym is) refl
 
 module _ {E : Type 0} {met : Ghosts E} (disk : E → Disk) (old new : RtAccepted E met) where
   -- a disk that is sound stays so where its image is accepted
@@ -67,6 +77,7 @@ module _ {E : Type 0} {met : Ghosts E} (disk : E → Disk) (old new : RtAccepted
     fares = fares-of P most (Ok x) a w;
     sound = λ s. record { honest = w.honest ∙ s.honest; accepted = (made s).accepted };
     gone = λ s. deleted-gone name (rt_disk disk old).image (rt_disk disk new).image (made s);
+    emptied = λ s. record { file = (made s).file; store_is = (made s).store_is };
   }
   deletes name P most (Err e) a w made = tt
 
@@ -89,6 +100,11 @@ module _ {E : Type 0} {met : Ghosts E} (disk : E → Disk) (old new : RtAccepted
     few = few;
     sound = λ s. record { honest = w.honest ∙ s.honest; accepted = (made s).accepted };
     made = λ s. created-made name blocks day (rt_disk disk old).image (rt_disk disk new).image named (made s);
+    lies = λ s. record {
+      area = (made s).area;
+      directory = same-directory
+          (with_new_file (rt_store disk old) (made s).area.place (made s).area.i (made s).area.segment name blocks day) (rt_store disk new) (made s).store_is;
+    };
   }
   makes name blocks day P most (Err e) named few a w made = tt
 
@@ -104,6 +120,8 @@ module _ {E : Type 0} {met : Ghosts E} (disk : E → Disk) (old new : RtAccepted
       written-replaced name place block (rt_disk disk old).image (rt_disk disk new).image s.accepted (written s),
       refl,
     );
+    directory = λ s.
+        block-written (rt_store disk old) (rt_store disk new) ((file_area (written s).file).start + place) block (written s).store_is;
   }
   puts name place block P most (Err e) a w written = tt
 

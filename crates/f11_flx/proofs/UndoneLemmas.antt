@@ -19,7 +19,17 @@ use Rattle.f11_flx.proofs.NewLemmas.{IsNewIn, IsOpenIn, closed, deleted, extende
 use Rattle.f11_flx.specs.Seen.{IsSeenPlain}
 
 pub as-before : (s : Store) → IsAsBefore s s
-as-before s = record { file = λ n. refl; free = refl; slots = refl; in_use = λ n. refl; last = λ n used. refl; access = λ task lun. refl }
+as-before s = record {
+  file = λ n. refl;
+  free = refl;
+  slots = refl;
+  in_use = λ n. refl;
+  last = λ n used. refl;
+  access = λ task lun. refl;
+  bitmap_blocks = refl;
+  index_bitmap_blocks = refl;
+  limit = refl;
+}
 
 -- What undoes something was asked cleanly: it was granted, and the refusal is what it was, or it was refused, but for no device fault or Damaged.
 pub record IsCleanUndoing {V : Type 0} (S : Service V) (who : Who) (r : Request) (f f' : FlxRefusal) (v w : V) : Type 0 where

@@ -8,11 +8,13 @@ use Rattle.f11_store.specs.declared.files.Change.TheVariants as change
 use Rattle.f11_store.specs.declared.files.FileId.{FileId}
 use Rattle.f11_store.specs.declared.files.Mode.TheVariants as mode
 use Rattle.f11_store.specs.declared.refusals.Refusal.{Refusal}
+use Rattle.f11_store.specs.declared.refusals.Refusal.TheVariants.{VolumeFailed}
 use Rattle.f11_store.specs.declared.requests.Reply.TheVariants as reply
 use Rattle.f11_store.specs.declared.requests.Request.TheVariants as request
 use Rattle.f11_dev.specs.Disk.{Disk}
 use Rattle.rt11_volume.specs.Files.{FailsToFindFile, HasFile, file_area}
 use Rattle.rt11_volume.specs.Store.{RtStore, rt_store_of}
+use Rattle.rt11_volume.specs.Verifying.Verdict.{IsSoundDisk}
 use Rattle.f11_flx.specs.Asking.{Asking, BreaksOff, Granted, Who, asks, plain, told, writes_of}
 use Rattle.f11_flx.specs.Conversion.{Copy, copied_from_rt}
 use Rattle.f11_flx.specs.declared.mode.CopyMode.{CopyMode}
@@ -117,6 +119,15 @@ FailsToCopyFromRt refusal.BadRecord m name who lun dir to protection disk s s' =
 FailsToCopyFromRt refusal.LineTooLong m name who lun dir to protection disk s s' =
     HasTooLongLine m name (rt_store_of disk.image) × (s' ≡ s)
 
+-- How it is refused where a request had failed the Files-11 volume before: as the file isn't found or has no conversion, and else as
+-- VolumeFailed.
+abbrev pub FailsToCopySpent : FlxRefusal → CopyMode → List ℕ → Disk → Type 0
+FailsToCopySpent (refusal.Files e) m name disk =
+    (e ≡ VolumeFailed) × (IsSoundDisk disk → (making : Making) × HasMaking m name (rt_store_of disk.image) making)
+FailsToCopySpent (refusal.Rt e) m name disk = IsSoundDisk disk → FailsToFindFile e name disk
+FailsToCopySpent refusal.BadRecord m name disk = ⊥
+FailsToCopySpent refusal.LineTooLong m name disk = IsSoundDisk disk → HasTooLongLine m name (rt_store_of disk.image)
+
 -- A store is as before, but for the sequence numbers that free slots were last given.
 pub record IsAsBefore (s s' : Store) : Type 0 where
   pub file : (n : ℕ) → s'.file n ≡ s.file n
@@ -125,3 +136,6 @@ pub record IsAsBefore (s s' : Store) : Type 0 where
   pub in_use : (n : ℕ) → s'.in_use n ≡ s.in_use n
   pub last : (n : ℕ) → s.in_use n ≡ true → s'.last n ≡ s.last n
   pub access : (task lun : ℕ) → s'.access task lun ≡ s.access task lun
+  pub bitmap_blocks : s'.bitmap_blocks ≡ s.bitmap_blocks
+  pub index_bitmap_blocks : s'.index_bitmap_blocks ≡ s.index_bitmap_blocks
+  pub limit : s'.limit ≡ s.limit

@@ -10,9 +10,10 @@ use Rattle.f11_store.specs.declared.files.Mode.TheVariants as mode
 use Rattle.f11_store.specs.declared.requests.Reply.TheVariants as reply
 use Rattle.f11_store.specs.declared.requests.Request.TheVariants as request
 use Rattle.f11_dev.specs.Disk.{Disk}
-use Rattle.rt11_volume.specs.Files.{FailsToCreate, HasFile, HasNoFile}
+use Rattle.rt11_volume.specs.Files.{FailsToCreate, HasArea, HasFile, HasNoFile}
 use Rattle.rt11_volume.specs.Laws.{KeepsOtherNames}
 use Rattle.rt11_volume.specs.Named.{files_named}
+use Rattle.rt11_volume.specs.Operations.{with_area_emptied, with_new_file}
 use Rattle.rt11_volume.specs.Store.{Area, RtStore, rt_store_of}
 use Rattle.rt11_volume.specs.Verifying.Verdict.{IsSoundDisk}
 use Rattle.rt11_volume.specs.declared.refusal.RtRefusal.{RtRefusal}
@@ -41,6 +42,20 @@ walked_of Text file = image_of file
 abbrev pub reading_of : CopyMode → FileId → ℕ → File → List Asking
 reading_of m source lun file = reading source lun (attributes_of file) (length_of file) (walked_of m file) (image_of file)
 
+-- the directory is the same; what stands in the blocks behind it may be another
+abbrev pub HasSameDirectory : RtStore → RtStore → Type 0
+HasSameDirectory t t' = t' ≡ record t { block = t'.block }
+
+-- A file lies in the front of the first empty area of at least so many blocks, and the directory is else as it was.
+pub record LiesInFirstArea (name : List ℕ) (blocks day : ℕ) (old new : RtStore) : Type 0 where
+  pub area : HasArea blocks old
+  pub directory : HasSameDirectory (with_new_file old area.place area.i area.segment name blocks day) new
+
+-- The area of the name's file is empty, joined with one empty neighbour on each side, and all else is as it was.
+pub record HasEmptied (name : List ℕ) (old new : RtStore) : Type 0 where
+  pub file : HasFile name old
+  pub store_is : new ≡ with_area_emptied old file.place file.i file.segment
+
 -- A file was made with this content, the only one of its name, and nothing else.
 pub record HasCopy (name content : List ℕ) (blocks day : ℕ) (old new : RtStore) : Type 0 where
   pub file : Area
@@ -51,6 +66,7 @@ pub record HasCopy (name content : List ℕ) (blocks day : ℕ) (old new : RtSto
   pub date_is : file.date ≡ day
   pub unprotected : file.protected ≡ false
   pub others : KeepsOtherNames name old new
+  pub lies : LiesInFirstArea name blocks day old new
 
 -- The file was copied: its conversion is the content of a file of the RT-11 volume, of so many blocks.
 pub record CopiesToRt (m : CopyMode) (who : Who) (lun : ℕ) (source : FileId) (name : List ℕ) (day blocks : ℕ) (s s' : Store)

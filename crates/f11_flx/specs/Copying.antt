@@ -21,7 +21,7 @@ use Rattle.rt11_volume.specs.declared.volume.RtAccepted.{RtAccepted}
 use Rattle.f11_flx.specs.Asking.{Asking, Service, Tried, Who, asks, counts, reads, told, writes}
 use Rattle.f11_flx.specs.CopyFromRt.{IsAsBefore}
 use Rattle.f11_flx.specs.Refusal.{is_lethal}
-use Rattle.f11_flx.specs.RtOutcome.{HasSameFiles}
+use Rattle.f11_flx.specs.RtOutcome.{HasSameFiles, KeepsDirectory}
 use Rattle.f11_flx.specs.declared.refusal.FlxRefusal.{FlxRefusal}
 use Rattle.f11_flx.specs.declared.refusal.FlxRefusal.TheVariants.{Files, Rt, BadRecord, LineTooLong}
 
@@ -53,32 +53,14 @@ abbrev pub is_whole : {T : Type 0} → Result T FlxRefusal → Bool
 is_whole (Ok x) = true
 is_whole (Err e) = not (is_lethal e)
 
--- how a copy may be refused by a Files-11 volume that a request has failed before: as VolumeFailed
-abbrev pub MayRefuseSpent : {T : Type 0} → Result T FlxRefusal → Type 0
-MayRefuseSpent (Ok x) = ⊥
-MayRefuseSpent (Err (Files e)) = e ≡ VolumeFailed
-MayRefuseSpent (Err (Rt e)) = ⊤
-MayRefuseSpent (Err BadRecord) = ⊤
-MayRefuseSpent (Err LineTooLong) = ⊤
-
--- VolumeFailed is answered by such a volume alone, on which then nothing is done.
+-- VolumeFailed is answered by a Files-11 volume alone that a request has failed before, on which then nothing is done.
 pub record KeepsSpent {D T : Type 0} {met : Ghosts D} (result : Result T FlxRefusal) (old new : Volume D met) : Type 0 where
   pub only : result ≡ Err (Files VolumeFailed) → is_spent old ≡ true
-  pub refused : is_spent old ≡ true → MayRefuseSpent result
   pub untouched : is_spent old ≡ true → state_in new ≡ state_in old
 
--- how a copy may be refused by an RT-11 volume that a device fault has failed before: as Failed
-abbrev pub MayRefuseFailed : {T : Type 0} → Result T FlxRefusal → Type 0
-MayRefuseFailed (Ok x) = ⊥
-MayRefuseFailed (Err (Files e)) = ⊤
-MayRefuseFailed (Err (Rt e)) = e ≡ Failed
-MayRefuseFailed (Err BadRecord) = ⊤
-MayRefuseFailed (Err LineTooLong) = ⊤
-
--- Failed is answered by such a volume alone, on which then nothing is done.
+-- Failed is answered by an RT-11 volume alone that a device fault has failed before, on which then nothing is done.
 pub record KeepsFailed {E T : Type 0} {met : Ghosts E} (disk : E → Disk) (result : Result T FlxRefusal) (old new : RtAccepted E met) : Type 0 where
   pub only : result ≡ Err (Rt Failed) → has_failed old ≡ true
-  pub refused : has_failed old ≡ true → MayRefuseFailed result
   pub untouched : has_failed old ≡ true → disk (volume_device new) ≡ disk (volume_device old)
 
 -- What the answer tells of the Files-11 volume: a transfer failed where that is the answer, and none followed; DeviceFault and Damaged fail the
@@ -136,36 +118,52 @@ is_making (reads lun vbn block) = false
 is_making (writes lun vbn block) = true
 is_making (counts lun blocks) = false
 
--- The volume was read, whatever the answer is; it is as before unless a device fault or Damaged was met. On one that had failed nothing is
--- done.
+-- The volume was read, whatever the answer is; it is as before unless a device fault or Damaged was met. Where it had failed, the answer is
+-- VolumeFailed.
 pub record ReadsFiles {D T : Type 0} {met : Ghosts D} (result : Result T FlxRefusal) (who : Who) (old new : Volume D met) : Type 0 where
   pub fares : FaresFiles result old new
   pub keeps : KeepsSpent result old new
+  pub spent : is_spent old ≡ true → result ≡ Err (Files VolumeFailed)
   pub asked : AsksOnly is_reading who old new
   pub stays : is_sound old ≡ true → is_whole result ≡ true → store_of_volume new ≡ store_of_volume old
 
--- A file was made, or not, and then the volume is as before unless a device fault or Damaged was met; on one that had failed nothing is done.
+-- A file was made, or not, and then the volume is as before unless a device fault or Damaged was met; on one that had failed nothing is done,
+-- and nothing is asked of it where the RT-11 volume had.
 pub record MakesFile {D T : Type 0} {met : Ghosts D} (result : Result T FlxRefusal) (who : Who) (old new : Volume D met) : Type 0 where
   pub fares : FaresFiles result old new
   pub keeps : KeepsSpent result old new
+  pub unasked : result ≡ Err (Rt Failed) → new ≡ old
   pub asked : AsksOnly is_making who old new
   pub undone : (e : FlxRefusal) → result ≡ Err e → is_sound old ≡ true → is_whole result ≡ true →
       IsAsBefore (store_of_volume old) (store_of_volume new)
 
+-- how a copy to an RT-11 volume that had failed is refused: as the source is refused, which is read first, and else as Failed
+abbrev pub MayRefuseFailed : {T : Type 0} → Result T FlxRefusal → Type 0
+MayRefuseFailed (Ok x) = ⊥
+MayRefuseFailed (Err (Files e)) = ⊤
+MayRefuseFailed (Err (Rt e)) = e ≡ Failed
+MayRefuseFailed (Err BadRecord) = ⊤
+MayRefuseFailed (Err LineTooLong) = ⊥
+
 -- A file was made on the RT-11 volume, or not, and then it has the files that it had unless a device fault or Damaged was met. On one that
--- had failed nothing is done.
+-- had failed nothing is done, and nothing is asked of it where the Files-11 volume had.
 pub record MakesRtFile {E T : Type 0} {met : Ghosts E} (disk : E → Disk) (result : Result T FlxRefusal) (name : List ℕ)
     (old new : RtAccepted E met) : Type 0 where
   pub fares : FaresRt disk result old new
   pub keeps : KeepsFailed disk result old new
+  pub failed : has_failed old ≡ true → MayRefuseFailed result
+  pub unasked : result ≡ Err (Files VolumeFailed) → new ≡ old
   pub undone : (e : FlxRefusal) → result ≡ Err e → IsSoundDisk (disk (volume_device old)) → is_whole result ≡ true →
       HasSameFiles name (rt_store_of (disk (volume_device old)).image) (rt_store_of (disk (volume_device new)).image)
+  pub directory : (e : FlxRefusal) → result ≡ Err e → IsSoundDisk (disk (volume_device old)) → is_whole result ≡ true →
+      KeepsDirectory name (rt_store_of (disk (volume_device old)).image) (rt_store_of (disk (volume_device new)).image)
   pub sound : IsSoundDisk (disk (volume_device old)) → is_whole result ≡ true → IsSoundDisk (disk (volume_device new))
 
--- It was read; of one that had failed nothing is.
+-- It was read. Where it had failed, nothing of it was, and the answer is Failed.
 pub record ReadsRt {E T : Type 0} {met : Ghosts E} (disk : E → Disk) (result : Result T FlxRefusal) (old new : RtAccepted E met) : Type 0 where
   pub fares : FaresRt disk result old new
   pub keeps : KeepsFailed disk result old new
+  pub failed : has_failed old ≡ true → result ≡ Err (Rt Failed)
   pub image : (disk (volume_device new)).image ≡ (disk (volume_device old)).image
   pub history : (disk (volume_device new)).history ≡ (disk (volume_device old)).history
 

@@ -7,12 +7,15 @@ use Rattle.f11_store.specs.declared.files.Mode.TheVariants as access
 use Rattle.f11_store.specs.declared.refusals.Refusal.{Refusal}
 use Rattle.f11_store.specs.declared.requests.Request.{Request}
 use Rattle.f11_store.specs.declared.requests.Request.TheVariants as request
+use Rattle.rt11_volume.specs.Laws.{HasMade}
+use Rattle.rt11_volume.specs.Verifying.Verdict.{IsSoundDisk}
 use Rattle.rt11_volume.specs.declared.volume.RtAccepted.{RtAccepted}
 use Rattle.f11_flx.specs.Asking.{Asking, Denies, Granted, Grants, Service, Who, asks, counts, reads, told, writes}
 use Rattle.f11_flx.specs.Ended.{EndsDenied}
 use Rattle.f11_flx.specs.Filling.{Took}
 use Rattle.f11_flx.specs.Refusal.{is_lethal}
-use Rattle.f11_flx.specs.Target.{Makes}
+use Rattle.f11_flx.specs.RtOutcome.{HasSameFiles}
+use Rattle.f11_flx.specs.Target.{Makes, rt_disk, rt_store}
 use Rattle.f11_flx.specs.ToRt.{FailsLocked, rt_takes}
 use Rattle.f11_flx.specs.declared.mode.CopyMode.{CopyMode}
 use Rattle.f11_flx.specs.declared.refusal.FlxRefusal.{FlxRefusal}
@@ -54,6 +57,14 @@ pub record IsMadeInPart {E : Type 0} {met : Ghosts E} (disk : E → Disk) (name 
     pub pieces : List (List ℕ)
     pub took : Took (rt_takes disk) name 0 pieces made new
 
+-- On a sound disk the volume has the files that it had, or one more of that name, and the disk is sound.
+pub record HasAtMostOneMore {E : Type 0} {met : Ghosts E} (disk : E → Disk) (name : List ℕ) (day : ℕ) (old new : RtAccepted E met) :
+    Type 0
+  where
+    pub sound : IsSoundDisk (rt_disk disk old) → IsSoundDisk (rt_disk disk new)
+    pub files : IsSoundDisk (rt_disk disk old) → (HasSameFiles name (rt_store disk old) (rt_store disk new))
+        ⊎ ((blocks : ℕ) × HasMade name blocks day (rt_store disk old) (rt_store disk new))
+
 -- The copy had been refused, for no device fault or Damaged, and its file was undone; giving up the source is what was asked last.
 pub record WasRefused {V E : Type 0} {met : Ghosts E} (m : CopyMode) (S : Service V) (disk : E → Disk) (who : Who) (lun : ℕ)
     (file : FileId) (name : List ℕ) (day : ℕ) (e : Refusal) (old new : V) (rt rt' : RtAccepted E met) : Type 0 where
@@ -71,6 +82,7 @@ pub record EndsOnFiles {V E : Type 0} {met : Ghosts E} (m : CopyMode) (S : Servi
     (file : FileId) (name : List ℕ) (day : ℕ) (e : Refusal) (old new : V) (rt rt' : RtAccepted E met) : Type 0 where
   pub files : EndsDenied S who e old new
   pub target : ((rt' ≡ rt) ⊎ (IsMadeInPart disk name day rt rt')) ⊎ (WasRefused m S disk who lun file name day e old new rt rt')
+  pub left : HasAtMostOneMore disk name day rt rt'
 
 -- how a copy to an RT-11 volume ends by a refusal that is a device fault or Damaged
 abbrev pub EndsToRt : {V E : Type 0} {met : Ghosts E} → CopyMode → Service V → (E → Disk) → Who → ℕ → FileId → List ℕ → ℕ → FlxRefusal →

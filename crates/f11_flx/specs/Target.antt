@@ -11,7 +11,7 @@ use Rattle.rt11_volume.specs.Verifying.Verdict.{IsSoundDisk}
 use Rattle.rt11_volume.specs.declared.refusal.RtRefusal.{RtRefusal}
 use Rattle.rt11_volume.specs.declared.refusal.RtRefusal.TheVariants.{Failed}
 use Rattle.rt11_volume.specs.declared.volume.RtAccepted.{RtAccepted}
-use Rattle.f11_flx.specs.CopyToRt.{FailsToMake}
+use Rattle.f11_flx.specs.CopyToRt.{FailsToMake, HasEmptied, HasSameDirectory, LiesInFirstArea}
 use Rattle.f11_flx.specs.declared.refusal.FlxRefusal.{FlxRefusal}
 use Rattle.f11_flx.specs.declared.refusal.FlxRefusal.TheVariants.{Rt}
 
@@ -48,6 +48,7 @@ pub record Makes {E : Type 0} {met : Ghosts E} (disk : E → Disk) (name : List 
   pub few : blocks ≤ 65535
   pub sound : IsSoundDisk (rt_disk disk old) → IsSoundDisk (rt_disk disk new)
   pub made : IsSoundDisk (rt_disk disk old) → HasMade name blocks day (rt_store disk old) (rt_store disk new)
+  pub lies : IsSoundDisk (rt_disk disk old) → LiesInFirstArea name blocks day (rt_store disk old) (rt_store disk new)
 
 -- A call was refused that would have changed the volume.
 pub record Refused {E : Type 0} {met : Ghosts E} (disk : E → Disk) (e : RtRefusal) (old new : RtAccepted E met) : Type 0 where
@@ -68,6 +69,7 @@ pub record Puts {E : Type 0} {met : Ghosts E} (disk : E → Disk) (name : List �
   pub fares : Fares disk false old new
   pub sound : IsSoundDisk (rt_disk disk old) → IsSoundDisk (rt_disk disk new)
   pub replaced : IsSoundDisk (rt_disk disk old) → Replaces name place blocks (rt_store disk old) (rt_store disk new)
+  pub directory : IsSoundDisk (rt_disk disk old) → HasSameDirectory (rt_store disk old) (rt_store disk new)
 
 -- A block was not written: on a sound volume each of the file's blocks can be, unless a transfer fails.
 pub record FailsPutting {E : Type 0} {met : Ghosts E} (disk : E → Disk) (name : List ℕ) (place : ℕ) (e : RtRefusal)
@@ -81,6 +83,7 @@ pub record Deletes {E : Type 0} {met : Ghosts E} (disk : E → Disk) (name : Lis
   pub fares : Fares disk false old new
   pub sound : IsSoundDisk (rt_disk disk old) → IsSoundDisk (rt_disk disk new)
   pub gone : IsSoundDisk (rt_disk disk old) → HasGone name (rt_store disk old) (rt_store disk new)
+  pub emptied : IsSoundDisk (rt_disk disk old) → HasEmptied name (rt_store disk old) (rt_store disk new)
 
 -- It was not written, since no file has so many blocks, or for that.
 pub record RefusesBlock {E : Type 0} {met : Ghosts E} (disk : E → Disk) (name : List ℕ) (place : ℕ) (e : FlxRefusal)

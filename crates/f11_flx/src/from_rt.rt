@@ -1,13 +1,14 @@
 //! Copies from RT-11 volumes.
-ghost use Rattle.std.specs.Prelude.{◌≡◌, true, IfOk, IfErr, Err};
+ghost use Rattle.std.specs.Prelude.{◌≡◌, true, IfOk, IfErr, IsErrAnd, Err};
 ghost use Rattle.f11_fcp.specs.Lists.{store_of_volume};
+ghost use Rattle.f11_fcp.specs.Serving.{is_spent};
 ghost use Rattle.rt11_volume.specs.Calls.{volume_device};
 ghost use Rattle.rt11_volume.specs.Store.{rt_store_of};
 ghost use Rattle.f11_flx.specs.Copying.{MakesFile, ReadsRt, WhereSound, is_whole, of_volume};
 ghost use Rattle.f11_flx.specs.Ended.{Ends};
 ghost use Rattle.f11_flx.specs.Refusal.{is_lethal};
 ghost use Rattle.f11_flx.specs.Asking.{who_asks};
-ghost use Rattle.f11_flx.specs.CopyFromRt.{CopiesFromRt, FailsToCopyFromRt};
+ghost use Rattle.f11_flx.specs.CopyFromRt.{CopiesFromRt, FailsToCopyFromRt, FailsToCopySpent};
 
 use crate::asked::Asker;
 use crate::making::Entry;
@@ -31,6 +32,9 @@ use rt11_volume::{RtAccepted, RtName};
 /// The refusal of the first step that is refused. Then the new file is given up and deleted; where this meets a device fault or `Damaged`,
 /// that is the answer. After these no transfer follows: an access that isn't given up stays, and so does the new file, in the directory only
 /// where it was entered.
+///
+/// Of volumes that had failed before an RT-11 one is answered as `Failed` at once, before anything is asked of the other, and a Files-11
+/// one as `VolumeFailed` where the file is to be created.
 #[allow(clippy::too_many_arguments)]
 pub fn copy_from_rt<D: Device, E: Device>(
     rt: &mut RtAccepted<E>,
@@ -46,6 +50,8 @@ pub fn copy_from_rt<D: Device, E: Device>(
 ) -> Result<u32, FlxRefusal>
     ensures source { ReadsRt E.disk result rt.old rt.new }
     ensures files { MakesFile result (who_asks task uic) vol.old vol.new }
+    ensures spent { is_spent vol.old ≡ true → IsErrAnd result (λ e.
+        FailsToCopySpent e mode name.now (E.disk (volume_device rt.old))) }
     ensures ended { IfErr result (λ e. is_lethal e ≡ true
         → Ends of_volume (who_asks task uic) e vol.old vol.new) }
     ensures copied { IfOk result (λ blocks. WhereSound E.disk vol.old rt.old

@@ -1,7 +1,7 @@
 //! Copies to RT-11 volumes.
 ghost use Rattle.std.specs.Prelude.{◌≡◌, true, IfOk, IfErr, Err};
-ghost use Rattle.f11_fcp.specs.Lists.{store_of_volume};
-ghost use Rattle.rt11_volume.specs.Calls.{volume_device};
+ghost use Rattle.f11_fcp.specs.Lists.{is_sound, store_of_volume};
+ghost use Rattle.rt11_volume.specs.Calls.{has_failed, volume_device};
 ghost use Rattle.rt11_volume.specs.Store.{rt_store_of};
 ghost use Rattle.f11_flx.specs.Copying.{MakesRtFile, ReadsFiles, WhereSound, is_whole, of_volume};
 ghost use Rattle.f11_flx.specs.EndedToRt.{EndsToRt};
@@ -29,6 +29,9 @@ use rt11_volume::{RtAccepted, RtName};
 /// The refusal of the first step that is refused. Then the source is given up, and a file that was made is deleted; where this meets a
 /// device fault or `Damaged`, that is the answer. After these no transfer follows: an access that isn't given up stays, and what was copied
 /// stays in the RT-11 directory.
+///
+/// Of volumes that had failed before a Files-11 one is answered as `VolumeFailed` at once, before anything is asked of the other, and an
+/// RT-11 one as `Failed` where the file is to be made.
 #[allow(clippy::too_many_arguments)]
 pub fn copy_to_rt<D: Device, E: Device>(
     vol: &mut Volume<D>,
@@ -43,6 +46,9 @@ pub fn copy_to_rt<D: Device, E: Device>(
 ) -> Result<u32, FlxRefusal>
     ensures files { ReadsFiles result (who_asks task uic) vol.old vol.new }
     ensures target { MakesRtFile E.disk result name.now rt.old rt.new }
+    ensures failed { has_failed rt.old ≡ true → IfErr result (λ e. is_whole result ≡ true
+        → is_sound vol.old ≡ true → FailsToCopyToRt e mode (who_asks task uic) lun source name.now
+        (store_of_volume vol.old) (store_of_volume vol.new) (E.disk (volume_device rt.old))) }
     ensures ended { IfErr result (λ e. is_lethal e ≡ true → EndsToRt mode of_volume E.disk
         (who_asks task uic) lun source name.now date e vol.old vol.new rt.old rt.new) }
     ensures copied { IfOk result (λ blocks. WhereSound E.disk vol.old rt.old
