@@ -1,5 +1,5 @@
 -- A copy between the volumes of two images.
-use Rattle.std.proofs.Common.{◌≡◌, ◌⊎◌, inl, inr, ℕ, ◌&&◌, not, Bool, true, false, IsTrue, List, Option, Result, refl, sym, ◌∙◌, ap, subst, arith}
+use Rattle.std.proofs.Common.{◌≡◌, inl, ℕ, ◌&&◌, not, Bool, true, false, IsTrue, List, Option, Result, refl, sym, ◌∙◌, ap, subst, arith}
 use Rattle.f11_dev.specs.Disk.{Disk}
 use Rattle.f11_dev.specs.Image.{Image}
 use Rattle.f11_dev.specs.declared.device.Device.{Ghosts}
@@ -12,11 +12,11 @@ use Rattle.f11_fcp.specs.declared.volume.Volume.{Volume}
 use Rattle.f11_flx.specs.declared.refusal.FlxRefusal.{FlxRefusal}
 use Rattle.f11_image_store.specs.StoreOf.{store_of}
 use Rattle.f11_store.specs.Store.{Store}
-use Rattle.rt11_volume.specs.Calls.{volume_device}
+use Rattle.rt11_volume.specs.Calls.{has_failed, volume_device}
 use Rattle.rt11_volume.specs.Verifying.Verdict.{IsRtAccepted, IsSoundDisk}
 use Rattle.rt11_volume.specs.declared.volume.RtAccepted.{RtAccepted}
 use Rattle.f11_commands.specs.CopyCommand.{AnswersCopy, CopiesImages, EndsBetween, Tells}
-use Rattle.f11_commands.specs.Copying.{OutcomeIs}
+use Rattle.f11_commands.specs.Copying.{OutcomeIs, StandsAsIs}
 use Rattle.f11_commands.specs.Finding.{Answers}
 use Rattle.f11_commands.specs.declared.copy.CopyAnswer.{CopyAnswer}
 use Rattle.f11_commands.specs.declared.copy.Copying.{Copying}
@@ -31,7 +31,7 @@ both false b h k = absurd (let never : false ≡ true = h in cc)
 module _ {D E : Type 0} {met : Ghosts D} {met' : Ghosts E} (rt-disk : E → Disk) (c : Copying) (result : Result ℕ FlxRefusal) (old : Disk)
     (first last : Volume D met) (rt rt' : RtAccepted E met') (mounts : Mounts old first)
     (accepted : IsTrue (rt-disk (volume_device rt)).honest → IsRtAccepted (rt-disk (volume_device rt)).image)
-    (answers : Answers rt-disk result (OutcomeIs c result) first last rt rt')
+    (unfailed : has_failed rt ≡ false) (answers : Answers rt-disk c.direction c.rt_name result (OutcomeIs c result) first last rt rt')
   where
     first-is : store_of_volume first ≡ held_in no_entries (store_of old.image (state_in first).home)
     first-is =
@@ -50,20 +50,33 @@ module _ {D E : Type 0} {met : Ghosts D} {met' : Ghosts E} (rt-disk : E → Disk
     sound-rt : IsTrue d.honest → IsSoundDisk d
     sound-rt honest = record { honest = honest; accepted = accepted honest }
 
+    sound : IsTrue old.honest → is_sound first ≡ true
+    sound is = both (state_in first).disk.honest (is_spent first) (mounts.looked.honest ∙ is) mounts.fresh
+
     pub copies-images : CopiesImages c result old (state_in last).disk d d'
     copies-images = record {
       home = (state_in first).home;
       held = (state_in last).table;
       home_is = mounts.home;
       outcome = λ is rt-is whole.
-          let sound : is_sound first ≡ true = both (state_in first).disk.honest (is_spent first) (mounts.looked.honest ∙ is) mounts.fresh in
           subst (λ (s : Store). OutcomeIs c result s (held_in (state_in last).table (store_of (state_in last).disk.image (state_in first).home)) d d') first-is
-          (subst (λ (s : Store). OutcomeIs c result (store_of_volume first) s d d') last-is (answers.outcome sound (sound-rt rt-is) whole));
+          (subst (λ (s : Store). OutcomeIs c result (store_of_volume first) s d d') last-is (answers.outcome (sound is) (sound-rt rt-is) whole));
       undamaged = λ is. answers.undamaged mounts.fresh (mounts.looked.honest ∙ is);
-      failures = let none = mounts.looked.failures in let some = answers.fares.failures in omega (arith, none, some);
-      rt_failures = answers.fares_rt.failures;
+      fares = record {
+        failures = let none = mounts.looked.failures in let some = answers.fares.failures in omega (arith, none, some);
+        quiet = answers.fares.quiet;
+        rt_failures = answers.fares_rt.failures;
+        rt_quiet = answers.fares_rt.quiet;
+        alive = answers.alive mounts.fresh;
+        rt_alive = answers.rt_alive unfailed;
+      };
+      source = answers.source;
+      broken = λ is fault.
+          subst (λ (s : Store). StandsAsIs s (held_in (state_in last).table (store_of (state_in last).disk.image (state_in first).home))) first-is
+          (subst (λ (s : Store). StandsAsIs (store_of_volume first) s) last-is (answers.broken (sound is) fault));
       accepted = λ is. answers.fares.accepted (answers.fares.honest ∙ mounts.looked.honest ∙ is);
-      rt_accepted = λ is whole. (answers.sound_rt (sound-rt is) whole).accepted;
+      rt_broken = λ is. answers.rt_broken (sound-rt is);
+      rt_accepted = λ is none. (answers.sound_rt (sound-rt is) none).accepted;
     }
 
     pub ends-between : {W : Type 0} (told : Result CopyAnswer Failure) (contents : W → Option (List ℕ)) (before after : W) (new rt-new : Disk)

@@ -3,6 +3,7 @@ pub mod VolumeLemmas
 mod RunLemmas
 mod UpdateLemmas
 mod AskedLemmas
+mod BrokenLemmas
 mod CopyLemmas
 mod NamedLemmas
 mod DirectoryLemmas

@@ -1,32 +1,40 @@
 -- A copy by names: what its steps tell, one after another.
-use Rattle.std.proofs.Common.{◌≡◌, ◌≢◌, ◌⊎◌, inl, inr, ℕ, ◌+◌, ◌*◌, ◌||◌, not, Bool, true, false, IsTrue, if◌then◌else◌, List, [], ◌∷◌, Result, Ok, Err, IfOk, IfErr, refl, sym, ap, subst, ◌∙◌, arith}
+use Rattle.std.proofs.Common.{◌≡◌, ◌≢◌, inl, inr, ℕ, ◌+◌, ◌||◌, not, Bool, true, false, IsTrue, if◌then◌else◌, List, Result, Ok, Err, IfOk, IfErr, refl, sym, ap, subst, ◌∙◌, arith}
 use Rattle.f11_dev.specs.Disk.{Disk}
 use Rattle.f11_dev.specs.declared.device.Device.{Ghosts}
 use Rattle.f11_fcp.specs.Lists.{failures_of, is_sound, store_of_volume}
 use Rattle.f11_fcp.specs.Serving.{is_spent, state_in}
 use Rattle.f11_fcp.specs.declared.volume.Volume.{Volume}
 use Rattle.f11_files.specs.Answers.{is_fatal, is_fault}
+use Rattle.f11_flx.proofs.KeptLemmas.{denied-live, rt-apart, same-refusal}
 use Rattle.f11_flx.proofs.VolumeLemmas.{IsFared, denied-fared, granted-fared, volume-seen}
 use Rattle.f11_flx.specs.Asking.{Asking, Denies, Fails, Grants, Who, asks, plain, told, who_asks}
-use Rattle.f11_flx.specs.Copying.{AsksOnly, FaresFiles, FaresRt, MakesFile, MakesRtFile, ReadsFiles, ReadsRt, WhereSound, is_whole, of_files, of_volume}
+use Rattle.f11_flx.specs.Copying.{AsksOnly, FaresFiles, FaresRt, MakesFile, MakesRtFile, ReadsFiles, ReadsRt, WhereSound, is_whole, of_files, of_rt, of_volume}
 use Rattle.f11_flx.specs.CopyFromRt.{CopiesFromRt, FailsToCopyFromRt}
 use Rattle.f11_flx.specs.CopyToRt.{CopiesToRt, FailsToCopyToRt}
+use Rattle.f11_flx.specs.Ended.{Ends}
+use Rattle.f11_flx.specs.EndedToRt.{EndsToRt}
+use Rattle.f11_flx.specs.Refusal.{is_lethal}
 use Rattle.f11_flx.specs.declared.refusal.FlxRefusal.{FlxRefusal}
-use Rattle.f11_flx.specs.declared.refusal.FlxRefusal.TheVariants.{Files}
+use Rattle.f11_flx.specs.declared.refusal.FlxRefusal.TheVariants.{BadRecord, Files, LineTooLong, Rt}
 use Rattle.f11_flx.specs.RtOutcome.{HasSameFiles}
 use Rattle.f11_store.specs.Store.{Store}
 use Rattle.f11_store.specs.declared.files.FileId.{FileId}
 use Rattle.f11_store.specs.declared.refusals.Refusal.{Refusal}
-use Rattle.f11_store.specs.declared.refusals.Refusal.TheVariants.{Damaged}
+use Rattle.f11_store.specs.declared.refusals.Refusal.TheVariants.{Damaged, VolumeFailed}
 use Rattle.f11_store.specs.declared.requests.Reply.{Reply}
 use Rattle.f11_store.specs.declared.requests.Reply.TheVariants as reply
 use Rattle.f11_store.specs.declared.requests.Request.TheVariants as request
 use Rattle.rt11_volume.specs.Calls.{has_failed, volume_device}
+use Rattle.rt11_volume.specs.Files.{is_fault as is_rt_fault}
+use Rattle.rt11_volume.specs.Named.{files_named}
 use Rattle.rt11_volume.specs.Store.{RtStore, rt_store_of}
 use Rattle.rt11_volume.specs.Verifying.Verdict.{IsRtAccepted, IsSoundDisk}
+use Rattle.rt11_volume.specs.declared.refusal.RtRefusal.TheVariants.{Failed}
 use Rattle.rt11_volume.specs.declared.volume.RtAccepted.{RtAccepted}
 use Rattle.f11_commands.proofs.AskedLemmas.{denied-home, denied-undamaged, granted-home, never, tried-breaks, tried-home}
-use Rattle.f11_commands.specs.Copying.{CopiesSource, CopiesWithin, HasDirectory, KeepsRt, KeepsSource, LacksDirectory, LacksSource, LeavesDirectory, OutcomeIs, directory_name, master_directory, operator}
+use Rattle.f11_commands.proofs.BrokenLemmas.{begun-left, held-stands, stands-behind, unread-stands}
+use Rattle.f11_commands.specs.Copying.{CopiesWithin, KeepsRt, LeavesBegun, OutcomeIs, ReadsSource, StandsAsIs, directory_name, is_undoing, master_directory, operator}
 use Rattle.f11_commands.specs.Finding.{Answers, WithinDirectory, is_found}
 use Rattle.f11_commands.specs.declared.copy.Copying.{Copying}
 use Rattle.f11_commands.specs.declared.copy.Direction.{Direction}
@@ -61,6 +69,14 @@ untouched disk e rt = record {
   next = sym (or-false (has_failed rt));
 }
 
+-- it has the files that it had
+same-files : (name : List ℕ) (t : RtStore) → HasSameFiles name t t
+same-files name t = record { named = refl; others = λ other apart. refl }
+
+unread : (direction : Direction) (d : Disk) → ReadsSource direction d d
+unread ToRt d = tt
+unread FromRt d = record { image = refl; history = refl }
+
 module _ {D : Type 0} {met : Ghosts D} where
   fares-behind : (result : Result ℕ FlxRefusal) (v u w : Volume D met) → IsFared false false v u → FaresFiles result u w → FaresFiles result v w
   fares-behind result v u w f g =
@@ -87,31 +103,38 @@ module _ {D : Type 0} {met : Ghosts D} where
 
 module _ {D E : Type 0} {met : Ghosts D} {met' : Ghosts E} (disk : E → Disk) where
   -- a copy behind something that was granted
-  pub answers-behind : (result : Result ℕ FlxRefusal) (Holds Holds' : Store → Store → Disk → Disk → Type 0) (who : Who) (x : Asking) (v u w : Volume D met) (rt rt' : RtAccepted E met')
-      → Grants of_volume who x v u → Answers disk result Holds u w rt rt'
-      → (Grants plain who x (store_of_volume v) (store_of_volume u) → Holds (store_of_volume u) (store_of_volume w) (disk (volume_device rt)) (disk (volume_device rt'))
+  pub answers-behind : (direction : Direction) (rt-name : List ℕ) (result : Result ℕ FlxRefusal) (Holds Holds' : Store → Store → Disk → Disk → Type 0) (x : Asking) (v u w : Volume D met) (rt rt' : RtAccepted E met')
+      → is_undoing x ≡ false → Grants of_volume operator x v u → Answers disk direction rt-name result Holds u w rt rt'
+      → (Grants plain operator x (store_of_volume v) (store_of_volume u) → Holds (store_of_volume u) (store_of_volume w) (disk (volume_device rt)) (disk (volume_device rt'))
       → Holds' (store_of_volume v) (store_of_volume w) (disk (volume_device rt)) (disk (volume_device rt')))
-      → Answers disk result Holds' v w rt rt'
-  answers-behind result Holds Holds' who x v u w rt rt' grants a step =
-      let fared = granted-fared who x v u grants in
+      → Answers disk direction rt-name result Holds' v w rt rt'
+  answers-behind direction rt-name result Holds Holds' x v u w rt rt' none grants a step =
+      let fared = granted-fared operator x v u grants in
       record {
         fares = fares-behind result v u w fared a.fares;
         fares_rt = a.fares_rt;
-        home = a.home ∙ granted-home who x v u grants;
+        source = a.source;
+        alive = λ alive. a.alive (fared.next ∙ ap (λ b. b || false) alive);
+        rt_alive = a.rt_alive;
+        home = a.home ∙ granted-home operator x v u grants;
         undamaged = λ alive honest. a.undamaged (fared.next ∙ ap (λ b. b || false) alive) (fared.honest ∙ honest);
         sound_rt = a.sound_rt;
+        rt_broken = a.rt_broken;
         outcome = λ sound rt-sound whole.
-            let seen = volume-seen.granted who x v u grants sound in
+            let seen = volume-seen.granted operator x v u grants sound in
             step seen.0 (a.outcome seen.1 rt-sound whole);
+        broken = λ sound fault.
+            let seen = volume-seen.granted operator x v u grants sound in
+            stands-behind x (store_of_volume v) (store_of_volume u) (store_of_volume w) none seen.0 (a.broken seen.1 fault);
       }
 
   -- a find that is refused
-  pub answers-not-found : (Holds : Store → Store → Disk → Disk → Type 0) (dir : FileId) (name : List ℕ) (e : Refusal) (v w : Volume D met) (rt : RtAccepted E met')
+  pub answers-not-found : (direction : Direction) (rt-name : List ℕ) (Holds : Store → Store → Disk → Disk → Type 0) (dir : FileId) (name : List ℕ) (e : Refusal) (v w : Volume D met) (rt : RtAccepted E met')
       → Fails of_volume operator is_found (request.Find dir name) e v w
       → (Denies plain operator (asks (request.Find dir name)) e (store_of_volume v) (store_of_volume w)
       → Holds (store_of_volume v) (store_of_volume w) (disk (volume_device rt)) (disk (volume_device rt)))
-      → Answers disk (Err (Files e)) Holds v w rt rt
-  answers-not-found Holds dir name e v w rt (inl denies) step =
+      → Answers disk direction rt-name (Err (Files e)) Holds v w rt rt
+  answers-not-found direction rt-name Holds dir name e v w rt (inl denies) step =
       let fared = denied-fared operator (asks (request.Find dir name)) e v w denies in
       record {
         fares = record {
@@ -123,16 +146,21 @@ module _ {D E : Type 0} {met : Ghosts D} {met' : Ghosts E} (disk : E → Disk) w
           accepted = fared.accepted;
         };
         fares_rt = untouched disk e rt;
+        source = unread direction (disk (volume_device rt));
+        alive = λ alive is. (denied-live operator (asks (request.Find dir name)) e v w alive denies).other (same-refusal (Files e) (Files VolumeFailed) is);
+        rt_alive = λ alive is. rt-apart e Failed (same-refusal (Files e) (Rt Failed) is);
         home = denied-home operator (asks (request.Find dir name)) e v w denies;
         undamaged = λ alive honest is. denied-undamaged operator (asks (request.Find dir name)) e v w alive honest denies (let same = is in cc);
-        sound_rt = λ sound whole. sound;
+        sound_rt = λ sound none. sound;
+        rt_broken = λ sound fatal. inl (same-files rt-name (rt_store_of (disk (volume_device rt)).image));
         outcome = λ sound rt-sound whole. step (volume-seen.denied operator (asks (request.Find dir name)) e v w denies sound (not-true whole)).0;
+        broken = λ sound fault. absurd (cc);
       }
     where
       not-true : {b : Bool} → not b ≡ true → b ≡ false
       not-true {b = true} h = absurd (cc)
       not-true {b = false} h = refl
-  answers-not-found Holds dir name e v w rt (inr wrong) step =
+  answers-not-found direction rt-name Holds dir name e v w rt (inr wrong) step =
       let fared = granted-fared operator (told (request.Find dir name) wrong.0) v w wrong.3 in
       let dishonest : IsTrue (state_in v).disk.honest → ⊥ = λ honest. never (found-reply dir name wrong.0 v w wrong.3 honest) wrong.1 in
       record {
@@ -145,11 +173,19 @@ module _ {D E : Type 0} {met : Ghosts D} {met' : Ghosts E} (disk : E → Disk) w
           accepted = fared.accepted;
         });
         fares_rt = untouched disk e rt;
+        source = unread direction (disk (volume_device rt));
+        alive = λ alive is. damaged-apart e wrong.2 (same-refusal (Files e) (Files VolumeFailed) is);
+        rt_alive = λ alive is. rt-apart e Failed (same-refusal (Files e) (Rt Failed) is);
         home = granted-home operator (told (request.Find dir name) wrong.0) v w wrong.3;
         undamaged = λ alive honest is. dishonest honest;
-        sound_rt = λ sound whole. sound;
+        sound_rt = λ sound none. sound;
+        rt_broken = λ sound fatal. inl (same-files rt-name (rt_store_of (disk (volume_device rt)).image));
         outcome = λ sound rt-sound whole. absurd (let lethal = subst (λ x. is_whole {T = ℕ} (Err (Files x)) ≡ true) wrong.2 whole in cc);
+        broken = λ sound fault. absurd (cc);
       }
+    where
+      damaged-apart : (e : Refusal) → e ≡ Damaged → Files e ≡ Files VolumeFailed → ⊥
+      damaged-apart e is same = cc
 
   module _ (c : Copying) (v w : Volume D met) (rt rt' : RtAccepted E met') where
     abbrev d : Disk
@@ -173,16 +209,50 @@ module _ {D E : Type 0} {met : Ghosts D} {met' : Ghosts E} (disk : E → Disk) w
     pub answers-to-rt : (source : FileId) (result : Result ℕ FlxRefusal) → ReadsFiles result operator v w → MakesRtFile disk result c.rt_name rt rt'
         → IfOk result (λ blocks. WhereSound disk v rt (CopiesToRt c.mode operator 0 source c.rt_name 0 blocks s s' (rt_store_of d.image) (rt_store_of d'.image)))
         → IfErr result (λ e. is_whole result ≡ true → WhereSound disk v rt (FailsToCopyToRt e c.mode operator 0 source c.rt_name s s' d))
-        → Answers disk result (OfSource source result) v w rt rt'
-    answers-to-rt source result files target copied refused = record {
+        → IfErr result (λ e. is_lethal e ≡ true → EndsToRt c.mode of_volume disk operator 0 source c.rt_name 0 e v w rt rt')
+        → Answers disk ToRt c.rt_name result (OfSource source result) v w rt rt'
+    answers-to-rt source result files target copied refused ended = record {
       fares = files.fares;
       fares_rt = target.fares;
+      source = tt;
+      alive = λ alive is. never (files.keeps.only is) alive;
+      rt_alive = λ alive is. never (target.keeps.only is) alive;
       home = tried-home operator files.asked.asked v w files.asked.tried;
       undamaged = undamaged-asked _ operator result v w files.fares files.asked;
-      sound_rt = target.sound;
+      sound_rt = λ rt-sound none. sounds rt-sound result target ended none;
+      rt_broken = λ rt-sound. begun rt-sound result ended;
       outcome = by_result result target copied refused;
+      broken = λ sound. held sound result ended;
     }
       where
+        sounds : IsSoundDisk d → (r : Result ℕ FlxRefusal) → MakesRtFile disk r c.rt_name rt rt'
+            → IfErr r (λ e. is_lethal e ≡ true → EndsToRt c.mode of_volume disk operator 0 source c.rt_name 0 e v w rt rt') → of_rt is_rt_fault r ≡ false → IsSoundDisk d'
+        sounds rt-sound (Ok blocks) made h none = made.sound rt-sound refl
+        sounds rt-sound (Err (Files e)) made h none = by (is_lethal (Files e)) refl
+          where
+            by : (b : Bool) → is_lethal (Files e) ≡ b → IsSoundDisk d'
+            by true lethal = (begun-left of_volume disk operator 0 source c.rt_name 0 c.mode e v w rt rt' (h lethal) rt-sound).0
+            by false clean = made.sound rt-sound (ap not clean)
+        sounds rt-sound (Err (Rt e)) made h none = made.sound rt-sound (ap not none)
+        sounds rt-sound (Err BadRecord) made h none = made.sound rt-sound refl
+        sounds rt-sound (Err LineTooLong) made h none = made.sound rt-sound refl
+
+        begun : IsSoundDisk d → (r : Result ℕ FlxRefusal) → IfErr r (λ e. is_lethal e ≡ true → EndsToRt c.mode of_volume disk operator 0 source c.rt_name 0 e v w rt rt')
+            → of_files is_fatal r ≡ true → LeavesBegun c.rt_name (rt_store_of d.image) (rt_store_of d'.image)
+        begun rt-sound (Err (Files e)) h fatal = (begun-left of_volume disk operator 0 source c.rt_name 0 c.mode e v w rt rt' (h fatal) rt-sound).1
+        begun rt-sound (Err (Rt e)) h fatal = absurd (cc)
+        begun rt-sound (Err BadRecord) h fatal = absurd (cc)
+        begun rt-sound (Err LineTooLong) h fatal = absurd (cc)
+        begun rt-sound (Ok blocks) h fatal = absurd (cc)
+
+        held : is_sound v ≡ true → (r : Result ℕ FlxRefusal) → IfErr r (λ e. is_lethal e ≡ true → EndsToRt c.mode of_volume disk operator 0 source c.rt_name 0 e v w rt rt')
+            → of_rt is_rt_fault r ≡ true → StandsAsIs s s'
+        held sound (Err (Rt e)) h fault = held-stands v w sound (h fault)
+        held sound (Err (Files e)) h fault = absurd (cc)
+        held sound (Err BadRecord) h fault = absurd (cc)
+        held sound (Err LineTooLong) h fault = absurd (cc)
+        held sound (Ok blocks) h fault = absurd (cc)
+
         by_result : (r : Result ℕ FlxRefusal) → MakesRtFile disk r c.rt_name rt rt'
             → IfOk r (λ blocks. WhereSound disk v rt (CopiesToRt c.mode operator 0 source c.rt_name 0 blocks s s' (rt_store_of d.image) (rt_store_of d'.image)))
             → IfErr r (λ e. is_whole r ≡ true → WhereSound disk v rt (FailsToCopyToRt e c.mode operator 0 source c.rt_name s s' d))
@@ -194,16 +264,30 @@ module _ {D E : Type 0} {met : Ghosts D} {met' : Ghosts E} (disk : E → Disk) w
     pub answers-from-rt : (dir : FileId) (result : Result ℕ FlxRefusal) → ReadsRt disk result rt rt' → MakesFile result operator v w
         → IfOk result (λ blocks. WhereSound disk v rt (CopiesFromRt c.mode c.rt_name operator 0 dir c.name 0 blocks (rt_store_of d.image) s s'))
         → IfErr result (λ e. is_whole result ≡ true → WhereSound disk v rt (FailsToCopyFromRt e c.mode c.rt_name operator 0 dir c.name 0 d s s'))
-        → Answers disk result (WithinDirectory FromRt c dir result) v w rt rt'
-    answers-from-rt dir result source files copied refused = record {
+        → IfErr result (λ e. is_lethal e ≡ true → Ends of_volume operator e v w)
+        → Answers disk FromRt c.rt_name result (WithinDirectory FromRt c dir result) v w rt rt'
+    answers-from-rt dir result source files copied refused ended = record {
       fares = files.fares;
       fares_rt = source.fares;
+      source = record { image = source.image; history = source.history };
+      alive = λ alive is. never (files.keeps.only is) alive;
+      rt_alive = λ alive is. never (source.keeps.only is) alive;
       home = tried-home operator files.asked.asked v w files.asked.tried;
       undamaged = undamaged-asked _ operator result v w files.fares files.asked;
-      sound_rt = λ sound whole. record { honest = source.fares.honest ∙ sound.honest; accepted = subst (λ i. IsRtAccepted i) (sym source.image) sound.accepted };
+      rt_broken = λ sound fatal. inl (record { named = ap (λ i. files_named c.rt_name (rt_store_of i)) source.image; others = λ other apart. ap (λ i. files_named other (rt_store_of i)) source.image });
+      sound_rt = λ sound none. record { honest = source.fares.honest ∙ sound.honest; accepted = subst (λ i. IsRtAccepted i) (sym source.image) sound.accepted };
       outcome = λ sound rt-sound whole. (by_result result files copied refused sound rt-sound whole, same result);
+      broken = λ sound. stopped sound result ended;
     }
       where
+        stopped : is_sound v ≡ true → (r : Result ℕ FlxRefusal) → IfErr r (λ e. is_lethal e ≡ true → Ends of_volume operator e v w)
+            → of_rt is_rt_fault r ≡ true → StandsAsIs s s'
+        stopped sound (Err (Rt e)) h fault = unread-stands v w sound (h fault)
+        stopped sound (Err (Files e)) h fault = absurd (cc)
+        stopped sound (Err BadRecord) h fault = absurd (cc)
+        stopped sound (Err LineTooLong) h fault = absurd (cc)
+        stopped sound (Ok blocks) h fault = absurd (cc)
+
         same : (r : Result ℕ FlxRefusal) → KeepsRt FromRt c.rt_name r (rt_store_of d.image) (rt_store_of d'.image)
         same r = ap (λ i. rt_store_of i) source.image
 
@@ -213,10 +297,6 @@ module _ {D E : Type 0} {met : Ghosts D} {met' : Ghosts E} (disk : E → Disk) w
             → is_sound v ≡ true → IsSoundDisk d → is_whole r ≡ true → CopiesWithin FromRt c dir r s s' d d'
         by_result (Ok blocks) made copies not-copied sound rt-sound whole = copies sound rt-sound
         by_result (Err e) made copies not-copied sound rt-sound whole = record { refused = not-copied whole sound rt-sound; undone = made.undone e refl sound whole }
-
--- what nobody asked anything of has the files that it had
-same-files : (name : List ℕ) (t : RtStore) → HasSameFiles name t t
-same-files name t = record { named = refl; others = λ other apart. refl }
 
 keeps-rt : (direction : Direction) (name : List ℕ) (e : FlxRefusal) (t : RtStore) → KeepsRt direction name (Err e) t t
 keeps-rt ToRt name e t = same-files name t
@@ -230,7 +310,8 @@ module _ {D E : Type 0} {met : Ghosts D} {met' : Ghosts E} (disk : E → Disk) (
       (rt_store_of (disk (volume_device rt)).image) (rt_store_of (disk (volume_device rt')).image)))
       → IfErr result (λ e. is_whole result ≡ true → WhereSound disk v rt
       (FailsToCopyToRt e c.mode (who_asks task operator.caller) lun source c.rt_name (store_of_volume v) (store_of_volume w) (disk (volume_device rt))))
-      → Answers disk result (OfSource disk c v w rt rt' source result) v w rt rt'
+      → IfErr result (λ e. is_lethal e ≡ true → EndsToRt c.mode of_volume disk (who_asks task operator.caller) lun source c.rt_name 0 e v w rt rt')
+      → Answers disk ToRt c.rt_name result (OfSource disk c v w rt rt' source result) v w rt rt'
   copied-to-rt task lun task-is lun-is source result v w rt rt' = subst (λ t. By t lun) (sym task-is) (subst (λ l. By 0 l) (sym lun-is) (answers-to-rt disk c v w rt rt' source result))
     where
       By : ℕ → ℕ → Type 0
@@ -240,7 +321,8 @@ module _ {D E : Type 0} {met : Ghosts D} {met' : Ghosts E} (disk : E → Disk) (
           (rt_store_of (disk (volume_device rt)).image) (rt_store_of (disk (volume_device rt')).image)))
           → IfErr result (λ e. is_whole result ≡ true → WhereSound disk v rt
           (FailsToCopyToRt e c.mode (who_asks t operator.caller) l source c.rt_name (store_of_volume v) (store_of_volume w) (disk (volume_device rt))))
-          → Answers disk result (OfSource disk c v w rt rt' source result) v w rt rt'
+          → IfErr result (λ e. is_lethal e ≡ true → EndsToRt c.mode of_volume disk (who_asks t operator.caller) l source c.rt_name 0 e v w rt rt')
+          → Answers disk ToRt c.rt_name result (OfSource disk c v w rt rt' source result) v w rt rt'
 
   -- and one from it
   pub copied-from-rt : (task lun : ℕ) → task ≡ 0 → lun ≡ 0 → (dir : FileId) (result : Result ℕ FlxRefusal) (v w : Volume D met) (rt rt' : RtAccepted E met')
@@ -249,7 +331,8 @@ module _ {D E : Type 0} {met : Ghosts D} {met' : Ghosts E} (disk : E → Disk) (
       (rt_store_of (disk (volume_device rt)).image) (store_of_volume v) (store_of_volume w)))
       → IfErr result (λ e. is_whole result ≡ true → WhereSound disk v rt
       (FailsToCopyFromRt e c.mode c.rt_name (who_asks task operator.caller) lun dir c.name 0 (disk (volume_device rt)) (store_of_volume v) (store_of_volume w)))
-      → Answers disk result (WithinDirectory FromRt c dir result) v w rt rt'
+      → IfErr result (λ e. is_lethal e ≡ true → Ends of_volume (who_asks task operator.caller) e v w)
+      → Answers disk FromRt c.rt_name result (WithinDirectory FromRt c dir result) v w rt rt'
   copied-from-rt task lun task-is lun-is dir result v w rt rt' = subst (λ t. By t lun) (sym task-is) (subst (λ l. By 0 l) (sym lun-is) (answers-from-rt disk c v w rt rt' dir result))
     where
       By : ℕ → ℕ → Type 0
@@ -259,15 +342,16 @@ module _ {D E : Type 0} {met : Ghosts D} {met' : Ghosts E} (disk : E → Disk) (
           (rt_store_of (disk (volume_device rt)).image) (store_of_volume v) (store_of_volume w)))
           → IfErr result (λ e. is_whole result ≡ true → WhereSound disk v rt
           (FailsToCopyFromRt e c.mode c.rt_name (who_asks t operator.caller) l dir c.name 0 (disk (volume_device rt)) (store_of_volume v) (store_of_volume w)))
-          → Answers disk result (WithinDirectory FromRt c dir result) v w rt rt'
+          → IfErr result (λ e. is_lethal e ≡ true → Ends of_volume (who_asks t operator.caller) e v w)
+          → Answers disk FromRt c.rt_name result (WithinDirectory FromRt c dir result) v w rt rt'
 
   -- the file is found, and then it is copied
   pub found-source : (dir source : FileId) (result : Result ℕ FlxRefusal) (v u w : Volume D met) (rt rt' : RtAccepted E met')
-      → Grants of_volume operator (told (request.Find dir c.name) (reply.Found source)) v u → Answers disk result (OfSource disk c u w rt rt' source result) u w rt rt'
-      → Answers disk result (WithinDirectory ToRt c dir result) v w rt rt'
+      → Grants of_volume operator (told (request.Find dir c.name) (reply.Found source)) v u → Answers disk ToRt c.rt_name result (OfSource disk c u w rt rt' source result) u w rt rt'
+      → Answers disk ToRt c.rt_name result (WithinDirectory ToRt c dir result) v w rt rt'
   found-source dir source result v u w rt rt' grants answers =
-      answers-behind disk result (OfSource disk c u w rt rt' source result) (WithinDirectory ToRt c dir result) operator (told (request.Find dir c.name) (reply.Found source))
-      v u w rt rt' grants answers (by_result result)
+      answers-behind disk ToRt c.rt_name result (OfSource disk c u w rt rt' source result) (WithinDirectory ToRt c dir result) (told (request.Find dir c.name) (reply.Found source))
+      v u w rt rt' refl grants answers (by_result result)
     where
       by_result : (r : Result ℕ FlxRefusal) → Grants plain operator (told (request.Find dir c.name) (reply.Found source)) (store_of_volume v) (store_of_volume u)
           → OfSource disk c u w rt rt' source r (store_of_volume u) (store_of_volume w) (disk (volume_device rt)) (disk (volume_device rt'))
@@ -276,19 +360,20 @@ module _ {D E : Type 0} {met : Ghosts D} {met' : Ghosts E} (disk : E → Disk) (
       by_result (Err e) granted holds = (inr (record { source = source; found = store_of_volume u; finds = (store_of_volume u, granted, refl); refused = holds.0 }), holds.1)
 
   pub lacks-source : (dir : FileId) (e : Refusal) (v w : Volume D met) (rt : RtAccepted E met') → Fails of_volume operator is_found (request.Find dir c.name) e v w
-      → Answers disk (Err (Files e)) (WithinDirectory ToRt c dir (Err (Files e))) v w rt rt
+      → Answers disk ToRt c.rt_name (Err (Files e)) (WithinDirectory ToRt c dir (Err (Files e))) v w rt rt
   lacks-source dir e v w rt fails =
-      answers-not-found disk (WithinDirectory ToRt c dir (Err (Files e))) dir c.name e v w rt fails
+      answers-not-found disk ToRt c.rt_name (WithinDirectory ToRt c dir (Err (Files e))) dir c.name e v w rt fails
       (λ denies. (inl (record { refusal = e; is = refl; not_found = denies }), same-files c.rt_name (rt_store_of (disk (volume_device rt)).image)))
 
   -- the user's directory is found, and then a file is copied from it, or to it
   pub found-directory : (direction : Direction) → c.direction ≡ direction → (name : List ℕ) → name ≡ directory_name c.directory → (dir : FileId) (result : Result ℕ FlxRefusal)
       (v u w : Volume D met) (rt rt' : RtAccepted E met')
-      → Grants of_volume operator (told (request.Find master_directory name) (reply.Found dir)) v u → Answers disk result (WithinDirectory direction c dir result) u w rt rt'
-      → Answers disk result (OutcomeIs c result) v w rt rt'
+      → Grants of_volume operator (told (request.Find master_directory name) (reply.Found dir)) v u → Answers disk direction c.rt_name result (WithinDirectory direction c dir result) u w rt rt'
+      → Answers disk c.direction c.rt_name result (OutcomeIs c result) v w rt rt'
   found-directory direction is name name-is dir result v u w rt rt' grants answers =
-      answers-behind disk result (WithinDirectory direction c dir result) (OutcomeIs c result) operator (told (request.Find master_directory (directory_name c.directory)) (reply.Found dir))
-      v u w rt rt' (subst (λ n. Grants of_volume operator (told (request.Find master_directory n) (reply.Found dir)) v u) name-is grants) answers
+      subst (λ x. Answers disk x c.rt_name result (OutcomeIs c result) v w rt rt') (sym is)
+      (answers-behind disk direction c.rt_name result (WithinDirectory direction c dir result) (OutcomeIs c result) (told (request.Find master_directory (directory_name c.directory)) (reply.Found dir))
+      v u w rt rt' refl (subst (λ n. Grants of_volume operator (told (request.Find master_directory n) (reply.Found dir)) v u) name-is grants) answers
       (λ granted holds. record {
         files = inl (record {
           dir = dir;
@@ -297,12 +382,12 @@ module _ {D E : Type 0} {met : Ghosts D} {met' : Ghosts E} (disk : E → Disk) (
           within = subst (λ x. CopiesWithin x c dir result (store_of_volume u) (store_of_volume w) (disk (volume_device rt)) (disk (volume_device rt'))) (sym is) holds.0;
         });
         rt = subst (λ x. KeepsRt x c.rt_name result (rt_store_of (disk (volume_device rt)).image) (rt_store_of (disk (volume_device rt')).image)) (sym is) holds.1;
-      })
+      }))
 
   pub lacks-directory : (name : List ℕ) → name ≡ directory_name c.directory → (e : Refusal) (v w : Volume D met) (rt : RtAccepted E met')
-      → Fails of_volume operator is_found (request.Find master_directory name) e v w → Answers disk (Err (Files e)) (OutcomeIs c (Err (Files e))) v w rt rt
+      → Fails of_volume operator is_found (request.Find master_directory name) e v w → Answers disk c.direction c.rt_name (Err (Files e)) (OutcomeIs c (Err (Files e))) v w rt rt
   lacks-directory name name-is e v w rt fails =
-      answers-not-found disk (OutcomeIs c (Err (Files e))) master_directory (directory_name c.directory) e v w rt
+      answers-not-found disk c.direction c.rt_name (OutcomeIs c (Err (Files e))) master_directory (directory_name c.directory) e v w rt
       (subst (λ n. Fails of_volume operator is_found (request.Find master_directory n) e v w) name-is fails)
       (λ denies. record {
         files = inr (record { refusal = e; is = refl; not_found = denies });

@@ -4,7 +4,7 @@ use Rattle.std.specs.Fmt.{decimal}
 use Rattle.std.specs.Io.KnownBytes.{Keeps}
 use Rattle.f11_dev.specs.Disk.{Disk}
 use Rattle.f11_fcp.specs.Accesses.{Table, held_in, no_entries}
-use Rattle.f11_files.specs.Answers.{is_fault as is_files_fault}
+use Rattle.f11_files.specs.Answers.{is_fatal, is_fault as is_files_fault}
 use Rattle.f11_findings.specs.declared.finding.Finding.{Finding}
 use Rattle.f11_flx.specs.Copying.{is_whole, of_files, of_rt}
 use Rattle.f11_flx.specs.Refusal.{flx_refusal_name}
@@ -18,10 +18,11 @@ use Rattle.f11_vfy.specs.Verify.{Examines}
 use Rattle.f11_volume.specs.Verdict.{IsAccepted}
 use Rattle.rt11_volume.specs.Calls.{Accepts, Rejects, most_transfers}
 use Rattle.rt11_volume.specs.Files.{is_fault as is_rt_fault}
+use Rattle.rt11_volume.specs.Store.{rt_store_of}
 use Rattle.rt11_volume.specs.Verifying.Verdict.{IsRtAccepted}
 use Rattle.rt11_volume.specs.declared.refusal.RtRefusal.{RtRefusal}
 use Rattle.rt11_volume.specs.declared.refusal.RtRefusal.TheVariants as rt_refusal
-use Rattle.f11_commands.specs.Copying.{OutcomeIs}
+use Rattle.f11_commands.specs.Copying.{LeavesBegun, OutcomeIs, ReadsSource, StandsAsIs}
 use Rattle.f11_commands.specs.Output.{Takes}
 use Rattle.f11_commands.specs.RtVolume.{FailsToPrintRt, PrintsFaulty}
 use Rattle.f11_commands.specs.RunCommand.{HasFaults, WritesNothing}
@@ -71,9 +72,19 @@ Tells (Ok blocks) told contents before after =
     ((told ≡ Ok Copied) × Takes contents before after (copied_line blocks)) ⊎ (told ≡ Err CannotWrite)
 Tells (Err e) told contents before after = TellsRefusal e (failure_of_refusal e) told contents before after
 
--- A copy was asked for between the volumes of two images, of which neither has a fault. Where the disks are honest it is what the answer says
--- of the plain stores, from those of the images, in which nobody holds an access; a transfer failed exactly where a device fault is the
--- answer; and the images have no fault then, that of the RT-11 volume unless a device fault was met.
+-- What an answer tells of both disks: a transfer of one failed exactly where that is the answer, and no other of it followed. Neither
+-- volume had failed before.
+pub record FaresBoth (result : Result ℕ FlxRefusal) (files files' rt rt' : Disk) : Type 0 where
+  pub failures : files'.failures ≡ files.failures + (if of_files is_files_fault result then 1 else 0)
+  pub quiet : of_files is_files_fault result ≡ true → files'.calm ≡ 0
+  pub rt_failures : rt'.failures ≡ rt.failures + (if of_rt is_rt_fault result then 1 else 0)
+  pub rt_quiet : of_rt is_rt_fault result ≡ true → rt'.calm ≡ 0
+  pub alive : result ≢ Err (Files files_refusal.VolumeFailed)
+  pub rt_alive : result ≢ Err (Rt rt_refusal.Failed)
+
+-- A copy was asked for between the volumes of two images, of which neither has a fault. Where the disks are honest it is what the answer
+-- says of the plain stores, from those of the images, in which nobody holds an access; and the images have no fault then, that of the RT-11
+-- volume unless a transfer of it failed. Where one of either failed nothing is undone on the other; an RT-11 source is only read.
 pub record CopiesImages (c : Copying) (result : Result ℕ FlxRefusal) (files files' rt rt' : Disk) : Type 0 where
   pub home : HomeFields
   pub held : Table
@@ -81,10 +92,14 @@ pub record CopiesImages (c : Copying) (result : Result ℕ FlxRefusal) (files fi
   pub outcome : IsTrue files.honest → IsTrue rt.honest → is_whole result ≡ true →
       OutcomeIs c result (held_in no_entries (store_of files.image home)) (held_in held (store_of files'.image home)) rt rt'
   pub undamaged : IsTrue files.honest → result ≢ Err (Files files_refusal.Damaged)
-  pub failures : files'.failures ≡ files.failures + (if of_files is_files_fault result then 1 else 0)
-  pub rt_failures : rt'.failures ≡ rt.failures + (if of_rt is_rt_fault result then 1 else 0)
+  pub fares : FaresBoth result files files' rt rt'
+  pub source : ReadsSource c.direction rt rt'
+  pub broken : IsTrue files.honest → of_rt is_rt_fault result ≡ true →
+      StandsAsIs (held_in no_entries (store_of files.image home)) (held_in held (store_of files'.image home))
+  pub rt_broken : IsTrue rt.honest → of_files is_fatal result ≡ true →
+      LeavesBegun c.rt_name (rt_store_of rt.image) (rt_store_of rt'.image)
   pub accepted : IsTrue files.honest → IsAccepted files'.image
-  pub rt_accepted : IsTrue rt.honest → is_whole result ≡ true → IsRtAccepted rt'.image
+  pub rt_accepted : IsTrue rt.honest → of_rt is_rt_fault result ≡ false → IsRtAccepted rt'.image
 
 -- The copy was asked for, and its answer told.
 pub record AnswersCopy {W : Type 0} (c : Copying) (told : Result CopyAnswer Failure) (files files' rt rt' : Disk)
@@ -130,7 +145,8 @@ FailsToMount (Err NoMemory) old new contents before after =
     WritesNothing old new contents before after × (new.failures ≡ old.failures)
 
 -- how a command ends between two accepted volumes: the copy was asked for, or the Files-11 volume couldn't be mounted
-abbrev pub EndsBetween : {W : Type 0} → Copying → Result CopyAnswer Failure → Disk → Disk → Disk → Disk → (W → Option (List ℕ)) → W → W → Type 0
+abbrev pub EndsBetween : {W : Type 0} → Copying → Result CopyAnswer Failure → Disk → Disk → Disk → Disk →
+    (W → Option (List ℕ)) → W → W → Type 0
 EndsBetween c told files files' rt rt' contents before after =
     (AnswersCopy c told files files' rt rt' contents before after) ⊎ ((FailsToMount told files files' contents before after) × (rt' ≡ rt))
 
@@ -144,13 +160,17 @@ pub record GoesOn {W : Type 0} (c : Copying) (told : Result CopyAnswer Failure) 
   pub ends : EndsBetween c told files_read files' rt_read rt' contents before after
 
 -- the volume that is copied from is verified first
-abbrev pub EndsVerifying : {W : Type 0} → Direction → Result CopyAnswer Failure → Disk → Disk → Disk → Disk → (W → Option (List ℕ)) → W → W → Type 0
+abbrev pub EndsVerifying : {W : Type 0} → Direction → Result CopyAnswer Failure → Disk → Disk → Disk → Disk →
+    (W → Option (List ℕ)) → W → W → Type 0
 EndsVerifying ToRt told files files' rt rt' contents before after =
-    (EndsFiles told files files' contents before after × (rt' ≡ rt)) ⊎ (VerifiesFiles files files' × EndsRt told rt rt' contents before after)
+    (EndsFiles told files files' contents before after × (rt' ≡ rt))
+    ⊎ (VerifiesFiles files files' × EndsRt told rt rt' contents before after)
 EndsVerifying FromRt told files files' rt rt' contents before after =
-    (EndsRt told rt rt' contents before after × (files' ≡ files)) ⊎ (VerifiesRt rt rt' × EndsFiles told files files' contents before after)
+    (EndsRt told rt rt' contents before after × (files' ≡ files))
+    ⊎ (VerifiesRt rt rt' × EndsFiles told files files' contents before after)
 
 -- how a command that copies ends: with the first volume that isn't accepted, or behind both
-abbrev pub EndsCopy : {W : Type 0} → Direction → Copying → Result CopyAnswer Failure → Disk → Disk → Disk → Disk → (W → Option (List ℕ)) → W → W → Type 0
+abbrev pub EndsCopy : {W : Type 0} → Direction → Copying → Result CopyAnswer Failure → Disk → Disk → Disk → Disk →
+    (W → Option (List ℕ)) → W → W → Type 0
 EndsCopy direction c told files files' rt rt' contents before after =
     (EndsVerifying direction told files files' rt rt' contents before after) ⊎ (GoesOn c told files files' rt rt' contents before after)

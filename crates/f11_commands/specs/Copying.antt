@@ -1,7 +1,7 @@
 -- What a copy by names is, over the plain stores of two volumes (profile).
-use Rattle.std.specs.Prelude.{◌≡◌, ◌⊎◌, ℕ, ◌+◌, ◌*◌, ◌/◌, ◌%◌, ⊤, List, [], ◌∷◌, ◌++◌, Result, Ok, Err, codes}
+use Rattle.std.specs.Prelude.{◌≡◌, ◌⊎◌, ℕ, ◌+◌, ◌/◌, ◌%◌, ⊤, Bool, true, false, All, List, [], ◌∷◌, ◌++◌, Result, Ok, Err, codes}
 use Rattle.f11_dev.specs.Disk.{Disk}
-use Rattle.f11_flx.specs.Asking.{Denies, Granted, Who, asks, plain, told, who_asks}
+use Rattle.f11_flx.specs.Asking.{Asking, Denies, Granted, Who, asks, counts, plain, reads, told, who_asks, writes}
 use Rattle.f11_flx.specs.CopyFromRt.{CopiesFromRt, FailsToCopyFromRt, IsAsBefore}
 use Rattle.f11_flx.specs.CopyToRt.{CopiesToRt, FailsToCopyToRt}
 use Rattle.f11_flx.specs.RtOutcome.{HasSameFiles}
@@ -13,8 +13,11 @@ use Rattle.f11_store.specs.declared.callers.Uic.{Uic}
 use Rattle.f11_store.specs.declared.files.FileId.{FileId}
 use Rattle.f11_store.specs.declared.refusals.Refusal.{Refusal}
 use Rattle.f11_store.specs.declared.requests.Reply.TheVariants as reply
+use Rattle.f11_store.specs.declared.requests.Request.{Request}
 use Rattle.f11_store.specs.declared.requests.Request.TheVariants as request
-use Rattle.rt11_volume.specs.Store.{RtStore, rt_store_of}
+use Rattle.rt11_volume.specs.Laws.{KeepsOtherNames}
+use Rattle.rt11_volume.specs.Named.{files_named}
+use Rattle.rt11_volume.specs.Store.{Area, RtStore, rt_store_of}
 use Rattle.f11_commands.specs.declared.copy.Copying.{Copying}
 use Rattle.f11_commands.specs.declared.copy.Direction.{Direction}
 use Rattle.f11_commands.specs.declared.copy.Direction.TheVariants.{ToRt, FromRt}
@@ -89,7 +92,7 @@ pub record LacksDirectory (c : Copying) (result : Result ℕ FlxRefusal) (s s' :
   pub is : result ≡ Err (Files refusal)
   pub not_found : FindsNot master_directory (directory_name c.directory) refusal s s'
 
--- what becomes of the RT-11 volume: one that is copied from stays, and one that is copied to has the files that it had where the copy is refused
+-- what becomes of the RT-11 volume: one that is copied from stays, and one to which a copy is refused has the files that it had
 abbrev pub KeepsRt : Direction → List ℕ → Result ℕ FlxRefusal → RtStore → RtStore → Type 0
 KeepsRt ToRt name (Ok blocks) t t' = ⊤
 KeepsRt ToRt name (Err e) t t' = HasSameFiles name t t'
@@ -99,3 +102,43 @@ KeepsRt FromRt name result t t' = t' ≡ t
 pub record OutcomeIs (c : Copying) (result : Result ℕ FlxRefusal) (s s' : Store) (disk disk' : Disk) : Type 0 where
   pub files : (HasDirectory c result s s' disk disk') ⊎ (LacksDirectory c result s s')
   pub rt : KeepsRt c.direction c.rt_name result (rt_store_of disk.image) (rt_store_of disk'.image)
+
+-- Nothing was written to a disk.
+pub record IsOnlyRead (old new : Disk) : Type 0 where
+  pub image : new.image ≡ old.image
+  pub history : new.history ≡ old.history
+
+-- whatever the answer is, an RT-11 volume that is copied from is only read
+abbrev pub ReadsSource : Direction → Disk → Disk → Type 0
+ReadsSource ToRt old new = ⊤
+ReadsSource FromRt old new = IsOnlyRead old new
+
+-- what undoes something: an access is given up, a file is deleted
+abbrev pub is_undoing_request : Request → Bool
+is_undoing_request (request.Deaccess lun) = true
+is_undoing_request (request.Delete id) = true
+is_undoing_request _ = false
+
+abbrev pub is_undoing : Asking → Bool
+is_undoing (asks r) = is_undoing_request r
+is_undoing (told r reply) = is_undoing_request r
+is_undoing (reads lun vbn block) = false
+is_undoing (writes lun vbn block) = false
+is_undoing (counts lun blocks) = false
+
+-- The copy was broken off: what had been granted stays as it is, and nothing of it is undone.
+pub record StandsAsIs (s s' : Store) : Type 0 where
+  pub asked : List Asking
+  pub granted : Granted plain operator asked s s'
+  pub none_undone : All (λ x. is_undoing x ≡ false) asked
+
+-- A file was made on an RT-11 volume, the only one of its name; some of its blocks may be written.
+pub record HasBegun (name : List ℕ) (t t' : RtStore) : Type 0 where
+  pub file : Area
+  pub none : files_named name t ≡ []
+  pub one : files_named name t' ≡ file ∷ []
+  pub others : KeepsOtherNames name t t'
+
+-- what a copy that was broken off leaves on an RT-11 volume: the files that it had, or its own besides
+abbrev pub LeavesBegun : List ℕ → RtStore → RtStore → Type 0
+LeavesBegun name t t' = (HasSameFiles name t t') ⊎ (HasBegun name t t')

@@ -35,6 +35,7 @@ pub fn serve<D: Device, E: Device, W: Write>(
 ) -> (D, E, Result<CopyAnswer, Failure>)
     requires accepted { IsTrue (E.disk (volume_device rt)).honest
         → IsRtAccepted (E.disk (volume_device rt)).image }
+    requires fresh { has_failed rt ≡ false }
     ensures ends { EndsBetween copy.now result.2 (D.disk (device_of accepted)) (D.disk result.0)
         (E.disk (volume_device rt)) (E.disk result.1) W.contents writer.old writer.new }
 {
@@ -70,8 +71,8 @@ fn copy_by_names<D: Device, E: Device>(
     rt: &mut RtAccepted<E>,
     copy: &Copying,
 ) -> Result<u32, FlxRefusal>
-    ensures answers { Answers E.disk result (OutcomeIs copy.now result)
-        volume.old volume.new rt.old rt.new }
+    ensures answers { Answers E.disk copy.now.direction copy.now.rt_name result
+        (OutcomeIs copy.now result) volume.old volume.new rt.old rt.new }
 {
     let directory = directory_name(copy.directory);
     let dir = match find(volume, MASTER_DIRECTORY, &directory) {
@@ -91,8 +92,8 @@ fn copy_out<D: Device, E: Device>(
     rt: &mut RtAccepted<E>,
     copy: &Copying,
 ) -> Result<u32, FlxRefusal>
-    ensures answers { Answers E.disk result (WithinDirectory direction.ToRt copy.now dir result)
-        volume.old volume.new rt.old rt.new }
+    ensures answers { Answers E.disk direction.ToRt copy.now.rt_name result
+        (WithinDirectory direction.ToRt copy.now dir result) volume.old volume.new rt.old rt.new }
 {
     let source = match find(volume, dir, &copy.name) {
         Ok(source) => source,
@@ -120,8 +121,8 @@ fn copy_in<D: Device, E: Device>(
     rt: &mut RtAccepted<E>,
     copy: &Copying,
 ) -> Result<u32, FlxRefusal>
-    ensures answers { Answers E.disk result (WithinDirectory direction.FromRt copy.now dir result)
-        volume.old volume.new rt.old rt.new }
+    ensures answers { Answers E.disk direction.FromRt copy.now.rt_name result
+        (WithinDirectory direction.FromRt copy.now dir result) volume.old volume.new rt.old rt.new }
 {
     let task = first_task();
     let lun = first_lun();

@@ -13,5 +13,5 @@ returns g c = record {
       c.args.rt.now c.copy_to_rt.new.rt c.in-Ok.ensures.found
       (copied-to-rt g.E.Device.disk c.args.copy.now c.first_task-task.result c.first_lun-lun.result c.first_task-task.ensures c.first_lun-lun.ensures c.in-Ok.source
       c.copy_to_rt.result c.find.new.volume c.copy_to_rt.new.vol c.args.rt.now c.copy_to_rt.new.rt c.copy_to_rt.ensures.files c.copy_to_rt.ensures.target
-      c.copy_to_rt.ensures.copied c.copy_to_rt.ensures.refused);
+      c.copy_to_rt.ensures.copied c.copy_to_rt.ensures.refused c.copy_to_rt.ensures.ended);
 }
