@@ -56,8 +56,12 @@ pub enum Why {
 
 /// What is said where the words can't be read, since one isn't text: the first such one.
 pub fn of_words(rt: &HostRuntime) -> Remark<'static> {
+    let word = match no_text(rt) {
+        Some(place) => Which::Place(place),
+        None => Which::Unknown,
+    };
     Remark {
-        word: no_text(rt).map_or(Which::Unknown, Which::Place),
+        word,
         why: Why::NotText,
     }
 }
