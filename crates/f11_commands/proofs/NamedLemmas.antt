@@ -11,7 +11,7 @@ use Rattle.f11_flx.proofs.VolumeLemmas.{IsFared, denied-fared, granted-fared, vo
 use Rattle.f11_flx.specs.Asking.{Asking, Denies, Fails, Grants, Who, asks, plain, told, who_asks}
 use Rattle.f11_flx.specs.Copying.{AsksOnly, FaresFiles, FaresRt, MakesFile, MakesRtFile, ReadsFiles, ReadsRt, WhereSound, is_whole, of_files, of_rt, of_volume}
 use Rattle.f11_flx.specs.CopyFromRt.{CopiesFromRt, FailsToCopyFromRt}
-use Rattle.f11_flx.specs.CopyToRt.{CopiesToRt, FailsToCopyToRt}
+use Rattle.f11_flx.specs.CopyToRt.{CopiesToRt, FailsToCopyToRt, RefusesCopyToRt}
 use Rattle.f11_flx.specs.Ended.{Ends}
 use Rattle.f11_flx.specs.EndedToRt.{EndsToRt}
 use Rattle.f11_flx.specs.Refusal.{is_lethal}
@@ -204,11 +204,11 @@ module _ {D E : Type 0} {met : Ghosts D} {met' : Ghosts E} (disk : E → Disk) w
     abbrev pub OfSource : FileId → Result ℕ FlxRefusal → Store → Store → Disk → Disk → Type 0
     OfSource source (Ok blocks) t t' e e' = CopiesToRt c.mode operator 0 source c.rt_name 0 blocks t t' (rt_store_of e.image) (rt_store_of e'.image)
     OfSource source (Err refusal) t t' e e' =
-        FailsToCopyToRt refusal c.mode operator 0 source c.rt_name t t' e × HasSameFiles c.rt_name (rt_store_of e.image) (rt_store_of e'.image)
+        FailsToCopyToRt refusal c.mode operator 0 source c.rt_name t t' e × (rt_store_of e'.image ≡ rt_store_of e.image)
 
     pub answers-to-rt : (source : FileId) (result : Result ℕ FlxRefusal) → ReadsFiles result operator v w → MakesRtFile disk result c.rt_name rt rt'
         → IfOk result (λ blocks. WhereSound disk v rt (CopiesToRt c.mode operator 0 source c.rt_name 0 blocks s s' (rt_store_of d.image) (rt_store_of d'.image)))
-        → IfErr result (λ e. is_whole result ≡ true → WhereSound disk v rt (FailsToCopyToRt e c.mode operator 0 source c.rt_name s s' d))
+        → IfErr result (λ e. is_whole result ≡ true → WhereSound disk v rt (RefusesCopyToRt e c.mode operator 0 source c.rt_name s s' d d'))
         → IfErr result (λ e. is_lethal e ≡ true → EndsToRt c.mode of_volume disk operator 0 source c.rt_name 0 e v w rt rt')
         → Answers disk ToRt c.rt_name result (OfSource source result) v w rt rt'
     answers-to-rt source result files target copied refused ended = record {
@@ -255,10 +255,10 @@ module _ {D E : Type 0} {met : Ghosts D} {met' : Ghosts E} (disk : E → Disk) w
 
         by_result : (r : Result ℕ FlxRefusal) → MakesRtFile disk r c.rt_name rt rt'
             → IfOk r (λ blocks. WhereSound disk v rt (CopiesToRt c.mode operator 0 source c.rt_name 0 blocks s s' (rt_store_of d.image) (rt_store_of d'.image)))
-            → IfErr r (λ e. is_whole r ≡ true → WhereSound disk v rt (FailsToCopyToRt e c.mode operator 0 source c.rt_name s s' d))
+            → IfErr r (λ e. is_whole r ≡ true → WhereSound disk v rt (RefusesCopyToRt e c.mode operator 0 source c.rt_name s s' d d'))
             → is_sound v ≡ true → IsSoundDisk d → is_whole r ≡ true → OfSource source r s s' d d'
         by_result (Ok blocks) made copies not-copied sound rt-sound whole = copies sound rt-sound
-        by_result (Err e) made copies not-copied sound rt-sound whole = (not-copied whole sound rt-sound, made.undone e refl rt-sound whole)
+        by_result (Err e) made copies not-copied sound rt-sound whole = let is = not-copied whole sound rt-sound in (is.why, ap (λ i. rt_store_of i) is.unwritten)
 
     -- a copy from it
     pub answers-from-rt : (dir : FileId) (result : Result ℕ FlxRefusal) → ReadsRt disk result rt rt' → MakesFile result operator v w
@@ -288,7 +288,7 @@ module _ {D E : Type 0} {met : Ghosts D} {met' : Ghosts E} (disk : E → Disk) w
         stopped sound (Err LineTooLong) h fault = absurd (cc)
         stopped sound (Ok blocks) h fault = absurd (cc)
 
-        same : (r : Result ℕ FlxRefusal) → KeepsRt FromRt c.rt_name r (rt_store_of d.image) (rt_store_of d'.image)
+        same : (r : Result ℕ FlxRefusal) → KeepsRt FromRt r (rt_store_of d.image) (rt_store_of d'.image)
         same r = ap (λ i. rt_store_of i) source.image
 
         by_result : (r : Result ℕ FlxRefusal) → MakesFile r operator v w
@@ -298,9 +298,9 @@ module _ {D E : Type 0} {met : Ghosts D} {met' : Ghosts E} (disk : E → Disk) w
         by_result (Ok blocks) made copies not-copied sound rt-sound whole = copies sound rt-sound
         by_result (Err e) made copies not-copied sound rt-sound whole = record { refused = not-copied whole sound rt-sound; undone = made.undone e refl sound whole }
 
-keeps-rt : (direction : Direction) (name : List ℕ) (e : FlxRefusal) (t : RtStore) → KeepsRt direction name (Err e) t t
-keeps-rt ToRt name e t = same-files name t
-keeps-rt FromRt name e t = refl
+keeps-rt : (direction : Direction) (e : FlxRefusal) (t : RtStore) → KeepsRt direction (Err e) t t
+keeps-rt ToRt e t = refl
+keeps-rt FromRt e t = refl
 
 module _ {D E : Type 0} {met : Ghosts D} {met' : Ghosts E} (disk : E → Disk) (c : Copying) where
   -- a copy to the RT-11 volume, asked for by a task and a lun of these numbers
@@ -309,7 +309,7 @@ module _ {D E : Type 0} {met : Ghosts D} {met' : Ghosts E} (disk : E → Disk) (
       → IfOk result (λ blocks. WhereSound disk v rt (CopiesToRt c.mode (who_asks task operator.caller) lun source c.rt_name 0 blocks (store_of_volume v) (store_of_volume w)
       (rt_store_of (disk (volume_device rt)).image) (rt_store_of (disk (volume_device rt')).image)))
       → IfErr result (λ e. is_whole result ≡ true → WhereSound disk v rt
-      (FailsToCopyToRt e c.mode (who_asks task operator.caller) lun source c.rt_name (store_of_volume v) (store_of_volume w) (disk (volume_device rt))))
+      (RefusesCopyToRt e c.mode (who_asks task operator.caller) lun source c.rt_name (store_of_volume v) (store_of_volume w) (disk (volume_device rt)) (disk (volume_device rt'))))
       → IfErr result (λ e. is_lethal e ≡ true → EndsToRt c.mode of_volume disk (who_asks task operator.caller) lun source c.rt_name 0 e v w rt rt')
       → Answers disk ToRt c.rt_name result (OfSource disk c v w rt rt' source result) v w rt rt'
   copied-to-rt task lun task-is lun-is source result v w rt rt' = subst (λ t. By t lun) (sym task-is) (subst (λ l. By 0 l) (sym lun-is) (answers-to-rt disk c v w rt rt' source result))
@@ -320,7 +320,7 @@ module _ {D E : Type 0} {met : Ghosts D} {met' : Ghosts E} (disk : E → Disk) (
           → IfOk result (λ blocks. WhereSound disk v rt (CopiesToRt c.mode (who_asks t operator.caller) l source c.rt_name 0 blocks (store_of_volume v) (store_of_volume w)
           (rt_store_of (disk (volume_device rt)).image) (rt_store_of (disk (volume_device rt')).image)))
           → IfErr result (λ e. is_whole result ≡ true → WhereSound disk v rt
-          (FailsToCopyToRt e c.mode (who_asks t operator.caller) l source c.rt_name (store_of_volume v) (store_of_volume w) (disk (volume_device rt))))
+          (RefusesCopyToRt e c.mode (who_asks t operator.caller) l source c.rt_name (store_of_volume v) (store_of_volume w) (disk (volume_device rt)) (disk (volume_device rt'))))
           → IfErr result (λ e. is_lethal e ≡ true → EndsToRt c.mode of_volume disk (who_asks t operator.caller) l source c.rt_name 0 e v w rt rt')
           → Answers disk ToRt c.rt_name result (OfSource disk c v w rt rt' source result) v w rt rt'
 
@@ -363,7 +363,7 @@ module _ {D E : Type 0} {met : Ghosts D} {met' : Ghosts E} (disk : E → Disk) (
       → Answers disk ToRt c.rt_name (Err (Files e)) (WithinDirectory ToRt c dir (Err (Files e))) v w rt rt
   lacks-source dir e v w rt fails =
       answers-not-found disk ToRt c.rt_name (WithinDirectory ToRt c dir (Err (Files e))) dir c.name e v w rt fails
-      (λ denies. (inl (record { refusal = e; is = refl; not_found = denies }), same-files c.rt_name (rt_store_of (disk (volume_device rt)).image)))
+      (λ denies. (inl (record { refusal = e; is = refl; not_found = denies }), refl))
 
   -- the user's directory is found, and then a file is copied from it, or to it
   pub found-directory : (direction : Direction) → c.direction ≡ direction → (name : List ℕ) → name ≡ directory_name c.directory → (dir : FileId) (result : Result ℕ FlxRefusal)
@@ -381,7 +381,7 @@ module _ {D E : Type 0} {met : Ghosts D} {met' : Ghosts E} (disk : E → Disk) (
           finds = (store_of_volume u, granted, refl);
           within = subst (λ x. CopiesWithin x c dir result (store_of_volume u) (store_of_volume w) (disk (volume_device rt)) (disk (volume_device rt'))) (sym is) holds.0;
         });
-        rt = subst (λ x. KeepsRt x c.rt_name result (rt_store_of (disk (volume_device rt)).image) (rt_store_of (disk (volume_device rt')).image)) (sym is) holds.1;
+        rt = subst (λ x. KeepsRt x result (rt_store_of (disk (volume_device rt)).image) (rt_store_of (disk (volume_device rt')).image)) (sym is) holds.1;
       }))
 
   pub lacks-directory : (name : List ℕ) → name ≡ directory_name c.directory → (e : Refusal) (v w : Volume D met) (rt : RtAccepted E met')
@@ -391,5 +391,5 @@ module _ {D E : Type 0} {met : Ghosts D} {met' : Ghosts E} (disk : E → Disk) (
       (subst (λ n. Fails of_volume operator is_found (request.Find master_directory n) e v w) name-is fails)
       (λ denies. record {
         files = inr (record { refusal = e; is = refl; not_found = denies });
-        rt = keeps-rt c.direction c.rt_name (Files e) (rt_store_of (disk (volume_device rt)).image);
+        rt = keeps-rt c.direction (Files e) (rt_store_of (disk (volume_device rt)).image);
       })

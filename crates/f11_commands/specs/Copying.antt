@@ -92,16 +92,16 @@ pub record LacksDirectory (c : Copying) (result : Result ℕ FlxRefusal) (s s' :
   pub is : result ≡ Err (Files refusal)
   pub not_found : FindsNot master_directory (directory_name c.directory) refusal s s'
 
--- what becomes of the RT-11 volume: one that is copied from stays, and one to which a copy is refused has the files that it had
-abbrev pub KeepsRt : Direction → List ℕ → Result ℕ FlxRefusal → RtStore → RtStore → Type 0
-KeepsRt ToRt name (Ok blocks) t t' = ⊤
-KeepsRt ToRt name (Err e) t t' = HasSameFiles name t t'
-KeepsRt FromRt name result t t' = t' ≡ t
+-- what becomes of the RT-11 volume: one that is copied from stays, and so does one to which a copy is refused
+abbrev pub KeepsRt : Direction → Result ℕ FlxRefusal → RtStore → RtStore → Type 0
+KeepsRt ToRt (Ok blocks) t t' = ⊤
+KeepsRt ToRt (Err e) t t' = t' ≡ t
+KeepsRt FromRt result t t' = t' ≡ t
 
 -- What is so behind the answer of a copy by names.
 pub record OutcomeIs (c : Copying) (result : Result ℕ FlxRefusal) (s s' : Store) (disk disk' : Disk) : Type 0 where
   pub files : (HasDirectory c result s s' disk disk') ⊎ (LacksDirectory c result s s')
-  pub rt : KeepsRt c.direction c.rt_name result (rt_store_of disk.image) (rt_store_of disk'.image)
+  pub rt : KeepsRt c.direction result (rt_store_of disk.image) (rt_store_of disk'.image)
 
 -- Nothing was written to a disk.
 pub record IsOnlyRead (old new : Disk) : Type 0 where

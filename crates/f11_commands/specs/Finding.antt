@@ -53,7 +53,7 @@ pub record Answers {D E : Type 0} {met : Ghosts D} {met' : Ghosts E} (disk : E �
 abbrev pub WithinDirectory : Direction → Copying → FileId → Result ℕ FlxRefusal → Store → Store → Disk → Disk → Type 0
 WithinDirectory direction c dir result s s' disk disk' =
     CopiesWithin direction c dir result s s' disk disk'
-    × KeepsRt direction c.rt_name result (rt_store_of disk.image) (rt_store_of disk'.image)
+    × KeepsRt direction result (rt_store_of disk.image) (rt_store_of disk'.image)
 
 -- how the name of a user's directory is spelled, as `200001.DIR;1`
 abbrev pub directory_text : Uic → List ℕ

@@ -13,7 +13,7 @@ use Rattle.f11_fcp.specs.Lists.{is_sound, store_of_volume}
 use Rattle.f11_fcp.specs.declared.volume.Volume.{Volume}
 use Rattle.f11_flx.specs.Asking.{Who}
 use Rattle.f11_flx.specs.Copying.{FaresRt, KeepsFailed, MakesRtFile, MayRefuseFailed, WhereSound, is_whole, of_rt, of_volume}
-use Rattle.f11_flx.specs.CopyToRt.{CopiesToRt, FailsToCopyToRt}
+use Rattle.f11_flx.specs.CopyToRt.{CopiesToRt, FailsToCopyToRt, RefusesCopyToRt}
 use Rattle.f11_flx.specs.EndedToRt.{EndsToRt}
 use Rattle.f11_flx.specs.Refusal.{is_lethal}
 use Rattle.f11_flx.specs.RtOutcome.{LeavesRt, is_rt_fault}
@@ -25,7 +25,7 @@ use Rattle.f11_flx.specs.declared.refusal.FlxRefusal.TheVariants.{BadRecord, Fil
 use Rattle.f11_flx.proofs.CopiedLemmas.{copied}
 use Rattle.f11_flx.proofs.EndedToRtLemmas.{copy-ends-to-rt}
 use Rattle.f11_flx.proofs.KeptToRtLemmas.{made-keeps, uncopied-keeps, unmade-keeps}
-use Rattle.f11_flx.proofs.RefusedLemmas.{refused}
+use Rattle.f11_flx.proofs.RefusedLemmas.{refused, refused-same}
 use Rattle.f11_flx.proofs.RtOutcomeLemmas.{file-leaves, file-made}
 use Rattle.f11_flx.proofs.SmallLemmas.{not-true}
 use Rattle.f11_flx.proofs.SpentLemmas.{failed-refused, failed-uncopied, spent-unasked}
@@ -97,10 +97,15 @@ module _ {D E : Type 0} {met : Ghosts D} {met' : Ghosts E} (disk : E → Disk) (
     copies (Err e) made = tt
 
     pub refuses : (r : as-result ℕ) → IfErr r (λ e. FailsToCopyFile m of_volume disk who lun file name day e old new rt rt') →
-        IfErr r (λ e. is_whole r ≡ true → WhereSound disk old rt (FailsToCopyToRt e m who lun file name (store_of_volume old) (store_of_volume new) (rt_disk disk rt)))
+        IfErr r (λ e. is_whole r ≡ true → WhereSound disk old rt
+        (RefusesCopyToRt e m who lun file name (store_of_volume old) (store_of_volume new) (rt_disk disk rt) (rt_disk disk rt')))
     refuses (Ok count) failed = tt
     refuses (Err e) failed = λ whole sound sound'.
-        refused of_volume store_of_volume is_sound volume-seen who lun file name (store_of_volume old) disk day rt (λ alive. sound') m e old new rt' refl sound (not-true (is_lethal e) whole) failed
+        let clean = not-true (is_lethal e) whole in
+        record {
+          why = refused of_volume store_of_volume is_sound volume-seen who lun file name (store_of_volume old) disk day rt (λ alive. sound') m e old new rt' refl sound clean failed;
+          unwritten = refused-same of_volume store_of_volume is_sound volume-seen who lun file name (store_of_volume old) disk day rt (λ alive. sound') m e old new rt' refl sound clean failed;
+        }
 
     -- an RT-11 volume that had failed isn't read, so what its image is doesn't count
     pub refuses-failed : (r : as-result ℕ) → IfErr r (λ e. FailsToCopyFile m of_volume disk who lun file name day e old new rt rt') → has_failed rt ≡ true →

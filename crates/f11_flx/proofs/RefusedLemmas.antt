@@ -421,6 +421,23 @@ module _ {V : Type 0} (S : Service V) (view : V → Store) (is_sound : V → Boo
       locked-stops m e opened w rt' free a clean (inr (inr k)) =
           not-filled m k.attr k.blocks k.count e opened k.seen k.walked w rt' (told-at k.attr k.blocks opened k.seen a k.told) k.told k.counted clean k.fails
 
+      -- and nothing was written to the RT-11 volume
+      abbrev Unwritten : RtAccepted E met → Type 0
+      Unwritten rt' = (rt_disk disk rt').image ≡ (rt_disk disk rt).image
+
+      unfilled-same : (m : CopyMode) (attr : List ℕ) (n count : ℕ) (e : FlxRefusal) (v w x : V) (rt' : RtAccepted E met) → IsTold attr n v → CountsAs m S who lun name attr n count v w →
+          is_lethal e ≡ false → FailsToFill m S disk who lun name attr n count day e w x rt rt' → Unwritten rt'
+      unfilled-same m attr n count e v w x rt' t c clean (inl k) = k.fails.refused.stays (clean-of e (refusal.Rt k.refusal) k.is clean)
+      unfilled-same m attr n count e v w x rt' t c clean (inr k) =
+          absurd (none-refused m attr n count v w x k.made k.stopped k.refusal t c (counted-at m attr n count v w t c).at k.makes k.fails (undone-clean disk day e k.refusal k.stopped rt' k.undoes clean))
+
+      locked-same : (m : CopyMode) (e : FlxRefusal) (opened w : V) (rt' : RtAccepted E met) → IsAt opened → is_lethal e ≡ false →
+          FailsLocked m S disk who lun file name day e opened w rt rt' → Unwritten rt'
+      locked-same m e opened w rt' a clean (inl k) = ap (λ x. (rt_disk disk x).image) k.left
+      locked-same m e opened w rt' a clean (inr (inl k)) = ap (λ x. (rt_disk disk x).image) k.left
+      locked-same m e opened w rt' a clean (inr (inr k)) =
+          unfilled-same m k.attr k.blocks k.count e k.seen k.walked w rt' (told-at k.attr k.blocks opened k.seen a k.told) k.counted clean k.fails
+
       -- the source was given up behind what was walked over
       gives-up : (m : CopyMode) (e : FlxRefusal) (old opened stopped new : V) → view old ≡ s → is_sound old ≡ true → Grants S who (asks (request.Access file mode.Locked lun)) old opened →
           Stops m e opened stopped → Grants S who (asks (request.Deaccess lun)) stopped new → GivesUp who lun file s (view new)
@@ -466,6 +483,21 @@ module _ {V : Type 0} (S : Service V) (view : V → Store) (is_sound : V → Boo
               ends (inl x) at = true-false (sym x.0 ∙ ap is_lethal (sym x.1) ∙ clean)
               ends (inr x) at = closing h.refusal k.stopped new at x.0 h.denied
       refused m e old new rt' is sound clean (inr (inr k)) =
+          let a = opened-at old k.opened is sound k.opens in
+          let at = copied-at disk day m k.count k.opened k.left rt k.filled a.1 k.copies in
+          absurd (closing k.refusal k.left new at (undone-clean disk day e (refusal.Files k.refusal) k.filled rt' k.undoes clean) k.denied)
+
+      pub refused-same : (m : CopyMode) (e : FlxRefusal) (old new : V) (rt' : RtAccepted E met) → view old ≡ s → is_sound old ≡ true → is_lethal e ≡ false →
+          FailsToCopyFile m S disk who lun file name day e old new rt rt' → (rt_disk disk rt').image ≡ (rt_disk disk rt).image
+      refused-same m e old new rt' is sound clean (inl k) = ap (λ x. (rt_disk disk x).image) k.left
+      refused-same m e old new rt' is sound clean (inr (inl k)) =
+          locked-same m k.refusal k.opened k.stopped rt' (opened-at old k.opened is sound k.opens).1 (by k.gives) k.fails
+        where
+          by : GaveUp S who lun k.refusal e k.stopped new → is_lethal k.refusal ≡ false
+          by (inl h) = absurd (true-false (sym h.lethal ∙ ap is_lethal (sym h.same) ∙ clean))
+          by (inr (inl h)) = h.clean
+          by (inr (inr h)) = h.clean
+      refused-same m e old new rt' is sound clean (inr (inr k)) =
           let a = opened-at old k.opened is sound k.opens in
           let at = copied-at disk day m k.count k.opened k.left rt k.filled a.1 k.copies in
           absurd (closing k.refusal k.left new at (undone-clean disk day e (refusal.Files k.refusal) k.filled rt' k.undoes clean) k.denied)

@@ -123,3 +123,9 @@ FailsToCopyToRt (refusal.Rt e) m who lun source name s s' disk =
 FailsToCopyToRt refusal.BadRecord m who lun source name s s' disk =
     GivesUp who lun source s s' × (HasWholeBlocks (file_named s source) → copied_to_rt m (file_named s source) ≡ None)
 FailsToCopyToRt refusal.LineTooLong m who lun source name s s' disk = ⊥
+
+-- It is refused so, and nothing is written to the RT-11 volume.
+pub record RefusesCopyToRt (e : FlxRefusal) (m : CopyMode) (who : Who) (lun : ℕ) (source : FileId) (name : List ℕ) (s s' : Store)
+    (disk disk' : Disk) : Type 0 where
+  pub why : FailsToCopyToRt e m who lun source name s s' disk
+  pub unwritten : disk'.image ≡ disk.image

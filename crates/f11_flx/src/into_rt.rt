@@ -7,7 +7,7 @@ ghost use Rattle.f11_flx.specs.Copying.{MakesRtFile, ReadsFiles, WhereSound, is_
 ghost use Rattle.f11_flx.specs.EndedToRt.{EndsToRt};
 ghost use Rattle.f11_flx.specs.Refusal.{is_lethal};
 ghost use Rattle.f11_flx.specs.Asking.{who_asks};
-ghost use Rattle.f11_flx.specs.CopyToRt.{CopiesToRt, FailsToCopyToRt};
+ghost use Rattle.f11_flx.specs.CopyToRt.{CopiesToRt, FailsToCopyToRt, RefusesCopyToRt};
 
 use crate::asked::Asker;
 use crate::mode::CopyMode;
@@ -57,8 +57,9 @@ pub fn copy_to_rt<D: Device, E: Device>(
         (rt_store_of (E.disk (volume_device rt.old)).image)
         (rt_store_of (E.disk (volume_device rt.new)).image))) }
     ensures refused { IfErr result (λ e. is_whole result ≡ true → WhereSound E.disk vol.old rt.old
-        (FailsToCopyToRt e mode (who_asks task uic) lun source name.now
-        (store_of_volume vol.old) (store_of_volume vol.new) (E.disk (volume_device rt.old)))) }
+        (RefusesCopyToRt e mode (who_asks task uic) lun source name.now
+        (store_of_volume vol.old) (store_of_volume vol.new)
+        (E.disk (volume_device rt.old)) (E.disk (volume_device rt.new)))) }
 {
     let by = Asker { task, lun, uic };
     copy_file(vol, &by, source, mode, rt, name, date)
