@@ -16,7 +16,7 @@ use Rattle.f11_map.specs.MapArea.{runs_of, blocks_in, LiesIn}
 use Rattle.f11_map.proofs.MapLemmas.{blocks_in-append, slice_get-append_back}
 use Rattle.f11_map.proofs.RunLemmas.{slice_get-blocks_in}
 use Rattle.f11_chain.specs.FileHeaders.{file_blocks, blocks_before, block_by_vbn}
-use Rattle.f11_chain.specs.Windows.{runs_held, blocks_held, StandsIn, IsWindowOf, HoldsBlock, HoldsAt, HoldsRuns, LiesOn, Fills, IsPast, IsWindowAt}
+use Rattle.f11_chain.specs.Windows.{runs_held, blocks_held, StandsIn, IsWindowOf, HoldsBlock, HoldsAt, HoldsRuns, LiesOn, Fills, IsPast, IsWindowAt, empty_window}
 use Rattle.f11_chain.specs.declared.windows.Window.{Window}
 use Rattle.f11_chain.proofs.ChangeLemmas.{header-stands}
 
@@ -192,12 +192,12 @@ window-stays old new f w more grows is =
 pub window-stays-alike : (old new : Table) (f : ℕ) (w : Window) → file_blocks new f ≡ file_blocks old f → IsWindowOf old f w → IsWindowOf new f w
 window-stays-alike old new f w same is = subst (λ (blocks : List ℕ). StandsIn blocks (w.first - 1) (blocks_held w)) (sym same) is
 
-pub empty-window : (t : Table) (f : ℕ) (w : Window) → w.first ≡ 1 → w.used ≡ 0 → IsWindowOf t f w
-empty-window t f w first none = record {
+pub empty-window : (t : Table) (f : ℕ) → IsWindowOf t f empty_window
+empty-window t f = record {
   before = [];
   behind = file_blocks t f;
-  whole_is = ap (λ (n : ℕ). blocks_in (take n w.runs) ++ file_blocks t f) (sym none);
-  at_is = omega (arith, first);
+  whole_is = refl;
+  at_is = refl;
 }
 
 -- run i of a window

@@ -1,5 +1,5 @@
 -- A header's retrieval pointers, and windows: a few of them in a row (Files-11 On-Disk Structure Level 1, "Map Area"; profile: seven).
-use Rattle.std.specs.Prelude.{◌≡◌, ℕ, ◌+◌, ◌-◌, ◌<◌, ◌≤◌, IsTrue, List, ◌++◌, length, take, drop, slice_range, All, Contains, Some, Result}
+use Rattle.std.specs.Prelude.{◌≡◌, ℕ, ◌+◌, ◌-◌, ◌<◌, ◌≤◌, IsTrue, List, ◌++◌, length, replicate, take, drop, slice_range, All, Contains, Some, Result}
 use Rattle.std.specs.List.{slice_get}
 use Rattle.f11_dev.specs.Disk.{Disk, Reads, Writes}
 use Rattle.f11_index.specs.Headers.{headers_of}
@@ -10,6 +10,10 @@ use Rattle.f11_map.specs.MapArea.{blocks_in, LiesIn}
 use Rattle.f11_chain.specs.Calls.{table, LooksAlongFile}
 use Rattle.f11_chain.specs.FileHeaders.{file_blocks, blocks_before, block_by_vbn}
 use Rattle.f11_chain.specs.declared.windows.Window.{Window}
+
+-- a window that holds no run
+abbrev pub empty_window : Window
+empty_window = record { first = 1; used = 0; runs = replicate 7 (0, 0) }
 
 -- the runs that a window holds, and their blocks laid end to end
 abbrev pub runs_held : Window → List (ℕ × ℕ)
@@ -142,7 +146,7 @@ WindowStaysAlike = (old new : Table) (f : ℕ) (w : Window) → file_blocks new 
 
 -- an empty window is any file's
 abbrev pub EmptyWindowIs : Type 0
-EmptyWindowIs = (t : Table) (f : ℕ) (w : Window) → w.first ≡ 1 → w.used ≡ 0 → IsWindowOf t f w
+EmptyWindowIs = (t : Table) (f : ℕ) → IsWindowOf t f empty_window
 
 -- a file has the blocks that it had where its headers are those that it had, and name what they named
 abbrev pub FileNamesAlike : Type 0

@@ -1,6 +1,6 @@
 //! Windows: a few of a file's retrieval pointers in a row, by which blocks are found without its headers.
 ghost use Rattle.std.specs.Prelude.{◌≡◌, ◌<◌, ◌-◌, ◌^◌, ℕ, length, IsTrue, MatchOption};
-ghost use Rattle.f11_chain.specs.Windows.{Fills, HoldsAt, HoldsBlock, IsPast, LiesOn, ReadsIn, WritesIn};
+ghost use Rattle.f11_chain.specs.Windows.{empty_window, Fills, HoldsAt, HoldsBlock, IsPast, LiesOn, ReadsIn, WritesIn};
 ghost use Rattle.f11_header.specs.Header.{holds_header};
 ghost use Rattle.f11_map.specs.HeaderBlock.{blocks_named};
 
@@ -53,7 +53,7 @@ pub fn window_at(block: &Block, left: u32, vbn: u32, blocks: u32) -> Option<Wind
 impl Window {
     /// A window that holds no run.
     pub fn empty() -> Window
-        ensures none { (result.used ≡ 0) × (result.first ≡ 1) }
+        ensures value { result ≡ empty_window }
         ensures on { (blocks : ℕ) → LiesOn result blocks }
     {
         Window {
