@@ -1,5 +1,5 @@
 -- What the calls on windows over a file's blocks do (profile).
-use Rattle.std.specs.Prelude.{◌≡◌, ◌⊎◌, ℕ, Bool, true, false, IsTrue, List, length, None}
+use Rattle.std.specs.Prelude.{◌≡◌, ◌⊎◌, ℕ, ◌+◌, ◌≤◌, Bool, true, false, IsTrue, List, length, None}
 use Rattle.f11_chain.specs.Windows.{HoldsAt, HoldsBlock, IsWindowAt, IsWindowOf, LiesOn}
 use Rattle.f11_chain.specs.declared.windows.Window.{Window}
 use Rattle.f11_dev.specs.Disk.{Disk, with_block_at, with_transfer}
@@ -65,9 +65,10 @@ pub record StoresBy (home : HomeFields) (w : Window) (vbn : ℕ) (block : List �
   pub of_file : (f : FileId) → IsWindowOn home f w old → StoresBlock home f vbn block old new
   pub confined : (f : FileId) → IsWindowOn home f w old → WritesBlocksOf f home old new
 
--- It wasn't written.
+-- It wasn't written, and one transfer was made at most.
 pub record FailsToStoreBy (failed : Bool) (home : HomeFields) (w : Window) (vbn : ℕ) (block : List ℕ) (refusal : Refusal)
     (old new : Disk) : Type 0 where
   pub why : IsOfTransfer failed refusal
+  pub few : new.transfers ≤ old.transfers + 1
   pub of_file : (f : FileId) → IsWindowOn home f w old → FailsToStore failed home f vbn block refusal old new
   pub confined : (f : FileId) → IsWindowOn home f w old → WritesBlocksOf f home old new
