@@ -8,3 +8,4 @@ pub mod Confining
 pub mod Removing
 pub mod Extending
 pub mod GrowingIndex
+pub mod Rows

@@ -10,3 +10,4 @@ pub mod Opening
 pub mod Removing
 pub mod Extending
 pub mod GrowingIndex
+pub mod Rows

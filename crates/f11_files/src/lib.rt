@@ -12,6 +12,7 @@ mod extend;
 mod files;
 mod find;
 mod grow_index;
+pub mod laws;
 mod open;
 mod remove;
 mod structure;

@@ -38,14 +38,14 @@ module _ (image : Image) (home : HomeFields) (f : ℕ) (sound : HasSoundVolume i
   whole : IsWholeFile (table_of image home) f
   whole = ((image-files image home sound).each f file).whole
 
-  held-stored : option_map (λ (g : File). g.held) ((store_of image home).file f) ≡ Some (headers_of (table_of image home) f)
+  pub held-stored : option_map (λ (g : File). g.held) ((store_of image home).file f) ≡ Some (headers_of (table_of image home) f)
   unfolding store_of
   held-stored =
       ap (option_map (λ (g : File). g.held)) (file-at image (table_of image home) f (Some (as_seen f (file_of image (table_of image home) f))) (λ _. refl) (λ none. absurd (none file)))
       ∙ ap Some (held-seen f (file_of image (table_of image home) f) ∙ file-headers-are image (table_of image home) f whole)
 
 -- a file that the store tells of is there
-is-stored : (image : Image) (home : HomeFields) (f : ℕ) (hs : List ℕ) → option_map (λ (g : File). g.held) ((store_of image home).file f) ≡ Some hs → IsFile (table_of image home) f
+pub is-stored : (image : Image) (home : HomeFields) (f : ℕ) (hs : List ℕ) → option_map (λ (g : File). g.held) ((store_of image home).file f) ≡ Some hs → IsFile (table_of image home) f
 unfolding store_of
 is-stored image home f hs is = go (is_first (table_of image home) f) refl
   where
