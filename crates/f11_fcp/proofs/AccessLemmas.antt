@@ -8,6 +8,7 @@ use Rattle.f11_store.specs.Causes.{first_of, first_refusal, is_bad, is_missing, 
 use Rattle.f11_store.specs.Changes.{with_access}
 use Rattle.f11_store.specs.File.{File, no_file, is_marked}
 use Rattle.f11_store.specs.Store.{Store, file_of, file_named, is_held, bars}
+use Rattle.f11_chain.specs.declared.windows.Window.{Window}
 use Rattle.f11_store.specs.declared.callers.Uic.{Uic}
 use Rattle.f11_store.specs.declared.files.Attr.{Attr}
 use Rattle.f11_store.specs.declared.files.FileId.{FileId}
@@ -110,24 +111,24 @@ module _ (task lun : ℕ) (caller : Uic) (id : FileId) (m : Mode) (old : State) 
                     handled-clean task caller r [] old Conflict mid refl (λ v. absurd (cc)) refl
                     (λ honest. last honest ∙ take-true (is_held (bars m) s id) _ _ (sym (barred ∙ barred-same m old.table s0 id))) reads home table counts
 
-                pub access-taken : mid.table ≡ with_entry old.table task lun (Some (record { file = id; mode = m; marked = false })) → false ≡ is_held_in (bars m) old.table id
+                pub access-taken : (w : Window) → mid.table ≡ with_entry old.table task lun (Some (record { file = id; mode = m; marked = false; window = w })) → false ≡ is_held_in (bars m) old.table id
                     → Handles task caller r (Ok reply.Done) old [] mid []
-                access-taken table clear =
+                access-taken w table clear =
                     handled-served task caller r [] old reply.Done mid []
                     (λ honest. last honest ∙ drop-false (is_held (bars m) s id) _ _ (sym (clear ∙ barred-same m old.table s0 id))) (λ _. refl)
                     (λ honest. ap (λ (i : Image). held_in mid.table (store_of i mid.home)) reads.looked.image ∙ ap (λ (h : HomeFields). held_in mid.table (store_of old.disk.image h)) home
                     ∙ ap (λ (t : Table). held_in t s0) table ∙ entered) (λ _. refl) (writes-looked task caller r [] old mid.disk reads (omega arith)) home
                   where
-                    by_test : (b : Bool) (o : Option Entry) → option_map access_of (if b then Some (record { file = id; mode = m; marked = false }) else o) ≡ (if b then Some (record { file = id; mode = m }) else option_map access_of o)
+                    by_test : (b : Bool) (o : Option Entry) → option_map access_of (if b then Some (record { file = id; mode = m; marked = false; window = w }) else o) ≡ (if b then Some (record { file = id; mode = m }) else option_map access_of o)
                     by_test true o = refl
                     by_test false o = refl
 
-                    entered : held_in (with_entry old.table task lun (Some (record { file = id; mode = m; marked = false }))) s0 ≡ with_access s task lun (Some (record { file = id; mode = m }))
+                    entered : held_in (with_entry old.table task lun (Some (record { file = id; mode = m; marked = false; window = w }))) s0 ≡ with_access s task lun (Some (record { file = id; mode = m }))
                     entered = λ i. record s0 { access = λ k l. by_test ((k == task) && (l == lun)) (old.table k l) i }
 
-                pub access-kept : (t : Table) (s' : Store) → s' ≡ s0 → t ≡ with_entry old.table task lun (Some (record { file = id; mode = m; marked = false })) → IsTrue old.disk.honest → HasAccessed old.table s0
+                pub access-kept : (t : Table) (s' : Store) → s' ≡ s0 → (w : Window) → t ≡ with_entry old.table task lun (Some (record { file = id; mode = m; marked = false; window = w })) → IsTrue old.disk.honest → HasAccessed old.table s0
                     → HasAccessed t s'
-                access-kept t s' same is_t honest kept k l low small =
+                access-kept t s' same w is_t honest kept k l low small =
                     subst (λ (x : Store). mark_there x (t k l) ≡ mark_kept (t k l)) (sym same)
                     (subst (λ (u : Table). mark_there s0 (u k l) ≡ mark_kept (u k l)) (sym is_t) (by_test ((k == task) && (l == lun))))
                   where
@@ -135,7 +136,7 @@ module _ (task lun : ℕ) (caller : Uic) (id : FileId) (m : Mode) (old : State) 
                     seen None h f = absurd (cc)
                     seen (Some f) h g = ap (λ b. Some b) g
 
-                    by_test : (b : Bool) → mark_there s0 (if b then Some (record { file = id; mode = m; marked = false }) else old.table k l)
-                        ≡ mark_kept (if b then Some (record { file = id; mode = m; marked = false }) else old.table k l)
+                    by_test : (b : Bool) → mark_there s0 (if b then Some (record { file = id; mode = m; marked = false; window = w }) else old.table k l)
+                        ≡ mark_kept (if b then Some (record { file = id; mode = m; marked = false; window = w }) else old.table k l)
                     by_test true = seen (file_of s0 id) (there honest) (marks honest ∙ unmarked)
                     by_test false = kept k l low small

@@ -44,7 +44,9 @@ use Rattle.f11_fcp.proofs.AccessedLemmas.{drop-false, take-true, refused-early}
 use Rattle.f11_fcp.proofs.DirectoryLemmas.{opened-there, opening_barred}
 use Rattle.f11_fcp.proofs.HandleLemmas.{handled-does, handled-refused}
 use Rattle.f11_fcp.proofs.NamedLemmas.{same-behind}
-use Rattle.f11_fcp.proofs.OpenLemmas.{kept-by-step}
+use Rattle.f11_fcp.specs.Windows.{HasWindows}
+use Rattle.std.specs.Prelude.{OnOk}
+use Rattle.f11_fcp.proofs.OpenLemmas.{windows-after, kept-by-step}
 use Rattle.f11_fcp.proofs.SearchLemmas.{search-refused, search-answered, search-then}
 
 -- a record is entered, with any accesses beside
@@ -184,9 +186,11 @@ entered-fate s task caller d name id (Err e) s' h n = fate-none s s' n h.store_s
 
 -- so all stays open
 pub stays-open-entered : {D : Type 0} {met : Ghosts D} (t : Table) (old new : Files D met) (task : ℕ) (caller : Uic) (d : FileId) (name : List ℕ) (id : FileId) (result : Result Reply Refusal) → IsOpen t old
-    → Handles task caller (request.Enter d name id) result (state_of t old) [] (state_of t new) [] → (is_refused is_fatal result ≡ false → has_failed new ≡ false) → StaysOpen result t new
-stays-open-entered t old new task caller d name id result is handles alive clean = record {
+    → Handles task caller (request.Enter d name id) result (state_of t old) [] (state_of t new) [] → (is_refused is_fatal result ≡ false → has_failed new ≡ false)
+    → OnOk result (HasWindows t new) → StaysOpen result t new
+stays-open-entered t old new task caller d name id result is handles alive windows clean = record {
   alive = alive clean;
+  windows = windows-after t old new task caller (request.Enter d name id) result [] [] is handles clean windows;
   kept = λ honest.
       let was : IsTrue (disk_in old).honest = sym handles.writes.went.honest ∙ honest in
       kept-by-step t (store_of (disk_in old).image (home_in old)) (store_of (disk_in new).image (home_in new))

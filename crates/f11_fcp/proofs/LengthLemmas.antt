@@ -20,6 +20,7 @@ use Rattle.f11_fcp.specs.Handles.{IsOpen, State, of_accessed, store_at}
 use Rattle.f11_fcp.specs.Lengths.{Measures, length_causes, length_cost}
 use Rattle.f11_fcp.proofs.AccessedLemmas.{among-file, drop-false, take-true}
 use Rattle.f11_fcp.proofs.HandleLemmas.{clean-cause, reads-none}
+use Rattle.f11_fcp.proofs.WindowLemmas.{windows-read}
 
 -- no access is held
 pub measure-none : (task lun : ℕ) (old : State) → None ≡ old.table task lun → Measures task lun (Err NoSuchAccess) old old
@@ -104,6 +105,7 @@ pub measured-open : {D : Type 0} {met : Ghosts D} (t : Table) (old new : Files D
     → has_failed new ≡ false → IsOpen t new
 measured-open t old new is reads home alive = record {
   alive = alive;
+  windows = windows-read t old new is reads home;
   kept = λ honest.
       subst (λ (s : Store). HasAccessed t s) (sym (ap (λ (i : Image). store_of i (home_in new)) reads.looked.image ∙ ap (store_of (disk_in old).image) home)) (is.kept (sym reads.looked.honest ∙ honest));
 }

@@ -2,6 +2,7 @@ mod AccessLemmas
 mod AccessedLemmas
 mod AppendLemmas
 mod AttributeLemmas
+mod ByWindowLemmas
 mod DeaccessLemmas
 mod DeleteLemmas
 mod DirectoryLemmas
@@ -17,9 +18,12 @@ mod LookLemmas
 mod MarkLemmas
 mod NamedLemmas
 mod OpenLemmas
+mod ReachedLemmas
 mod ReleaseLemmas
 mod RemoveLemmas
 mod RequestLemmas
+mod RowLemmas
 mod SearchLemmas
 mod TableLemmas
 mod TruncateLemmas
+mod WindowLemmas

@@ -9,7 +9,7 @@ use Rattle.f11_store.specs.declared.refusals.Refusal.{Refusal}
 use Rattle.f11_store.specs.declared.requests.Reply.{Reply}
 use Rattle.f11_store.specs.declared.requests.Request.{Request}
 use Rattle.f11_files.specs.Answers.{is_fatal, is_refused}
-use Rattle.f11_files.specs.Open.{has_failed, disk_in, home_in}
+use Rattle.f11_files.specs.Open.{has_failed, disk_in, home_in, is_honest, store_in}
 use Rattle.f11_image_store.proofs.StoreLemmas.{unused-is-empty}
 use Rattle.f11_image_store.specs.StoreOf.{store_of}
 use Rattle.f11_files.specs.declared.files.Files.{Files}
@@ -21,6 +21,12 @@ use Rattle.f11_store.specs.Lags.{Work, LagsBy, work_if, served_work}
 use Rattle.f11_store.specs.declared.requests.Request.TheVariants as request
 use Rattle.f11_store.specs.Accesses.{is_blockless}
 use Rattle.f11_fcp.specs.Handles.{State, Meanwhile, state_of, store_at, Handles, IsOpen, StaysOpen}
+use Rattle.f11_fcp.specs.Places.{table_of}
+use Rattle.f11_fcp.specs.Serving.{is_spent}
+use Rattle.f11_fcp.specs.Windows.{HasWindows}
+use Rattle.f11_fcp.specs.declared.volume.Volume.{Volume}
+use Rattle.std.specs.Prelude.{OnOk}
+use Rattle.f11_fcp.proofs.WindowLemmas.{clean-of, rows-same, windows-on}
 use Rattle.f11_store.proofs.FateLaws.{Fate, mark-stays, held-at}
 use Rattle.f11_store.proofs.StepFates.{SimpleIf, fate-step}
 use Rattle.std.proofs.lemmas.Bool.{eq-eqb, and_from}
@@ -39,16 +45,30 @@ kept-by-step t s s' fate kept task lun low small = by_entry (t task lun) refl (k
         mark-stays (held_in t s) (held_in t s') e.file e.marked (fate e.file.number) h
         (held-at (λ _. true) (held_in t s') task lun (access_of e) e.file low small (ap (option_map access_of) is) (same-self e.file) refl)
 
+-- so after a request that left the table as it was
+pub kept-after : {D : Type 0} {met : Ghosts D} (t : Table) (old new : Files D met) (task : ℕ) (caller : Uic) (r : Request) (result : Result Reply Refusal) (block block' : List ℕ)
+    → IsOpen t old → (IsTrue (disk_in old).honest → SimpleIf result (store_at (state_of t old)) r) → Handles task caller r result (state_of t old) block (state_of t new) block' → is_refused is_fatal result ≡ false
+    → is_honest new → HasAccessed t (store_in new)
+kept-after t old new task caller r result block block' is simple handles clean honest =
+    let was : IsTrue (disk_in old).honest = sym handles.writes.went.honest ∙ honest in
+    kept-by-step t (store_of (disk_in old).image (home_in old)) (store_of (disk_in new).image (home_in new))
+    (fate-step (store_at (state_of t old)) task caller r block result (store_at (state_of t new)) block' (unused-is-empty (disk_in old).image (home_in old)) (simple was) (handles.step was clean)) (is.kept was)
+
+-- windows are kept where they are by a request that was served, and by one that was refused
+pub windows-after : {D : Type 0} {met : Ghosts D} (t : Table) (old new : Files D met) (task : ℕ) (caller : Uic) (r : Request) (result : Result Reply Refusal) (block block' : List ℕ)
+    → IsOpen t old → Handles task caller r result (state_of t old) block (state_of t new) block' → is_refused is_fatal result ≡ false → OnOk result (HasWindows t new) → HasWindows t new
+windows-after t old new task caller r (Ok reply) block block' is handles clean windows = windows
+windows-after t old new task caller r (Err e) block block' is handles clean windows =
+    windows-on t old new is handles.writes handles.home (λ _. rows-same (home_in old) (disk_in old).image (disk_in new).image (handles.left (clean-of e clean)).image)
+
 -- so all stays open where a request left the table as it was
 pub stays-open : {D : Type 0} {met : Ghosts D} (t : Table) (old new : Files D met) (task : ℕ) (caller : Uic) (r : Request) (result : Result Reply Refusal) (block block' : List ℕ)
     → IsOpen t old → (IsTrue (disk_in old).honest → SimpleIf result (store_at (state_of t old)) r) → Handles task caller r result (state_of t old) block (state_of t new) block' → (is_refused is_fatal result ≡ false → has_failed new ≡ false)
-    → StaysOpen result t new
-stays-open t old new task caller r result block block' is simple handles alive clean = record {
+    → OnOk result (HasWindows t new) → StaysOpen result t new
+stays-open t old new task caller r result block block' is simple handles alive windows clean = record {
   alive = alive clean;
-  kept = λ honest.
-      let was : IsTrue (disk_in old).honest = sym handles.writes.went.honest ∙ honest in
-      kept-by-step t (store_of (disk_in old).image (home_in old)) (store_of (disk_in new).image (home_in new))
-      (fate-step (store_at (state_of t old)) task caller r block result (store_at (state_of t new)) block' (unused-is-empty (disk_in old).image (home_in old)) (simple was) (handles.step was clean)) (is.kept was);
+  windows = windows-after t old new task caller r result block block' is handles clean windows;
+  kept = kept-after t old new task caller r result block block' is simple handles clean;
 }
 
 -- a request that doesn't touch the block
@@ -92,3 +112,7 @@ handles-block task caller r result old new block is h = record {
   unfailed = h.unfailed;
   home = h.home;
 }
+
+-- a volume that no request has failed is open
+pub volume-open : {D : Type 0} {met : Ghosts D} (v : Volume D met) → is_spent v ≡ false → IsOpen (table_of v.accesses) v.files
+volume-open v fresh = record { alive = v.alive fresh; kept = v.kept fresh; windows = v.windows fresh }

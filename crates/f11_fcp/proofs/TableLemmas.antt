@@ -1,14 +1,16 @@
 -- The table of accesses by its places.
-use Rattle.std.proofs.Common.{◌≡◌, ℕ, zero, suc, ◌+◌, ◌*◌, ◌/◌, ◌%◌, ◌<◌, Bool, true, false, List, Option, Some, None, refl, ◌∙◌, ap, arith, option_map, replicate, slice_index_or}
+use Rattle.std.proofs.Common.{◌≡◌, ◌≢◌, ℕ, zero, suc, ◌+◌, ◌*◌, ◌/◌, ◌%◌, ◌<◌, ◌==◌, ◌&&◌, Bool, true, false, List, length, Option, Some, None, refl, sym, ◌∙◌, ap, arith, option_map, replicate, slice_index_or, nat_lt, if◌then◌else◌}
+use Rattle.std.specs.Prelude.{slice_set}
 use Rattle.std.specs.List.{range_with_len, list_any}
-use Rattle.std.proofs.lemmas.Bool.{lt-ltb, eq-eqb}
+use Rattle.std.proofs.lemmas.Bool.{and_from, and_parts, lt-ltb, ltb-true, eq-eqb, eqb-true}
+use Rattle.std.proofs.lemmas.List.{get_or-set_other, get_or-set_same}
 use Rattle.std.proofs.lemmas.List.Folds.{list_any_none}
 use Rattle.std.proofs.lemmas.List.FromFn.{get_or-range_with_len, length-range_with_len}
 use Rattle.f11_store.specs.declared.files.FileId.{FileId}
 use Rattle.f11_store.specs.declared.files.Mode.{Mode}
 use Rattle.f11_store.specs.Store.{is_to}
 use Rattle.f11_fcp.specs.declared.table.Held.{Held}
-use Rattle.f11_fcp.specs.Accesses.{access_of, accesses, is_held_in}
+use Rattle.f11_fcp.specs.Accesses.{access_of, accesses, is_held_in, with_entry}
 use Rattle.f11_fcp.specs.Places.{entry_of, table_in}
 use Rattle.f11_store.proofs.FateLaws.{any-range}
 
@@ -49,3 +51,32 @@ pub stands-at : (test : Mode → Bool) (id : FileId) (places : List (Option Held
     → h.file.sequence ≡ id.sequence → test h.mode ≡ true → stands test id places k ≡ true
 stands-at test id places k h is number sequence passes =
     rw is (rw (eq-eqb h.file.number id.number number) (rw (eq-eqb h.file.sequence id.sequence sequence) passes))
+
+-- what is put at a place stands there
+pub set-at : (places : List (Option Held)) (k task lun : ℕ) (o : Option Held) → length places ≡ 32 → k ≡ 4 * task + lun → task < 8 → lun < 4
+    → table_in (slice_set places k o) ≡ with_entry (table_in places) task lun (option_map entry_of o)
+set-at places k task lun o all is low small = λ i t l. by_test t l ((t == task) && (l == lun)) refl i
+  where
+    within : k < length places
+    within = omega (arith, all, is, low, small)
+
+    elsewhere : (t l : ℕ) → ((t == task) && (l == lun)) ≡ false → l < 4 → 4 * t + l ≢ k
+    elsewhere t l other lower same =
+        let first : t ≡ task = omega (arith, same, is, small, lower) in
+        let second : l ≡ lun = omega (arith, same, is, first) in
+        let no : false ≡ true = sym other ∙ and_from (t == task) (l == lun) (eq-eqb t task first) (eq-eqb l lun second) in cc
+
+    by_lun : (t l : ℕ) → ((t == task) && (l == lun)) ≡ false → (b : Bool) → nat_lt l 4 ≡ b
+        → (if b then option_map entry_of (slice_index_or (slice_set places k o) (4 * t + l) None) else None) ≡ (if b then option_map entry_of (slice_index_or places (4 * t + l) None) else None)
+    by_lun t l other true lower = ap (option_map entry_of) (get_or-set_other places k (4 * t + l) o None (elsewhere t l other (ltb-true l 4 lower)))
+    by_lun t l other false past = refl
+
+    by_test : (t l : ℕ) (b : Bool) → ((t == task) && (l == lun)) ≡ b → table_in (slice_set places k o) t l ≡ (if b then option_map entry_of o else table_in places t l)
+    by_test t l true here =
+        let parts = and_parts (t == task) (l == lun) here in
+        let first = eqb-true t task parts.0 in
+        let second = eqb-true l lun parts.1 in
+        let at : k ≡ 4 * t + l = omega (arith, is, first, second) in
+        rw (lt-ltb l 4 (omega (arith, small, second)))
+        (ap (λ (n : ℕ). option_map entry_of (slice_index_or (slice_set places k o) n None)) (sym at) ∙ ap (option_map entry_of) (get_or-set_same places k o None within))
+    by_test t l false other = by_lun t l other (nat_lt l 4) refl

@@ -1,16 +1,19 @@
--- What tasks hold: accesses, and of each whether its file is marked for delete (profile).
+-- What tasks hold: accesses, and of each whether its file is marked for delete, and the window that is kept of it (profile).
 use Rattle.std.specs.Prelude.{◌≡◌, ℕ, ◌<◌, ◌==◌, ◌&&◌, Bool, true, Option, Some, None, option_map, if◌then◌else◌}
+use Rattle.f11_chain.specs.Windows.{empty_window}
+use Rattle.f11_chain.specs.declared.windows.Window.{Window}
 use Rattle.f11_store.specs.declared.files.FileId.{FileId}
 use Rattle.f11_store.specs.declared.files.Mode.{Mode}
 use Rattle.f11_store.specs.Accesses.{mark_of, with_accesses}
 use Rattle.std.specs.List.{list_any, range_with_len}
 use Rattle.f11_store.specs.Store.{Store, Access, is_same, is_to}
 
--- an access, and whether its file is marked for delete
+-- an access, whether its file is marked for delete, and its window
 pub record Entry : Type 0 where
   pub file : FileId
   pub mode : Mode
   pub marked : Bool
+  pub window : Window
 
 -- what each task holds by each lun
 abbrev pub Table : Type 0
@@ -31,6 +34,14 @@ marked_if id e = if is_same e.file id then record e { marked = true } else e
 -- each entry of the file is of a marked one
 abbrev pub with_marks : FileId → Table → Table
 with_marks id t = λ task lun. option_map (marked_if id) (t task lun)
+
+-- an entry, whose window holds no run then if its file is this one
+abbrev pub emptied_if : FileId → Entry → Entry
+emptied_if id e = if is_same e.file id then record e { window = empty_window } else e
+
+-- each access to the file has a window that holds no run
+abbrev pub with_empty_windows : FileId → Table → Table
+with_empty_windows id t = λ task lun. option_map (emptied_if id) (t task lun)
 
 -- the access of an entry
 abbrev pub access_of : Entry → Access

@@ -23,6 +23,7 @@ use Rattle.f11_files.specs.Open.{disk_in, home_in, counts_in, has_failed, is_hon
 use Rattle.f11_image_store.specs.StoreOf.{store_of}
 use Rattle.f11_files.specs.declared.files.Files.{Files}
 use Rattle.f11_fcp.specs.Accesses.{Table, held_in, HasAccessed}
+use Rattle.f11_fcp.specs.Windows.{HasWindows}
 
 -- what contracts know of an open volume: its disk, its home block, what tasks hold, and the counts that are told
 pub record State : Type 0 where
@@ -89,10 +90,11 @@ pub record Handles (task : ℕ) (caller : Uic) (r : Request) (result : Result Re
   pub unfailed : is_refused is_failed result ≡ false
   pub home : new.home ≡ old.home
 
--- Files are open, and what is kept of accesses is right.
+-- Files are open, and what is kept of accesses is right, their windows too.
 pub record IsOpen {D : Type 0} {met : Ghosts D} (t : Table) (files : Files D met) : Type 0 where
   pub alive : has_failed files ≡ false
   pub kept : is_honest files → HasAccessed t (store_in files)
+  pub windows : HasWindows t files
 
 -- and so they are after a request, unless that has failed the volume
 abbrev pub StaysOpen : {D : Type 0} {met : Ghosts D} → Result Reply Refusal → Table → Files D met → Type 0

@@ -9,3 +9,5 @@ pub mod Mounting
 pub mod Places
 pub mod Rights
 pub mod Serving
+pub mod Windows
+pub mod ByWindow

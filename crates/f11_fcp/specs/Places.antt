@@ -6,7 +6,7 @@ use Rattle.f11_fcp.specs.Accesses.{Entry, Table}
 
 -- an access, as contracts see it
 abbrev pub entry_of : Held → Entry
-entry_of h = record { file = h.file; mode = h.mode; marked = h.marked }
+entry_of h = record { file = h.file; mode = h.mode; marked = h.marked; window = h.window }
 
 -- and the table of them
 abbrev pub table_in : List (Option Held) → Table

@@ -1,11 +1,13 @@
 //! An access that is taken.
-ghost use Rattle.std.specs.Prelude.{[]};
+ghost use Rattle.std.specs.Prelude.{[], OnOk};
+ghost use Rattle.f11_fcp.specs.ByWindow.{WindowsAfter};
 ghost use Rattle.f11_fcp.specs.Handles.{Handles, IsOpen, StaysOpen, state_of};
 ghost use Rattle.f11_fcp.specs.Places.{table_of};
 ghost use Rattle.f11_store.specs.declared.requests.Request.TheVariants as asked;
 
 use crate::rights::{is_bad, is_marked, lacks_for};
 use crate::table::{Accesses, Held};
+use f11_chain::Window;
 use f11_dev::Device;
 use f11_files::Files;
 use f11_store::{FileId, Lun, Mode, Refusal, Reply, Task, Uic};
@@ -29,6 +31,8 @@ impl Accesses {
         ensures handles { Handles task caller (asked.Access file mode lun) result
             (state_of (table_of self.old) files.old) [] (state_of (table_of self.new) files.new) [] }
         ensures open { StaysOpen result (table_of self.new) files.new }
+        ensures windows { OnOk result (WindowsAfter task (asked.Access file mode lun)
+            (state_of (table_of self.old) files.old) (state_of (table_of self.new) files.new)) }
     {
         if is_bad(file) {
             return Err(Refusal::BadArgument);
@@ -57,6 +61,7 @@ impl Accesses {
             file,
             mode,
             marked: false,
+            window: Window::empty(),
         };
         self.set(task, lun, Some(held));
         Ok(Reply::Done)

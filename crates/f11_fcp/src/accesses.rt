@@ -1,11 +1,13 @@
 //! What tasks hold.
-ghost use Rattle.std.specs.Prelude.{◌≡◌, ◌+◌, ◌*◌, ◌<◌, ◌≤◌, option_map, true, false, IfSome, IsNone};
-ghost use Rattle.f11_fcp.specs.Accesses.{no_entries, with_entry, with_marks, marked_if, is_held_in, any_mode, accesses};
+ghost use Rattle.std.specs.Prelude.{◌≡◌, ◌+◌, ◌*◌, ◌<◌, ◌≤◌, option_map, true, false, IfSome, IsNone, Some};
+ghost use Rattle.f11_fcp.specs.Accesses.{no_entries, with_entry, with_empty_windows, with_marks, emptied_if, marked_if, is_held_in, any_mode, accesses};
 ghost use Rattle.f11_fcp.specs.Places.{entry_of, table_of};
+ghost use Rattle.f11_fcp.specs.Windows.{with_window};
 ghost use Rattle.f11_store.specs.Causes.{is_no_write, is_no_writer};
 ghost use Rattle.f11_store.specs.Store.{bars};
 
 use crate::table::{Accesses, Held};
+use f11_chain::Window;
 use f11_store::{FileId, Lun, Mode, Task};
 
 /// Where in the table the task's lun stands.
@@ -40,6 +42,24 @@ fn marked(held: Option<Held>, file: FileId) -> Option<Held>
                 file: held.file,
                 mode: held.mode,
                 marked: true,
+                window: held.window,
+            })
+        }
+        held => held,
+    }
+}
+
+/// What is held, if it is an access to the file then with a window that holds no run.
+fn emptied(held: Option<Held>, file: FileId) -> Option<Held>
+    ensures { option_map entry_of result ≡ option_map (emptied_if file) (option_map entry_of held) }
+{
+    match held {
+        Some(held) if held.file.number == file.number && held.file.sequence == file.sequence => {
+            Some(Held {
+                file: held.file,
+                mode: held.mode,
+                marked: held.marked,
+                window: Window::empty(),
             })
         }
         held => held,
@@ -84,6 +104,30 @@ impl Accesses {
         self.places[place(task, lun)] = held;
     }
 
+    /// What the task holds by the lun is this, with this window.
+    pub(crate) fn keep(&mut self, task: Task, lun: Lun, held: Held, window: Window)
+        ensures value { table_of self.new ≡ with_entry (table_of self.old) task lun
+            (Some (with_window window (entry_of held))) }
+        ensures within { (task < 8) × (lun < 4) }
+    {
+        let Held {
+            file,
+            mode,
+            marked,
+            ..
+        } = held;
+        self.set(
+            task,
+            lun,
+            Some(Held {
+                file,
+                mode,
+                marked,
+                window,
+            }),
+        );
+    }
+
     /// Whether some access to the file stands against one in this mode.
     pub(crate) fn is_barred(&self, mode: Mode, file: FileId) -> bool
         ensures { result ≡ is_held_in (bars mode) (table_of self.now) file }
@@ -122,6 +166,15 @@ impl Accesses {
     {
         for i in 0..32 {
             self.places[i] = marked(self.places[i], file);
+        }
+    }
+
+    /// Each access to the file has a window that holds no run.
+    pub(crate) fn empty_windows(&mut self, file: FileId)
+        ensures { table_of self.new ≡ with_empty_windows file (table_of self.old) }
+    {
+        for i in 0..32 {
+            self.places[i] = emptied(self.places[i], file);
         }
     }
 }

@@ -1,5 +1,6 @@
 //! Each request's answer.
-ghost use Rattle.std.specs.Prelude.{◌≡◌, false};
+ghost use Rattle.std.specs.Prelude.{◌≡◌, false, OnOk};
+ghost use Rattle.f11_fcp.specs.ByWindow.{WindowsAfter, TakesOneTransfer};
 ghost use Rattle.f11_fcp.specs.Handles.{Handles, IsOpen, StaysOpen, state_of};
 ghost use Rattle.f11_fcp.specs.Places.{table_of};
 ghost use Rattle.f11_fcp.specs.Serving.{fills_block};
@@ -24,6 +25,10 @@ impl Accesses {
         ensures handles { Handles task caller request.now result (state_of (table_of self.old) files.old) block.old
             (state_of (table_of self.new) files.new) block.new }
         ensures open { StaysOpen result (table_of self.new) files.new }
+        ensures windows { OnOk result (WindowsAfter task request.now
+            (state_of (table_of self.old) files.old) (state_of (table_of self.new) files.new)) }
+        ensures once { TakesOneTransfer task request.now
+            (state_of (table_of self.old) files.old) (state_of (table_of self.new) files.new) }
         ensures spared { fills_block request.now ≡ false → block.new ≡ block.old }
     {
         match request {

@@ -6,6 +6,7 @@ ghost use Rattle.f11_files.specs.Answers.{is_fatal, is_clean, is_refused, Breaks
 ghost use Rattle.f11_files.specs.Finding.Length.{most_blocks};
 ghost use Rattle.f11_files.specs.Open.{counts_in, disk_in, has_failed, home_in, is_honest, store_in, IsIdFrom};
 ghost use Rattle.f11_fcp.specs.Entries.{Appending, Appends, FailsToPut, HasEmpty, IsEndOf, IsFull, IsTailOf, PutsEntry};
+ghost use Rattle.f11_fcp.specs.Windows.{LeavesRows};
 ghost use Rattle.f11_store.specs.Cost.{header_count};
 ghost use Rattle.f11_store.specs.Directory.{record_bytes};
 ghost use Rattle.f11_store.specs.Store.{file_named};
@@ -101,6 +102,7 @@ fn append_entry<D: Device>(
         (append_cost (file_named (store_in files.old) directory)) refusal
         (disk_in files.old) (disk_in files.new)) }
     ensures alive { OnOk result (has_failed files.new ≡ false) }
+    ensures rows { OnOk result (LeavesRows files.old files.new) }
     ensures home { home_in files.new ≡ home_in files.old }
 {
     match replace_entry(files, directory, &tail.spot, file, name) {
@@ -133,6 +135,7 @@ fn append_in_block<D: Device>(
         (record_bytes file name.now) refusal (disk_in files.old) (disk_in files.new)) }
     ensures fatal { IfErr result (λ refusal. is_fatal refusal ≡ true) }
     ensures alive { OnOk result (has_failed files.new ≡ false) }
+    ensures rows { OnOk result (LeavesRows files.old files.new) }
     ensures home { home_in files.new ≡ home_in files.old }
 {
     let block = match end_block(files, directory, found) {
@@ -164,6 +167,7 @@ fn append_in_new_block<D: Device>(
         (record_bytes file name.now) refusal (disk_in files.old) (disk_in files.new)) }
     ensures counts { is_refused is_clean result ≡ true → counts_in files.new ≡ counts_in files.old }
     ensures alive { is_refused is_fatal result ≡ false → has_failed files.new ≡ false }
+    ensures rows { OnOk result (LeavesRows files.old files.new) }
     ensures home { home_in files.new ≡ home_in files.old }
 {
     match files.extend(directory, 1) {
@@ -200,6 +204,7 @@ pub(crate) fn put_entry<D: Device>(
         (record_bytes file name.now) refusal (disk_in files.old) (disk_in files.new)) }
     ensures counts { is_refused is_clean result ≡ true → counts_in files.new ≡ counts_in files.old }
     ensures alive { is_refused is_fatal result ≡ false → has_failed files.new ≡ false }
+    ensures rows { OnOk result (LeavesRows files.old files.new) }
     ensures home { home_in files.new ≡ home_in files.old }
 {
     match empty {

@@ -1,5 +1,6 @@
 //! An access that is given up.
-ghost use Rattle.std.specs.Prelude.{[], ◌≡◌, IfErr, Some, true};
+ghost use Rattle.std.specs.Prelude.{[], ◌≡◌, IfErr, Some, true, OnOk};
+ghost use Rattle.f11_fcp.specs.ByWindow.{WindowsAfter};
 ghost use Rattle.f11_fcp.specs.Handles.{Handles, IsOpen, StaysOpen, state_of};
 ghost use Rattle.f11_fcp.specs.Places.{entry_of, table_of};
 ghost use Rattle.f11_files.specs.Answers.{is_fatal};
@@ -28,6 +29,8 @@ impl Accesses {
         ensures handles { Handles task caller (asked.Deaccess lun) result
             (state_of (table_of self.old) files.old) [] (state_of (table_of self.new) files.new) [] }
         ensures open { StaysOpen result (table_of self.new) files.new }
+        ensures windows { OnOk result (WindowsAfter task (asked.Deaccess lun)
+            (state_of (table_of self.old) files.old) (state_of (table_of self.new) files.new)) }
     {
         match self.held(task, lun) {
             Some(held) => self.give_up(files, task, caller, lun, held),
@@ -50,6 +53,8 @@ impl Accesses {
         ensures handles { Handles task caller (asked.Deaccess lun) result
             (state_of (table_of self.old) files.old) [] (state_of (table_of self.new) files.new) [] }
         ensures open { StaysOpen result (table_of self.new) files.new }
+        ensures windows { OnOk result (WindowsAfter task (asked.Deaccess lun)
+            (state_of (table_of self.old) files.old) (state_of (table_of self.new) files.new)) }
         ensures fatal { IfErr result (λ refusal. is_fatal refusal ≡ true) }
     {
         self.set(task, lun, None);

@@ -1,6 +1,7 @@
 //! Files that are deleted, or marked for it.
-ghost use Rattle.std.specs.Prelude.{[], ◌≡◌, ◌==◌, ◌&&◌};
+ghost use Rattle.std.specs.Prelude.{[], ◌≡◌, ◌==◌, ◌&&◌, OnOk};
 ghost use Rattle.std.specs.Int.{bit_at};
+ghost use Rattle.f11_fcp.specs.ByWindow.{WindowsAfter};
 ghost use Rattle.f11_fcp.specs.Handles.{Handles, IsOpen, StaysOpen, state_of};
 ghost use Rattle.f11_fcp.specs.Places.{table_of};
 ghost use Rattle.f11_store.specs.declared.requests.Request.TheVariants as asked;
@@ -35,6 +36,8 @@ impl Accesses {
         ensures handles { Handles task caller (asked.Delete file) result
             (state_of (table_of self.old) files.old) [] (state_of (table_of self.new) files.new) [] }
         ensures open { StaysOpen result (table_of self.new) files.new }
+        ensures windows { OnOk result (WindowsAfter task (asked.Delete file)
+            (state_of (table_of self.old) files.old) (state_of (table_of self.new) files.new)) }
     {
         if is_bad(file) {
             return Err(Refusal::BadArgument);

@@ -4,6 +4,7 @@ ghost use Rattle.f11_files.specs.Answers.{Breaks, Meanwhile};
 ghost use Rattle.f11_files.specs.Finding.Blocks.{StoresBlock, block_work};
 ghost use Rattle.f11_files.specs.Open.{disk_in, has_failed, home_in, is_honest, store_in, IsIdFrom};
 ghost use Rattle.f11_fcp.specs.Entries.{BreaksReplacing, HasBlocks, HoldsSpot, ReplacesEntry};
+ghost use Rattle.f11_fcp.specs.Windows.{LeavesRows};
 ghost use Rattle.f11_store.specs.Cost.{header_count};
 ghost use Rattle.f11_store.specs.Directory.{empty_record, record_bytes};
 ghost use Rattle.f11_store.specs.Store.{file_named};
@@ -60,6 +61,7 @@ pub(crate) fn replace_entry<D: Device>(
     ensures refused { IfErr result (λ refusal. BreaksReplacing (home_in files.old) directory spot.now
         (record_bytes file name.now) refusal (disk_in files.old) (disk_in files.new)) }
     ensures alive { OnOk result (has_failed files.new ≡ false) }
+    ensures rows { OnOk result (LeavesRows files.old files.new) }
     ensures home { home_in files.new ≡ home_in files.old }
 {
     let mut block = spot.block;
@@ -84,6 +86,7 @@ pub(crate) fn clear_entry<D: Device>(
     ensures refused { IfErr result (λ refusal. BreaksReplacing (home_in files.old) directory spot.now
         empty_record refusal (disk_in files.old) (disk_in files.new)) }
     ensures alive { OnOk result (has_failed files.new ≡ false) }
+    ensures rows { OnOk result (LeavesRows files.old files.new) }
     ensures home { home_in files.new ≡ home_in files.old }
 {
     let mut block = spot.block;

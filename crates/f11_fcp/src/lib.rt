@@ -35,6 +35,7 @@ mod table;
 mod tail;
 mod truncate;
 mod volume;
+mod windows;
 
 pub use call::Call;
 pub use volume::{Failed, Volume};

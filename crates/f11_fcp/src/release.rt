@@ -1,5 +1,6 @@
 //! A task that gives up all it holds.
-ghost use Rattle.std.specs.Prelude.{[]};
+ghost use Rattle.std.specs.Prelude.{[], OnOk};
+ghost use Rattle.f11_fcp.specs.ByWindow.{WindowsAfter};
 ghost use Rattle.f11_fcp.specs.Handles.{Handles, IsOpen, StaysOpen, state_of};
 ghost use Rattle.f11_fcp.specs.Places.{table_of};
 ghost use Rattle.f11_store.specs.declared.requests.Request.TheVariants as asked;
@@ -21,6 +22,8 @@ impl Accesses {
         ensures handles { Handles task caller (asked.Release) result
             (state_of (table_of self.old) files.old) [] (state_of (table_of self.new) files.new) [] }
         ensures open { StaysOpen result (table_of self.new) files.new }
+        ensures windows { OnOk result (WindowsAfter task asked.Release
+            (state_of (table_of self.old) files.old) (state_of (table_of self.new) files.new)) }
     {
         for unit in 0..4 {
             let lun = match Lun::new(unit) {

@@ -1,5 +1,6 @@
 //! Files that are cut.
-ghost use Rattle.std.specs.Prelude.{[]};
+ghost use Rattle.std.specs.Prelude.{[], OnOk};
+ghost use Rattle.f11_fcp.specs.ByWindow.{WindowsAfter};
 ghost use Rattle.f11_fcp.specs.Handles.{Handles, IsOpen, StaysOpen, state_of};
 ghost use Rattle.f11_fcp.specs.Places.{table_of};
 ghost use Rattle.f11_store.specs.declared.requests.Request.TheVariants as asked;
@@ -11,30 +12,35 @@ use f11_files::Files;
 use f11_store::{Lun, Refusal, Reply, Task, Uic};
 
 impl Accesses {
-    /// The file that is accessed keeps its first `to` blocks.
+    /// The file that is accessed keeps its first `to` blocks, and each access to it a window that holds no run.
     ///
     /// # Errors
     ///
     /// `NoSuchAccess`, `EndOfFile`.
     pub(crate) fn truncate<D: Device>(
-        &self,
+        &mut self,
         files: &mut Files<D>,
         task: Task,
         caller: Uic,
         lun: Lun,
         to: u32,
     ) -> Result<Reply, Refusal>
-        requires open { IsOpen (table_of self.now) files.old }
+        requires open { IsOpen (table_of self.old) files.old }
         ensures handles { Handles task caller (asked.Truncate lun to) result
-            (state_of (table_of self.now) files.old) [] (state_of (table_of self.now) files.new) [] }
-        ensures open { StaysOpen result (table_of self.now) files.new }
+            (state_of (table_of self.old) files.old) [] (state_of (table_of self.new) files.new) [] }
+        ensures open { StaysOpen result (table_of self.new) files.new }
+        ensures windows { OnOk result (WindowsAfter task (asked.Truncate lun to)
+            (state_of (table_of self.old) files.old) (state_of (table_of self.new) files.new)) }
     {
         let held = match self.writer(task, lun) {
             Some(held) => held,
             None => return Err(Refusal::NoSuchAccess),
         };
         match files.truncate(held.file, to) {
-            Ok(length) => Ok(Reply::Length(length)),
+            Ok(length) => {
+                self.empty_windows(held.file);
+                Ok(Reply::Length(length))
+            }
             Err(refusal) => Err(of_accessed(refusal)),
         }
     }

@@ -3,6 +3,7 @@ ghost use Rattle.std.specs.Prelude.{◌≡◌, false};
 ghost use Rattle.f11_files.specs.Open.{has_failed, is_honest, store_in};
 ghost use Rattle.f11_fcp.specs.Accesses.{HasAccessed};
 ghost use Rattle.f11_fcp.specs.Places.{table_of};
+ghost use Rattle.f11_fcp.specs.Windows.{HasWindows};
 
 use crate::answer::is_fatal;
 use crate::table::Accesses;
@@ -26,15 +27,18 @@ pub struct Volume<D: Device> {
     pub(crate) failed: bool,
     /// While none was, no call on the files was,
     pub ghost alive: { failed ≡ false → has_failed files ≡ false },
-    /// and each access is to a file that is there, marked as is kept.
+    /// each access is to a file that is there, marked as is kept,
     pub ghost kept: { failed ≡ false → is_honest files
         → HasAccessed (table_of accesses) (store_in files) },
+    /// and keeps a window, whose blocks are the file's.
+    pub ghost windows: { failed ≡ false → HasWindows (table_of accesses) files },
 }
 
 impl<D: Device> Volume<D> {
     ghost use Rattle.std.specs.Prelude.{true, IfOk, IfErr};
     ghost use Rattle.f11_files.specs.Opening.Opened.{FailsToOpen};
     ghost use Rattle.f11_vfy.specs.Accepted.{device_of};
+    ghost use Rattle.f11_fcp.specs.ByWindow.{ServesByWindow};
     ghost use Rattle.f11_fcp.specs.Mounting.{Mounts};
     ghost use Rattle.f11_fcp.specs.Serving.{Serving, StaysAccepted, device_in, is_spent, state_in};
 
@@ -54,6 +58,7 @@ impl<D: Device> Volume<D> {
     ) -> Result<Reply, Refusal>
         ensures serves { Serving task caller request.now result self.old self.new block.old block.new }
         ensures accepted { StaysAccepted (state_in self.new) }
+        ensures windows { ServesByWindow task request.now result self.old self.new }
     {
         if self.failed {
             return Err(Refusal::VolumeFailed);

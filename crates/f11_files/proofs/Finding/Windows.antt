@@ -12,7 +12,7 @@ use Rattle.f11_chain.specs.Windows.{blocks_held, FindsWindow, HoldsAt, HoldsBloc
 use Rattle.f11_chain.specs.declared.windows.Window.{Window}
 use Rattle.f11_dev.specs.Disk.{Disk, with_transfer}
 use Rattle.f11_dev.specs.Image.{Image, IsImage}
-use Rattle.f11_dev.proofs.LookedLemmas.{looked_failed_read, looked_none, looked_read}
+use Rattle.f11_dev.proofs.LookedLemmas.{looked_failed_read, looked_none, looked_read, looked_within}
 use Rattle.f11_home.specs.Home.{HomeFields}
 use Rattle.f11_index.specs.Table.{Table, table_of, IsFile, last_sequence}
 use Rattle.f11_index.proofs.SegmentLemmas.{table-bytes}
@@ -135,7 +135,7 @@ module _ (s : Structure) (w : Window) (vbn : ℕ) (block : List ℕ) (old new : 
   read-refused-by failed (Ok x) fault is = fault
   read-refused-by failed (Err e) fault is = subst (λ (x : Refusal). FailsToReadBy failed x old new) (sym fault) record {
     why = record { only = inr refl; volume = λ no. absurd cc };
-    reads = reads-looked (looked_failed_read old new is.reads.counts);
+    looked = looked_failed_read old new is.reads.counts;
   }
 
   pub read-stays : (r : Result Unit Refusal) → ReadsIn w vbn r block old new → IsStructureFor s new
@@ -144,7 +144,7 @@ module _ (s : Structure) (w : Window) (vbn : ℕ) (block : List ℕ) (old new : 
 
 -- the volume had failed, and nothing is read
 pub had-failed-read : {failed : Bool} (disk : Disk) → failed ≡ true → FailsToReadBy failed VolumeFailed disk disk
-had-failed-read disk is = record { why = record { only = inl refl; volume = λ _. is }; reads = record { reads = 0; looked = looked_none disk; few = λ _. omega arith } }
+had-failed-read disk is = record { why = record { only = inl refl; volume = λ _. is }; looked = looked_within (looked_none disk) (omega arith) }
 
 -- the window was found behind the first header in hand
 module _ (s : Structure) (f : FileId) (block : List ℕ) (old new : Disk) (for : IsStructureFor s old) (holds : HoldsFile (index_in s) f block old) (id : IsIdFrom 4 f) (vbn : ℕ) (w : Window)

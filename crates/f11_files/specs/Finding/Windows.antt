@@ -4,6 +4,7 @@ use Rattle.f11_chain.specs.Windows.{HoldsAt, HoldsBlock, IsWindowAt, IsWindowOf,
 use Rattle.f11_chain.specs.declared.windows.Window.{Window}
 use Rattle.f11_dev.specs.Disk.{Disk, with_block_at, with_transfer}
 use Rattle.f11_dev.specs.Image.{Image}
+use Rattle.f11_dev.specs.Looked.{Looked}
 use Rattle.f11_home.specs.Home.{HomeFields}
 use Rattle.f11_index.specs.Table.{table_of}
 use Rattle.f11_store.specs.Causes.{first_of, is_missing}
@@ -55,7 +56,7 @@ pub record IsOfTransfer (failed : Bool) (refusal : Refusal) : Type 0 where
 -- It wasn't read.
 pub record FailsToReadBy (failed : Bool) (refusal : Refusal) (old new : Disk) : Type 0 where
   pub why : IsOfTransfer failed refusal
-  pub reads : ReadsAtMost 1 old new (faults_of refusal)
+  pub looked : Looked old new 1 (faults_of refusal)
 
 -- Block `vbn` was written by a window, in one transfer: each file which has the window has this block there, and all else is as it was.
 pub record StoresBy (home : HomeFields) (w : Window) (vbn : ℕ) (block : List ℕ) (old new : Disk) : Type 0 where

@@ -13,6 +13,7 @@ use Rattle.f11_store.specs.Directory.{record_bytes}
 use Rattle.f11_store.specs.Store.{file_named}
 use Rattle.f11_store.specs.declared.refusals.Refusal.{Refusal}
 use Rattle.f11_fcp.specs.Entries.{Appending}
+use Rattle.f11_fcp.proofs.RowLemmas.{leaves-then, replaced-leaves}
 use Rattle.f11_fcp.proofs.EntryLemmas.{append-there, appends, breaks-move, breaks-put}
 use Rattle.f11_fcp.proofs.KnownLemmas.{known-breaks, known-file}
 use Rattle.f11_fcp.proofs.append.append_entry.Goals as goal
@@ -41,3 +42,8 @@ returns-in-Err-write_attr-clause-refused g c =
     (known-breaks (file_causes (store_of mid.image home) c.args.directory) e c.in-Ok.ensures.alive (known-file (store_of mid.image home) c.args.directory e)
     (append-there home c.args.directory c.args.tail.now r (disk_in c.args.files.now) mid c.requires.there c.in-Ok.ensures.replaced) work home
     (subst (λ (h : HomeFields). FailsToAlter (has_failed c.replace_entry.new.files) (with_replacement (change.Attr c.moved_end-attr.result)) h c.args.directory e mid new) c.in-Ok.ensures.home c.in-Err-write_attr.ensures.refused)))
+
+pub returns-in-Ok-write_attr-clause-rows : goal.returns-in-Ok-write_attr-clause-rows
+returns-in-Ok-write_attr-clause-rows g c =
+    leaves-then c.args.files.now c.replace_entry.new.files c.write_attr.new.self c.replace_entry.ensures.home c.in-Ok.ensures.replaced.writes.went.honest c.in-Ok.ensures.rows
+    (replaced-leaves c.replace_entry.new.files c.write_attr.new.self (g.met.D.Device.is_image c.replace_entry.new.files.device) (g.met.D.Device.is_image c.write_attr.new.self.device) c.in-Ok-write_attr.ensures.answers.home c.args.directory (change.Attr c.moved_end-attr.result) c.in-Ok-write_attr.ensures.altered)

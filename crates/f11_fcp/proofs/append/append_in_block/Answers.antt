@@ -4,6 +4,7 @@ use Rattle.f11_image_store.specs.StoreOf.{store_of}
 use Rattle.f11_home.specs.Home.{HomeFields}
 use Rattle.f11_store.specs.Directory.{record_bytes}
 use Rattle.f11_fcp.specs.Entries.{IsTailOf}
+use Rattle.f11_fcp.proofs.RowLemmas.{leaves-behind}
 use Rattle.f11_fcp.proofs.AppendLemmas.{appends-at-home, breaks-at-home, end-appended, end-not-appended, end-tail, end-unread, fatal-alone}
 use Rattle.f11_fcp.proofs.append.append_in_block.Goals as goal
 
@@ -34,3 +35,7 @@ returns-in-Err-append_entry-clause-refused g c =
 
 pub returns-in-Err-clause-fatal : goal.returns-in-Err-clause-fatal
 returns-in-Err-clause-fatal g c = fatal-alone c.in-Err.refusal c.in-Err.ensures.refused.right
+
+pub returns-in-Ok-append_entry-clause-rows : goal.returns-in-Ok-append_entry-clause-rows
+returns-in-Ok-append_entry-clause-rows g c =
+    leaves-behind c.args.files.now c.end_block.new.files c.append_entry.new.files c.in-Ok.ensures.home c.in-Ok.ensures.reads.looked.honest c.in-Ok.ensures.reads.looked.image c.in-Ok-append_entry.ensures.rows

@@ -5,6 +5,7 @@ use Rattle.f11_home.specs.Home.{HomeFields}
 use Rattle.f11_store.specs.Directory.{record_bytes}
 use Rattle.f11_store.specs.declared.refusals.Refusal.{Refusal}
 use Rattle.f11_fcp.specs.Entries.{FailsToPut, IsTailOf}
+use Rattle.f11_fcp.proofs.RowLemmas.{extended-leaves, leaves-then}
 use Rattle.f11_fcp.proofs.AppendLemmas.{appends-at-home, breaks-at-home, new-appended, new-not-appended, new-tail, not-extended-by-one}
 use Rattle.f11_fcp.proofs.append.append_in_new_block.Goals as goal
 
@@ -34,3 +35,9 @@ returns-in-Err-append_entry-clause-refused g c =
     new-not-appended (home_in c.args.files.now) c.args.directory (record_bytes c.args.file c.args.name.now) (disk_in c.args.files.now) (disk_in c.extend.new.self) c.args.found.now c.requires.full c.in-Ok.ensures.extended.1
     t.result t.ensures.number t.ensures.place (t.ensures.block ∙ c.zeros.ensures) t.ensures.attr t.ensures.length
     (breaks-at-home c.args.directory t.result (record_bytes c.args.file c.args.name.now) (disk_in c.extend.new.self) c.in-Ok.ensures.answers.home c.in-Err-append_entry.ensures.refused)
+
+pub returns-in-Ok-append_entry-clause-rows : goal.returns-in-Ok-append_entry-clause-rows
+returns-in-Ok-append_entry-clause-rows g c =
+    leaves-then c.args.files.now c.extend.new.self c.append_entry.new.files c.in-Ok.ensures.answers.home c.in-Ok.ensures.extended.1.writes.went.honest
+    (extended-leaves c.args.files.now c.extend.new.self (g.met.D.Device.is_image c.args.files.now.device) (g.met.D.Device.is_image c.extend.new.self.device) c.in-Ok.ensures.answers.home c.args.directory 1 c.in-Ok.ensures.extended.1)
+    c.in-Ok-append_entry.ensures.rows

@@ -1,7 +1,10 @@
-use Rattle.std.proofs.Common.{subst, sym, refl}
+use Rattle.std.proofs.Common.{subst, sym, refl, ap}
 use Rattle.f11_store.specs.declared.requests.Request.{Request}
 use Rattle.f11_fcp.specs.Handles.{Handles, state_of}
 use Rattle.f11_fcp.specs.Places.{table_of}
+use Rattle.std.specs.Prelude.{OnOk}
+use Rattle.f11_fcp.specs.ByWindow.{TakesOneTransfer, WindowsAfter, block_of}
+use Rattle.f11_fcp.proofs.ByWindowLemmas.{keeps-same, no-block, on-ok}
 use Rattle.f11_fcp.proofs.OpenLemmas.{handles-block}
 use Rattle.f11_fcp.proofs.table.Accesses.answer.Goals as goal
 
@@ -20,8 +23,8 @@ returns-in-Extend-clause-handles g c =
 pub returns-in-Truncate-clause-handles : goal.returns-in-Truncate-clause-handles
 returns-in-Truncate-clause-handles g c =
     let t = table_of c.args.self.now in
-    subst (λ (r : Request). Handles c.args.task c.args.caller r c.truncate.result (state_of t c.args.files.now) c.args.block.now (state_of t c.truncate.new.files) c.args.block.now) (sym c.in-Truncate.is)
-    (handles-block c.args.task c.args.caller _ c.truncate.result (state_of t c.args.files.now) (state_of t c.truncate.new.files) c.args.block.now refl c.truncate.ensures.handles)
+    subst (λ (r : Request). Handles c.args.task c.args.caller r c.truncate.result (state_of t c.args.files.now) c.args.block.now (state_of (table_of c.truncate.new.self) c.truncate.new.files) c.args.block.now) (sym c.in-Truncate.is)
+    (handles-block c.args.task c.args.caller _ c.truncate.result (state_of t c.args.files.now) (state_of (table_of c.truncate.new.self) c.truncate.new.files) c.args.block.now refl c.truncate.ensures.handles)
 
 pub returns-in-Delete-clause-handles : goal.returns-in-Delete-clause-handles
 returns-in-Delete-clause-handles g c =
@@ -88,3 +91,163 @@ returns-in-Remove-clause-handles g c =
     let t = table_of c.args.self.now in
     subst (λ (r : Request). Handles c.args.task c.args.caller r c.remove.result (state_of t c.args.files.now) c.args.block.now (state_of t c.remove.new.files) c.args.block.now) (sym c.in-Remove.is)
     (handles-block c.args.task c.args.caller _ c.remove.result (state_of t c.args.files.now) (state_of t c.remove.new.files) c.args.block.now refl c.remove.ensures.handles)
+
+pub returns-in-Create-clause-windows : goal.returns-in-Create-clause-windows
+returns-in-Create-clause-windows g c =
+    let t = table_of c.args.self.now in
+    subst (λ (r : Request). OnOk c.create.result (WindowsAfter c.args.task r (state_of t c.args.files.now) (state_of t c.create.new.files))) (sym c.in-Create.is) (on-ok c.create.result (keeps-same t))
+
+pub returns-in-Create-clause-once : goal.returns-in-Create-clause-once
+returns-in-Create-clause-once g c =
+    let t = table_of c.args.self.now in
+    no-block c.args.task c.args.request.now (state_of t c.args.files.now) (state_of t c.create.new.files) (ap (λ (r : Request). block_of r) c.in-Create.is)
+
+pub returns-in-Extend-clause-windows : goal.returns-in-Extend-clause-windows
+returns-in-Extend-clause-windows g c =
+    let t = table_of c.args.self.now in
+    subst (λ (r : Request). OnOk c.extend.result (WindowsAfter c.args.task r (state_of t c.args.files.now) (state_of t c.extend.new.files))) (sym c.in-Extend.is) (on-ok c.extend.result (keeps-same t))
+
+pub returns-in-Extend-clause-once : goal.returns-in-Extend-clause-once
+returns-in-Extend-clause-once g c =
+    let t = table_of c.args.self.now in
+    no-block c.args.task c.args.request.now (state_of t c.args.files.now) (state_of t c.extend.new.files) (ap (λ (r : Request). block_of r) c.in-Extend.is)
+
+pub returns-in-GrowIndex-clause-windows : goal.returns-in-GrowIndex-clause-windows
+returns-in-GrowIndex-clause-windows g c =
+    let t = table_of c.args.self.now in
+    subst (λ (r : Request). OnOk c.grow_index.result (WindowsAfter c.args.task r (state_of t c.args.files.now) (state_of t c.grow_index.new.files))) (sym c.in-GrowIndex.is) (on-ok c.grow_index.result (keeps-same t))
+
+pub returns-in-GrowIndex-clause-once : goal.returns-in-GrowIndex-clause-once
+returns-in-GrowIndex-clause-once g c =
+    let t = table_of c.args.self.now in
+    no-block c.args.task c.args.request.now (state_of t c.args.files.now) (state_of t c.grow_index.new.files) (ap (λ (r : Request). block_of r) c.in-GrowIndex.is)
+
+pub returns-in-ReadAttr-clause-windows : goal.returns-in-ReadAttr-clause-windows
+returns-in-ReadAttr-clause-windows g c =
+    let t = table_of c.args.self.now in
+    subst (λ (r : Request). OnOk c.read_attr.result (WindowsAfter c.args.task r (state_of t c.args.files.now) (state_of t c.read_attr.new.files))) (sym c.in-ReadAttr.is) (on-ok c.read_attr.result (keeps-same t))
+
+pub returns-in-ReadAttr-clause-once : goal.returns-in-ReadAttr-clause-once
+returns-in-ReadAttr-clause-once g c =
+    let t = table_of c.args.self.now in
+    no-block c.args.task c.args.request.now (state_of t c.args.files.now) (state_of t c.read_attr.new.files) (ap (λ (r : Request). block_of r) c.in-ReadAttr.is)
+
+pub returns-in-WriteAttr-clause-windows : goal.returns-in-WriteAttr-clause-windows
+returns-in-WriteAttr-clause-windows g c =
+    let t = table_of c.args.self.now in
+    subst (λ (r : Request). OnOk c.write_attr.result (WindowsAfter c.args.task r (state_of t c.args.files.now) (state_of t c.write_attr.new.files))) (sym c.in-WriteAttr.is) (on-ok c.write_attr.result (keeps-same t))
+
+pub returns-in-WriteAttr-clause-once : goal.returns-in-WriteAttr-clause-once
+returns-in-WriteAttr-clause-once g c =
+    let t = table_of c.args.self.now in
+    no-block c.args.task c.args.request.now (state_of t c.args.files.now) (state_of t c.write_attr.new.files) (ap (λ (r : Request). block_of r) c.in-WriteAttr.is)
+
+pub returns-in-Space-clause-windows : goal.returns-in-Space-clause-windows
+returns-in-Space-clause-windows g c =
+    let t = table_of c.args.self.now in
+    subst (λ (r : Request). OnOk c.space.result (WindowsAfter c.args.task r (state_of t c.args.files.now) (state_of t c.space.new.files))) (sym c.in-Space.is) (on-ok c.space.result (keeps-same t))
+
+pub returns-in-Space-clause-once : goal.returns-in-Space-clause-once
+returns-in-Space-clause-once g c =
+    let t = table_of c.args.self.now in
+    no-block c.args.task c.args.request.now (state_of t c.args.files.now) (state_of t c.space.new.files) (ap (λ (r : Request). block_of r) c.in-Space.is)
+
+pub returns-in-Find-clause-windows : goal.returns-in-Find-clause-windows
+returns-in-Find-clause-windows g c =
+    let t = table_of c.args.self.now in
+    subst (λ (r : Request). OnOk c.find.result (WindowsAfter c.args.task r (state_of t c.args.files.now) (state_of t c.find.new.files))) (sym c.in-Find.is) (on-ok c.find.result (keeps-same t))
+
+pub returns-in-Find-clause-once : goal.returns-in-Find-clause-once
+returns-in-Find-clause-once g c =
+    let t = table_of c.args.self.now in
+    no-block c.args.task c.args.request.now (state_of t c.args.files.now) (state_of t c.find.new.files) (ap (λ (r : Request). block_of r) c.in-Find.is)
+
+pub returns-in-Enter-clause-windows : goal.returns-in-Enter-clause-windows
+returns-in-Enter-clause-windows g c =
+    let t = table_of c.args.self.now in
+    subst (λ (r : Request). OnOk c.enter.result (WindowsAfter c.args.task r (state_of t c.args.files.now) (state_of t c.enter.new.files))) (sym c.in-Enter.is) (on-ok c.enter.result (keeps-same t))
+
+pub returns-in-Enter-clause-once : goal.returns-in-Enter-clause-once
+returns-in-Enter-clause-once g c =
+    let t = table_of c.args.self.now in
+    no-block c.args.task c.args.request.now (state_of t c.args.files.now) (state_of t c.enter.new.files) (ap (λ (r : Request). block_of r) c.in-Enter.is)
+
+pub returns-in-Remove-clause-windows : goal.returns-in-Remove-clause-windows
+returns-in-Remove-clause-windows g c =
+    let t = table_of c.args.self.now in
+    subst (λ (r : Request). OnOk c.remove.result (WindowsAfter c.args.task r (state_of t c.args.files.now) (state_of t c.remove.new.files))) (sym c.in-Remove.is) (on-ok c.remove.result (keeps-same t))
+
+pub returns-in-Remove-clause-once : goal.returns-in-Remove-clause-once
+returns-in-Remove-clause-once g c =
+    let t = table_of c.args.self.now in
+    no-block c.args.task c.args.request.now (state_of t c.args.files.now) (state_of t c.remove.new.files) (ap (λ (r : Request). block_of r) c.in-Remove.is)
+
+pub returns-in-Truncate-clause-windows : goal.returns-in-Truncate-clause-windows
+returns-in-Truncate-clause-windows g c =
+    let t = table_of c.args.self.now in
+    subst (λ (r : Request). OnOk c.truncate.result (WindowsAfter c.args.task r (state_of t c.args.files.now) (state_of (table_of c.truncate.new.self) c.truncate.new.files))) (sym c.in-Truncate.is) c.truncate.ensures.windows
+
+pub returns-in-Truncate-clause-once : goal.returns-in-Truncate-clause-once
+returns-in-Truncate-clause-once g c =
+    let t = table_of c.args.self.now in
+    no-block c.args.task c.args.request.now (state_of t c.args.files.now) (state_of (table_of c.truncate.new.self) c.truncate.new.files) (ap (λ (r : Request). block_of r) c.in-Truncate.is)
+
+pub returns-in-Delete-clause-windows : goal.returns-in-Delete-clause-windows
+returns-in-Delete-clause-windows g c =
+    let t = table_of c.args.self.now in
+    subst (λ (r : Request). OnOk c.delete.result (WindowsAfter c.args.task r (state_of t c.args.files.now) (state_of (table_of c.delete.new.self) c.delete.new.files))) (sym c.in-Delete.is) c.delete.ensures.windows
+
+pub returns-in-Delete-clause-once : goal.returns-in-Delete-clause-once
+returns-in-Delete-clause-once g c =
+    let t = table_of c.args.self.now in
+    no-block c.args.task c.args.request.now (state_of t c.args.files.now) (state_of (table_of c.delete.new.self) c.delete.new.files) (ap (λ (r : Request). block_of r) c.in-Delete.is)
+
+pub returns-in-Access-clause-windows : goal.returns-in-Access-clause-windows
+returns-in-Access-clause-windows g c =
+    let t = table_of c.args.self.now in
+    subst (λ (r : Request). OnOk c.access.result (WindowsAfter c.args.task r (state_of t c.args.files.now) (state_of (table_of c.access.new.self) c.access.new.files))) (sym c.in-Access.is) c.access.ensures.windows
+
+pub returns-in-Access-clause-once : goal.returns-in-Access-clause-once
+returns-in-Access-clause-once g c =
+    let t = table_of c.args.self.now in
+    no-block c.args.task c.args.request.now (state_of t c.args.files.now) (state_of (table_of c.access.new.self) c.access.new.files) (ap (λ (r : Request). block_of r) c.in-Access.is)
+
+pub returns-in-Deaccess-clause-windows : goal.returns-in-Deaccess-clause-windows
+returns-in-Deaccess-clause-windows g c =
+    let t = table_of c.args.self.now in
+    subst (λ (r : Request). OnOk c.deaccess.result (WindowsAfter c.args.task r (state_of t c.args.files.now) (state_of (table_of c.deaccess.new.self) c.deaccess.new.files))) (sym c.in-Deaccess.is) c.deaccess.ensures.windows
+
+pub returns-in-Deaccess-clause-once : goal.returns-in-Deaccess-clause-once
+returns-in-Deaccess-clause-once g c =
+    let t = table_of c.args.self.now in
+    no-block c.args.task c.args.request.now (state_of t c.args.files.now) (state_of (table_of c.deaccess.new.self) c.deaccess.new.files) (ap (λ (r : Request). block_of r) c.in-Deaccess.is)
+
+pub returns-in-Release-clause-windows : goal.returns-in-Release-clause-windows
+returns-in-Release-clause-windows g c =
+    let t = table_of c.args.self.now in
+    subst (λ (r : Request). OnOk c.release.result (WindowsAfter c.args.task r (state_of t c.args.files.now) (state_of (table_of c.release.new.self) c.release.new.files))) (sym c.in-Release.is) c.release.ensures.windows
+
+pub returns-in-Release-clause-once : goal.returns-in-Release-clause-once
+returns-in-Release-clause-once g c =
+    let t = table_of c.args.self.now in
+    no-block c.args.task c.args.request.now (state_of t c.args.files.now) (state_of (table_of c.release.new.self) c.release.new.files) (ap (λ (r : Request). block_of r) c.in-Release.is)
+
+pub returns-in-ReadBlock-clause-windows : goal.returns-in-ReadBlock-clause-windows
+returns-in-ReadBlock-clause-windows g c =
+    let t = table_of c.args.self.now in
+    subst (λ (r : Request). OnOk c.read_block.result (WindowsAfter c.args.task r (state_of t c.args.files.now) (state_of (table_of c.read_block.new.self) c.read_block.new.files))) (sym c.in-ReadBlock.is) c.read_block.ensures.windows
+
+pub returns-in-ReadBlock-clause-once : goal.returns-in-ReadBlock-clause-once
+returns-in-ReadBlock-clause-once g c =
+    let t = table_of c.args.self.now in
+    subst (λ (r : Request). TakesOneTransfer c.args.task r (state_of t c.args.files.now) (state_of (table_of c.read_block.new.self) c.read_block.new.files)) (sym c.in-ReadBlock.is) c.read_block.ensures.once
+
+pub returns-in-WriteBlock-clause-windows : goal.returns-in-WriteBlock-clause-windows
+returns-in-WriteBlock-clause-windows g c =
+    let t = table_of c.args.self.now in
+    subst (λ (r : Request). OnOk c.write_block.result (WindowsAfter c.args.task r (state_of t c.args.files.now) (state_of (table_of c.write_block.new.self) c.write_block.new.files))) (sym c.in-WriteBlock.is) c.write_block.ensures.windows
+
+pub returns-in-WriteBlock-clause-once : goal.returns-in-WriteBlock-clause-once
+returns-in-WriteBlock-clause-once g c =
+    let t = table_of c.args.self.now in
+    subst (λ (r : Request). TakesOneTransfer c.args.task r (state_of t c.args.files.now) (state_of (table_of c.write_block.new.self) c.write_block.new.files)) (sym c.in-WriteBlock.is) c.write_block.ensures.once

@@ -1,5 +1,7 @@
 use Rattle.std.proofs.Common.{[], ◌∙◌, ◌||◌, false, ap, refl}
 use Rattle.f11_files.specs.Answers.{is_fatal}
+use Rattle.f11_fcp.proofs.WindowLemmas.{windows-on}
+use Rattle.f11_fcp.proofs.RowLemmas.{created-leaves}
 use Rattle.f11_fcp.proofs.OpenLemmas.{stays-open}
 use Rattle.f11_fcp.specs.Handles.{state_of}
 use Rattle.f11_fcp.specs.Places.{table_of}
@@ -15,6 +17,8 @@ pub returns-in-Ok-clause-open : goal.returns-in-Ok-clause-open
 returns-in-Ok-clause-open g c =
     stays-open (table_of c.args.self.now) c.args.files.now c.create.new.self c.args.task c.args.caller _ _ [] [] c.requires.open (λ _. tt) (returns-in-Ok-clause-handles g c)
     (λ _. c.in-Ok.ensures.answers.next ∙ ap (λ b. b || false) c.requires.open.alive)
+    (windows-on (table_of c.args.self.now) c.args.files.now c.create.new.self c.requires.open (returns-in-Ok-clause-handles g c).writes (returns-in-Ok-clause-handles g c).home
+    (created-leaves c.args.files.now c.create.new.self (g.met.D.Device.is_image c.args.files.now.device) (g.met.D.Device.is_image c.create.new.self.device) c.in-Ok.ensures.answers.home _ c.args.protection c.args.ident.now c.args.attr.now _ c.in-Ok.ensures.created))
 
 pub returns-in-Err-clause-handles : goal.returns-in-Err-clause-handles
 returns-in-Err-clause-handles g c =
@@ -24,4 +28,4 @@ returns-in-Err-clause-handles g c =
 pub returns-in-Err-clause-open : goal.returns-in-Err-clause-open
 returns-in-Err-clause-open g c =
     stays-open (table_of c.args.self.now) c.args.files.now c.create.new.self c.args.task c.args.caller _ _ [] [] c.requires.open (λ _. tt) (returns-in-Err-clause-handles g c)
-    (λ clean. c.in-Err.ensures.answers.next ∙ ap (λ b. b || is_fatal c.in-Err.refusal) c.requires.open.alive ∙ clean)
+    (λ clean. c.in-Err.ensures.answers.next ∙ ap (λ b. b || is_fatal c.in-Err.refusal) c.requires.open.alive ∙ clean) tt

@@ -9,6 +9,9 @@ use Rattle.f11_image_store.specs.StoreOf.{store_of}
 use Rattle.f11_fcp.specs.Accesses.{Table, HasAccessed, with_marks}
 use Rattle.f11_fcp.specs.Handles.{state_of}
 use Rattle.f11_fcp.specs.Places.{table_of}
+use Rattle.f11_fcp.proofs.ByWindowLemmas.{keeps-marked, keeps-same}
+use Rattle.f11_fcp.proofs.WindowLemmas.{windows-without, windows-marked, windows-on}
+use Rattle.f11_fcp.proofs.RowLemmas.{cut-behind, deleted-leaves, marked-leaves, leaves-behind}
 use Rattle.f11_fcp.proofs.OpenLemmas.{stays-open}
 use Rattle.f11_fcp.proofs.MarkLemmas.{marks-kept}
 use Rattle.f11_fcp.proofs.DeleteLemmas.{delete-bad, delete-system, delete-unread, delete-marked, delete-unprivileged, delete-there, deleted, not-deleted, unheld-still, marked, not-marked}
@@ -29,7 +32,7 @@ returns-in-Err-clause-handles g c =
 pub returns-in-Err-clause-open : goal.returns-in-Err-clause-open
 returns-in-Err-clause-open g c =
     stays-open (table_of c.args.self.now) c.args.files.now c.read_attr.new.self c.args.task c.args.caller _ _ [] [] c.requires.open (λ _. tt) (returns-in-Err-clause-handles g c)
-    (λ clean. c.in-Err.ensures.answers.next ∙ ap (λ b. b || is_fatal c.in-Err.refusal) c.requires.open.alive ∙ clean)
+    (λ clean. c.in-Err.ensures.answers.next ∙ ap (λ b. b || is_fatal c.in-Err.refusal) c.requires.open.alive ∙ clean) tt
 
 pub returns-then-is_going-clause-handles : goal.returns-then-is_going-clause-handles
 returns-then-is_going-clause-handles g c =
@@ -38,7 +41,7 @@ returns-then-is_going-clause-handles g c =
 pub returns-then-is_going-clause-open : goal.returns-then-is_going-clause-open
 returns-then-is_going-clause-open g c =
     stays-open (table_of c.args.self.now) c.args.files.now c.read_attr.new.self c.args.task c.args.caller _ _ [] [] c.requires.open (λ _. tt) (returns-then-is_going-clause-handles g c)
-    (λ _. c.in-Ok.ensures.answers.next ∙ ap (λ b. b || false) c.requires.open.alive)
+    (λ _. c.in-Ok.ensures.answers.next ∙ ap (λ b. b || false) c.requires.open.alive) tt
 
 pub returns-then-not-may-clause-handles : goal.returns-then-not-may-clause-handles
 returns-then-not-may-clause-handles g c =
@@ -47,7 +50,7 @@ returns-then-not-may-clause-handles g c =
 pub returns-then-not-may-clause-open : goal.returns-then-not-may-clause-open
 returns-then-not-may-clause-open g c =
     stays-open (table_of c.args.self.now) c.args.files.now c.read_attr.new.self c.args.task c.args.caller _ _ [] [] c.requires.open (λ _. tt) (returns-then-not-may-clause-handles g c)
-    (λ _. c.in-Ok.ensures.answers.next ∙ ap (λ b. b || false) c.requires.open.alive)
+    (λ _. c.in-Ok.ensures.answers.next ∙ ap (λ b. b || false) c.requires.open.alive) tt
 
 pub returns-in-Ok-delete-clause-handles : goal.returns-in-Ok-delete-clause-handles
 returns-in-Ok-delete-clause-handles g c =
@@ -58,6 +61,14 @@ returns-in-Ok-delete-clause-open g c =
     stays-open (table_of c.args.self.now) c.args.files.now c.delete.new.self c.args.task c.args.caller _ _ [] [] c.requires.open
     (λ honest. (delete-there c.args.task c.args.caller c.args.file (state_of (table_of c.args.self.now) c.args.files.now) (sym c.is_bad.ensures ∙ c.if-is_bad.false) c.if-file-lt6.false c.in-Ok.attr (state_of (table_of c.args.self.now) c.read_attr.new.self) c.in-Ok.ensures.read.reads c.in-Ok.ensures.read.no_cause c.in-Ok.ensures.read.attr_is c.in-Ok.ensures.answers.home c.in-Ok.ensures.told refl c.is_accessed-accessed.result c.is_accessed-accessed.ensures honest, unheld-still c.args.task c.args.caller c.args.file (state_of (table_of c.args.self.now) c.args.files.now) (sym c.is_bad.ensures ∙ c.if-is_bad.false) c.if-file-lt6.false c.in-Ok.attr (state_of (table_of c.args.self.now) c.read_attr.new.self) c.in-Ok.ensures.read.reads c.in-Ok.ensures.read.no_cause c.in-Ok.ensures.read.attr_is c.in-Ok.ensures.answers.home c.in-Ok.ensures.told refl c.is_accessed-accessed.result c.is_accessed-accessed.ensures (sym c.is_going.ensures ∙ c.if-is_going.false) (sym c.may.ensures ∙ c.if-not-may.false) (state_of (table_of c.args.self.now) c.delete.new.self) c.in-Ok-delete.ensures.answers.home c.if-not-accessed.true refl)) (returns-in-Ok-delete-clause-handles g c)
     (λ _. c.in-Ok-delete.ensures.answers.next ∙ ap (λ b. b || false) (c.in-Ok.ensures.answers.next ∙ ap (λ b. b || false) c.requires.open.alive))
+    (let H = returns-in-Ok-delete-clause-handles g c in
+    let looked = c.in-Ok.ensures.read.reads.looked in
+    let t = table_of c.args.self.now in
+    windows-without t c.args.files.now c.delete.new.self c.args.file H.writes.went.size (λ honest. sym H.writes.went.honest ∙ honest) H.home c.requires.open.kept
+    (λ honest. delete-there c.args.task c.args.caller c.args.file (state_of (table_of c.args.self.now) c.args.files.now) (sym c.is_bad.ensures ∙ c.if-is_bad.false) c.if-file-lt6.false c.in-Ok.attr (state_of (table_of c.args.self.now) c.read_attr.new.self) c.in-Ok.ensures.read.reads c.in-Ok.ensures.read.no_cause c.in-Ok.ensures.read.attr_is c.in-Ok.ensures.answers.home c.in-Ok.ensures.told refl c.is_accessed-accessed.result c.is_accessed-accessed.ensures honest)
+    (cut-behind c.args.files.now c.read_attr.new.self c.delete.new.self c.args.file c.in-Ok.ensures.answers.home looked.honest looked.image
+    (deleted-leaves c.read_attr.new.self c.delete.new.self (g.met.D.Device.is_image c.read_attr.new.self.device) (g.met.D.Device.is_image c.delete.new.self.device) c.in-Ok-delete.ensures.answers.home c.args.file c.in-Ok-delete.ensures.deleted))
+    (sym c.is_accessed-accessed.ensures ∙ c.if-not-accessed.true) c.requires.open.windows)
 
 pub returns-in-Err-delete-clause-handles : goal.returns-in-Err-delete-clause-handles
 returns-in-Err-delete-clause-handles g c =
@@ -66,7 +77,7 @@ returns-in-Err-delete-clause-handles g c =
 pub returns-in-Err-delete-clause-open : goal.returns-in-Err-delete-clause-open
 returns-in-Err-delete-clause-open g c =
     stays-open (table_of c.args.self.now) c.args.files.now c.delete.new.self c.args.task c.args.caller _ _ [] [] c.requires.open (λ _. tt) (returns-in-Err-delete-clause-handles g c)
-    (λ clean. c.in-Err-delete.ensures.answers.next ∙ ap (λ b. b || is_fatal c.in-Err-delete.refusal) (c.in-Ok.ensures.answers.next ∙ ap (λ b. b || false) c.requires.open.alive) ∙ clean)
+    (λ clean. c.in-Err-delete.ensures.answers.next ∙ ap (λ b. b || is_fatal c.in-Err-delete.refusal) (c.in-Ok.ensures.answers.next ∙ ap (λ b. b || false) c.requires.open.alive) ∙ clean) tt
 
 pub returns-in-Ok-mark-clause-handles : goal.returns-in-Ok-mark-clause-handles
 returns-in-Ok-mark-clause-handles g c =
@@ -74,6 +85,14 @@ returns-in-Ok-mark-clause-handles g c =
 
 pub returns-in-Ok-mark-clause-open : goal.returns-in-Ok-mark-clause-open
 returns-in-Ok-mark-clause-open g c = λ _. record {
+  windows =
+      let H = returns-in-Ok-mark-clause-handles g c in
+      let looked = c.in-Ok.ensures.read.reads.looked in
+      let t = table_of c.args.self.now in
+      windows-marked t (table_of c.set_marks.new.self) c.mark.new.self c.args.file c.set_marks.ensures
+      (windows-on t c.args.files.now c.mark.new.self c.requires.open H.writes H.home
+      (leaves-behind c.args.files.now c.read_attr.new.self c.mark.new.self c.in-Ok.ensures.answers.home looked.honest looked.image
+      (marked-leaves c.read_attr.new.self c.mark.new.self (g.met.D.Device.is_image c.read_attr.new.self.device) (g.met.D.Device.is_image c.mark.new.self.device) c.in-Ok-mark.ensures.answers.home c.args.file c.in-Ok-mark.ensures.altered)));
   alive = c.in-Ok-mark.ensures.answers.next ∙ ap (λ b. b || false) (c.in-Ok.ensures.answers.next ∙ ap (λ b. b || false) c.requires.open.alive);
   kept = λ honest.
       let reads = c.in-Ok.ensures.read.reads in
@@ -94,4 +113,10 @@ returns-in-Err-mark-clause-handles g c =
 pub returns-in-Err-mark-clause-open : goal.returns-in-Err-mark-clause-open
 returns-in-Err-mark-clause-open g c =
     stays-open (table_of c.args.self.now) c.args.files.now c.mark.new.self c.args.task c.args.caller _ _ [] [] c.requires.open (λ _. tt) (returns-in-Err-mark-clause-handles g c)
-    (λ clean. c.in-Err-mark.ensures.answers.next ∙ ap (λ b. b || is_fatal c.in-Err-mark.refusal) (c.in-Ok.ensures.answers.next ∙ ap (λ b. b || false) c.requires.open.alive) ∙ clean)
+    (λ clean. c.in-Err-mark.ensures.answers.next ∙ ap (λ b. b || is_fatal c.in-Err-mark.refusal) (c.in-Ok.ensures.answers.next ∙ ap (λ b. b || false) c.requires.open.alive) ∙ clean) tt
+
+pub returns-in-Ok-delete-clause-windows : goal.returns-in-Ok-delete-clause-windows
+returns-in-Ok-delete-clause-windows g c = keeps-same (table_of c.args.self.now)
+
+pub returns-in-Ok-mark-clause-windows : goal.returns-in-Ok-mark-clause-windows
+returns-in-Ok-mark-clause-windows g c = keeps-marked c.args.file (table_of c.args.self.now) (table_of c.set_marks.new.self) c.set_marks.ensures

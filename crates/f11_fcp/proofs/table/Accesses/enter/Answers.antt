@@ -1,6 +1,8 @@
 use Rattle.std.proofs.Common.{refl, sym, ◌∙◌}
 use Rattle.f11_fcp.specs.Handles.{state_of}
 use Rattle.f11_fcp.specs.Places.{table_of}
+use Rattle.f11_fcp.proofs.WindowLemmas.{windows-on}
+use Rattle.f11_fcp.proofs.RowLemmas.{leaves-behind}
 use Rattle.f11_fcp.proofs.EnterLemmas.{enter-bad, enter-bad-file, enter-refused, enter-found, enter-known, entered, not-entered, stays-open-entered}
 use Rattle.f11_fcp.proofs.table.Accesses.enter.Goals as goal
 
@@ -20,7 +22,7 @@ returns-in-Err-clause-handles g c =
 
 pub returns-in-Err-clause-open : goal.returns-in-Err-clause-open
 returns-in-Err-clause-open g c =
-    stays-open-entered (table_of c.args.self.now) c.args.files.now c.search.new.files c.args.task c.args.caller c.args.directory c.args.name.now c.args.file _ c.requires.open (returns-in-Err-clause-handles g c) c.in-Err.ensures.alive
+    stays-open-entered (table_of c.args.self.now) c.args.files.now c.search.new.files c.args.task c.args.caller c.args.directory c.args.name.now c.args.file _ c.requires.open (returns-in-Err-clause-handles g c) c.in-Err.ensures.alive tt
 
 pub returns-in-Found-clause-handles : goal.returns-in-Found-clause-handles
 returns-in-Found-clause-handles g c =
@@ -31,6 +33,7 @@ returns-in-Found-clause-handles g c =
 pub returns-in-Found-clause-open : goal.returns-in-Found-clause-open
 returns-in-Found-clause-open g c =
     stays-open-entered (table_of c.args.self.now) c.args.files.now c.search.new.files c.args.task c.args.caller c.args.directory c.args.name.now c.args.file _ c.requires.open (returns-in-Found-clause-handles g c) (λ _. c.in-Ok.ensures.alive refl)
+    tt
 
 pub put_entry-requires-clause-known : goal.put_entry-requires-clause-known
 put_entry-requires-clause-known g c =
@@ -47,6 +50,8 @@ returns-in-Ok-put_entry-clause-handles g c =
 pub returns-in-Ok-put_entry-clause-open : goal.returns-in-Ok-put_entry-clause-open
 returns-in-Ok-put_entry-clause-open g c =
     stays-open-entered (table_of c.args.self.now) c.args.files.now c.put_entry.new.files c.args.task c.args.caller c.args.directory c.args.name.now c.args.file _ c.requires.open (returns-in-Ok-put_entry-clause-handles g c) (λ _. c.in-Ok-put_entry.ensures.alive refl)
+    (windows-on (table_of c.args.self.now) c.args.files.now c.put_entry.new.files c.requires.open (returns-in-Ok-put_entry-clause-handles g c).writes (returns-in-Ok-put_entry-clause-handles g c).home
+    (leaves-behind c.args.files.now c.search.new.files c.put_entry.new.files c.search.ensures.home c.in-Ok.ensures.searched.reads.looked.honest c.in-Ok.ensures.searched.reads.looked.image c.in-Ok-put_entry.ensures.rows))
 
 pub returns-in-Err-put_entry-clause-handles : goal.returns-in-Err-put_entry-clause-handles
 returns-in-Err-put_entry-clause-handles g c =
@@ -57,4 +62,4 @@ returns-in-Err-put_entry-clause-handles g c =
 
 pub returns-in-Err-put_entry-clause-open : goal.returns-in-Err-put_entry-clause-open
 returns-in-Err-put_entry-clause-open g c =
-    stays-open-entered (table_of c.args.self.now) c.args.files.now c.put_entry.new.files c.args.task c.args.caller c.args.directory c.args.name.now c.args.file _ c.requires.open (returns-in-Err-put_entry-clause-handles g c) c.in-Err-put_entry.ensures.alive
+    stays-open-entered (table_of c.args.self.now) c.args.files.now c.put_entry.new.files c.args.task c.args.caller c.args.directory c.args.name.now c.args.file _ c.requires.open (returns-in-Err-put_entry-clause-handles g c) c.in-Err-put_entry.ensures.alive tt

@@ -4,6 +4,8 @@ use Rattle.f11_files.specs.Answers.{is_fatal}
 use Rattle.f11_files.specs.Open.{store_in}
 use Rattle.f11_fcp.specs.Handles.{state_of}
 use Rattle.f11_fcp.specs.Places.{table_of, entry_of}
+use Rattle.f11_fcp.proofs.WindowLemmas.{windows-on}
+use Rattle.f11_fcp.proofs.RowLemmas.{extended-leaves, leaves-behind}
 use Rattle.f11_fcp.proofs.OpenLemmas.{stays-open}
 use Rattle.f11_store.specs.declared.requests.Request.TheVariants as request
 use Rattle.f11_fcp.proofs.AccessedLemmas.{extend-zero, extend-none, extend-unprivileged, extended, not-extended, accessed-unread, of-accessed-clean, there-held, least}
@@ -27,7 +29,7 @@ returns-in-Err-clause-handles g c =
 pub returns-in-Err-clause-open : goal.returns-in-Err-clause-open
 returns-in-Err-clause-open g c =
     stays-open (table_of c.args.self.now) c.args.files.now c.read_attr.new.self c.args.task c.args.caller _ _ [] [] c.requires.open (λ _. tt) (returns-in-Err-clause-handles g c)
-    (λ clean. c.in-Err.ensures.answers.next ∙ ap (λ b. b || is_fatal c.in-Err.refusal) c.requires.open.alive ∙ of-accessed-clean c.in-Err.refusal (ap is_fatal (sym c.of_accessed.ensures) ∙ clean))
+    (λ clean. c.in-Err.ensures.answers.next ∙ ap (λ b. b || is_fatal c.in-Err.refusal) c.requires.open.alive ∙ of-accessed-clean c.in-Err.refusal (ap is_fatal (sym c.of_accessed.ensures) ∙ clean)) tt
 
 pub returns-then-not-may-clause-handles : goal.returns-then-not-may-clause-handles
 returns-then-not-may-clause-handles g c =
@@ -38,7 +40,7 @@ returns-then-not-may-clause-handles g c =
 pub returns-then-not-may-clause-open : goal.returns-then-not-may-clause-open
 returns-then-not-may-clause-open g c =
     stays-open (table_of c.args.self.now) c.args.files.now c.read_attr.new.self c.args.task c.args.caller _ _ [] [] c.requires.open (λ _. tt) (returns-then-not-may-clause-handles g c)
-    (λ _. c.in-Ok.ensures.answers.next ∙ ap (λ b. b || false) c.requires.open.alive)
+    (λ _. c.in-Ok.ensures.answers.next ∙ ap (λ b. b || false) c.requires.open.alive) tt
 
 pub returns-in-Ok-extend-clause-handles : goal.returns-in-Ok-extend-clause-handles
 returns-in-Ok-extend-clause-handles g c =
@@ -52,6 +54,9 @@ pub returns-in-Ok-extend-clause-open : goal.returns-in-Ok-extend-clause-open
 returns-in-Ok-extend-clause-open g c =
     stays-open (table_of c.args.self.now) c.args.files.now c.extend.new.self c.args.task c.args.caller _ _ [] [] c.requires.open (λ _. tt) (returns-in-Ok-extend-clause-handles g c)
     (λ _. c.in-Ok-extend.ensures.answers.next ∙ ap (λ b. b || false) (c.in-Ok.ensures.answers.next ∙ ap (λ b. b || false) c.requires.open.alive))
+    (windows-on (table_of c.args.self.now) c.args.files.now c.extend.new.self c.requires.open (returns-in-Ok-extend-clause-handles g c).writes (returns-in-Ok-extend-clause-handles g c).home
+    (leaves-behind c.args.files.now c.read_attr.new.self c.extend.new.self c.in-Ok.ensures.answers.home c.in-Ok.ensures.read.reads.looked.honest c.in-Ok.ensures.read.reads.looked.image
+    (extended-leaves c.read_attr.new.self c.extend.new.self (g.met.D.Device.is_image c.read_attr.new.self.device) (g.met.D.Device.is_image c.extend.new.self.device) c.in-Ok-extend.ensures.answers.home c.in-Some.held.file c.args.n c.in-Ok-extend.ensures.extended.1)))
 
 pub returns-in-Err-extend-clause-handles : goal.returns-in-Err-extend-clause-handles
 returns-in-Err-extend-clause-handles g c =
@@ -66,4 +71,4 @@ pub returns-in-Err-extend-clause-open : goal.returns-in-Err-extend-clause-open
 returns-in-Err-extend-clause-open g c =
     stays-open (table_of c.args.self.now) c.args.files.now c.extend.new.self c.args.task c.args.caller _ _ [] [] c.requires.open (λ _. tt) (returns-in-Err-extend-clause-handles g c)
     (λ clean. c.in-Err-extend.ensures.answers.next ∙ ap (λ b. b || is_fatal c.in-Err-extend.refusal) (c.in-Ok.ensures.answers.next ∙ ap (λ b. b || false) c.requires.open.alive)
-    ∙ of-accessed-clean c.in-Err-extend.refusal (ap is_fatal (sym c.of_accessed-in-Err-extend.ensures) ∙ clean))
+    ∙ of-accessed-clean c.in-Err-extend.refusal (ap is_fatal (sym c.of_accessed-in-Err-extend.ensures) ∙ clean)) tt

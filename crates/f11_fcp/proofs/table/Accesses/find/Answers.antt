@@ -1,6 +1,7 @@
 use Rattle.std.proofs.Common.{[], refl, sym, ◌∙◌}
 use Rattle.f11_fcp.specs.Handles.{state_of}
 use Rattle.f11_fcp.specs.Places.{table_of}
+use Rattle.f11_fcp.proofs.WindowLemmas.{windows-read}
 use Rattle.f11_fcp.proofs.FindLemmas.{find-bad, find-refused, find-found, find-absent}
 use Rattle.f11_fcp.proofs.OpenLemmas.{stays-open}
 use Rattle.f11_fcp.proofs.table.Accesses.find.Goals as goal
@@ -15,7 +16,7 @@ returns-in-Err-clause-handles g c =
 
 pub returns-in-Err-clause-open : goal.returns-in-Err-clause-open
 returns-in-Err-clause-open g c =
-    stays-open (table_of c.args.self.now) c.args.files.now c.search.new.files c.args.task c.args.caller _ _ [] [] c.requires.open (λ _. tt) (returns-in-Err-clause-handles g c) c.in-Err.ensures.alive
+    stays-open (table_of c.args.self.now) c.args.files.now c.search.new.files c.args.task c.args.caller _ _ [] [] c.requires.open (λ _. tt) (returns-in-Err-clause-handles g c) c.in-Err.ensures.alive tt
 
 pub returns-in-Found-clause-handles : goal.returns-in-Found-clause-handles
 returns-in-Found-clause-handles g c =
@@ -25,6 +26,7 @@ returns-in-Found-clause-handles g c =
 pub returns-in-Found-clause-open : goal.returns-in-Found-clause-open
 returns-in-Found-clause-open g c =
     stays-open (table_of c.args.self.now) c.args.files.now c.search.new.files c.args.task c.args.caller _ _ [] [] c.requires.open (λ _. tt) (returns-in-Found-clause-handles g c) (λ _. c.in-Ok.ensures.alive refl)
+    (windows-read (table_of c.args.self.now) c.args.files.now c.search.new.files c.requires.open c.in-Ok.ensures.searched.reads c.search.ensures.home)
 
 pub returns-in-Absent-clause-handles : goal.returns-in-Absent-clause-handles
 returns-in-Absent-clause-handles g c =
@@ -33,4 +35,4 @@ returns-in-Absent-clause-handles g c =
 
 pub returns-in-Absent-clause-open : goal.returns-in-Absent-clause-open
 returns-in-Absent-clause-open g c =
-    stays-open (table_of c.args.self.now) c.args.files.now c.search.new.files c.args.task c.args.caller _ _ [] [] c.requires.open (λ _. tt) (returns-in-Absent-clause-handles g c) (λ _. c.in-Ok.ensures.alive refl)
+    stays-open (table_of c.args.self.now) c.args.files.now c.search.new.files c.args.task c.args.caller _ _ [] [] c.requires.open (λ _. tt) (returns-in-Absent-clause-handles g c) (λ _. c.in-Ok.ensures.alive refl) tt

@@ -1,4 +1,4 @@
-use Rattle.std.proofs.Common.{◌≡◌, ◌∙◌, ◌||◌, true, false, inl, inr, refl, sym, ap, subst}
+use Rattle.std.proofs.Common.{◌≡◌, ◌∙◌, ◌||◌, true, false, inl, inr, refl, sym, ap, subst, None}
 use Rattle.std.proofs.lemmas.Bool.{not-true, not-false}
 use Rattle.f11_home.specs.Home.{HomeFields}
 use Rattle.f11_store.specs.declared.refusals.Refusal.{Refusal}
@@ -8,7 +8,10 @@ use Rattle.f11_image_store.specs.StoreOf.{store_of}
 use Rattle.f11_fcp.specs.Accesses.{Table, is_held_in, any_mode}
 use Rattle.f11_fcp.specs.Handles.{state_of}
 use Rattle.f11_fcp.specs.Places.{table_of, entry_of}
-use Rattle.f11_fcp.proofs.AccessedLemmas.{mark-held}
+use Rattle.f11_fcp.proofs.ByWindowLemmas.{keeps-given}
+use Rattle.f11_fcp.proofs.RowLemmas.{deleted-leaves}
+use Rattle.f11_fcp.proofs.WindowLemmas.{windows-with, windows-without}
+use Rattle.f11_fcp.proofs.AccessedLemmas.{mark-held, there-held}
 use Rattle.f11_fcp.proofs.DeaccessLemmas.{deaccess-plain, deaccess-deletes, deaccess-fails, deleted-kept, deletion-fatal, given-kept}
 use Rattle.f11_fcp.proofs.table.Accesses.give_up.Goals as goal
 
@@ -17,6 +20,7 @@ returns-then-not-held-clause-handles g c = deaccess-plain c.args.task c.args.lun
 
 pub returns-then-not-held-clause-open : goal.returns-then-not-held-clause-open
 returns-then-not-held-clause-open g c = λ _. record {
+  windows = windows-with (table_of c.args.self.now) (table_of c.set.new.self) c.args.files.now c.args.task c.args.lun None c.set.ensures.value (λ e none. absurd (cc)) c.requires.open.windows;
   alive = c.requires.open.alive;
   kept = λ honest. given-kept c.args.task c.args.lun c.args.caller (state_of (table_of c.args.self.now) c.args.files.now) (table_of c.set.new.self) (store_in c.args.files.now) refl c.set.ensures.value (c.requires.open.kept honest);
 }
@@ -26,6 +30,7 @@ returns-then-is_accessed-clause-handles g c = deaccess-plain c.args.task c.args.
 
 pub returns-then-is_accessed-clause-open : goal.returns-then-is_accessed-clause-open
 returns-then-is_accessed-clause-open g c = λ _. record {
+  windows = windows-with (table_of c.args.self.now) (table_of c.set.new.self) c.args.files.now c.args.task c.args.lun None c.set.ensures.value (λ e none. absurd (cc)) c.requires.open.windows;
   alive = c.requires.open.alive;
   kept = λ honest. given-kept c.args.task c.args.lun c.args.caller (state_of (table_of c.args.self.now) c.args.files.now) (table_of c.set.new.self) (store_in c.args.files.now) refl c.set.ensures.value (c.requires.open.kept honest);
 }
@@ -38,6 +43,14 @@ returns-in-Ok-clause-handles g c =
 
 pub returns-in-Ok-clause-open : goal.returns-in-Ok-clause-open
 returns-in-Ok-clause-open g c = λ _. record {
+  windows =
+      let H = returns-in-Ok-clause-handles g c in
+      let t = table_of c.args.self.now in
+      windows-without (table_of c.set.new.self) c.args.files.now c.delete.new.self c.args.held.file H.writes.went.size (λ honest. sym H.writes.went.honest ∙ honest) H.home (λ honest. given-kept c.args.task c.args.lun c.args.caller (state_of t c.args.files.now) (table_of c.set.new.self) (store_in c.args.files.now) refl c.set.ensures.value (c.requires.open.kept honest))
+      (λ honest. there-held t (store_in c.args.files.now) c.args.task c.args.lun (entry_of c.args.held) (c.requires.open.kept honest) c.set.ensures.within.0 c.set.ensures.within.1 c.requires.held)
+      (deleted-leaves c.args.files.now c.delete.new.self (g.met.D.Device.is_image c.args.files.now.device) (g.met.D.Device.is_image c.delete.new.self.device) c.in-Ok.ensures.answers.home c.args.held.file c.in-Ok.ensures.deleted)
+      (sym c.is_accessed.ensures ∙ c.if-is_accessed.false)
+      (windows-with t (table_of c.set.new.self) c.args.files.now c.args.task c.args.lun None c.set.ensures.value (λ e none. absurd (cc)) c.requires.open.windows);
   alive = c.in-Ok.ensures.answers.next ∙ ap (λ b. b || false) c.requires.open.alive;
   kept = λ honest.
       let was = sym c.in-Ok.ensures.deleted.writes.went.honest ∙ honest in
@@ -56,3 +69,12 @@ returns-in-Err-clause-handles g c =
 pub returns-in-Err-clause-fatal : goal.returns-in-Err-clause-fatal
 returns-in-Err-clause-fatal g c =
     subst (λ (e : Refusal). is_fatal e ≡ true) (sym c.of_accessed.ensures) (deletion-fatal (home_in c.args.files.now) c.args.held.file (disk_in c.args.files.now) (disk_in c.delete.new.self) c.in-Err.refusal c.requires.open.alive c.in-Err.ensures.refused)
+
+pub returns-then-not-held-clause-windows : goal.returns-then-not-held-clause-windows
+returns-then-not-held-clause-windows g c = keeps-given (table_of c.args.self.now) (table_of c.set.new.self) c.args.task c.args.lun c.set.ensures.value
+
+pub returns-then-is_accessed-clause-windows : goal.returns-then-is_accessed-clause-windows
+returns-then-is_accessed-clause-windows g c = keeps-given (table_of c.args.self.now) (table_of c.set.new.self) c.args.task c.args.lun c.set.ensures.value
+
+pub returns-in-Ok-clause-windows : goal.returns-in-Ok-clause-windows
+returns-in-Ok-clause-windows g c = keeps-given (table_of c.args.self.now) (table_of c.set.new.self) c.args.task c.args.lun c.set.ensures.value

@@ -3,6 +3,8 @@ use Rattle.std.proofs.lemmas.Bool.{ne_eqb}
 use Rattle.f11_files.specs.Answers.{is_fatal}
 use Rattle.f11_fcp.specs.Handles.{state_of}
 use Rattle.f11_fcp.specs.Places.{table_of}
+use Rattle.f11_fcp.proofs.WindowLemmas.{windows-on}
+use Rattle.f11_fcp.proofs.RowLemmas.{grown-leaves}
 use Rattle.f11_fcp.proofs.OpenLemmas.{stays-open}
 use Rattle.f11_fcp.proofs.GrowIndexLemmas.{grow-zero, grow-unprivileged, grown, not-grown}
 use Rattle.f11_fcp.proofs.table.Accesses.grow_index.Goals as goal
@@ -22,6 +24,8 @@ pub returns-in-Ok-clause-open : goal.returns-in-Ok-clause-open
 returns-in-Ok-clause-open g c =
     stays-open (table_of c.args.self.now) c.args.files.now c.grow_index.new.self c.args.task c.args.caller _ _ [] [] c.requires.open (λ _. tt) (returns-in-Ok-clause-handles g c)
     (λ _. c.in-Ok.ensures.answers.next ∙ ap (λ b. b || false) c.requires.open.alive)
+    (windows-on (table_of c.args.self.now) c.args.files.now c.grow_index.new.self c.requires.open (returns-in-Ok-clause-handles g c).writes (returns-in-Ok-clause-handles g c).home
+    (grown-leaves c.args.files.now c.grow_index.new.self (g.met.D.Device.is_image c.args.files.now.device) (g.met.D.Device.is_image c.grow_index.new.self.device) c.in-Ok.ensures.answers.home c.args.n c.in-Ok.ensures.grown.1))
 
 pub returns-in-Err-clause-handles : goal.returns-in-Err-clause-handles
 returns-in-Err-clause-handles g c =
@@ -31,4 +35,4 @@ returns-in-Err-clause-handles g c =
 pub returns-in-Err-clause-open : goal.returns-in-Err-clause-open
 returns-in-Err-clause-open g c =
     stays-open (table_of c.args.self.now) c.args.files.now c.grow_index.new.self c.args.task c.args.caller _ _ [] [] c.requires.open (λ _. tt) (returns-in-Err-clause-handles g c)
-    (λ clean. c.in-Err.ensures.answers.next ∙ ap (λ b. b || is_fatal c.in-Err.refusal) c.requires.open.alive ∙ clean)
+    (λ clean. c.in-Err.ensures.answers.next ∙ ap (λ b. b || is_fatal c.in-Err.refusal) c.requires.open.alive ∙ clean) tt

@@ -2,6 +2,7 @@ use Rattle.std.proofs.Common.{[], ◌∙◌, ◌||◌, false, ap, refl, sym}
 use Rattle.f11_files.specs.Answers.{is_fatal}
 use Rattle.f11_fcp.specs.Handles.{state_of}
 use Rattle.f11_fcp.specs.Places.{table_of}
+use Rattle.f11_fcp.proofs.WindowLemmas.{windows-read}
 use Rattle.f11_fcp.proofs.OpenLemmas.{stays-open}
 use Rattle.f11_fcp.proofs.AttributeLemmas.{attr-bad, attr-unread, attr-told}
 use Rattle.f11_fcp.proofs.table.Accesses.read_attr.Goals as goal
@@ -18,6 +19,7 @@ pub returns-in-Ok-clause-open : goal.returns-in-Ok-clause-open
 returns-in-Ok-clause-open g c =
     stays-open (table_of c.args.self.now) c.args.files.now c.read_attr.new.self c.args.task c.args.caller _ _ [] [] c.requires.open (λ _. tt) (returns-in-Ok-clause-handles g c)
     (λ _. c.in-Ok.ensures.answers.next ∙ ap (λ b. b || false) c.requires.open.alive)
+    (windows-read (table_of c.args.self.now) c.args.files.now c.read_attr.new.self c.requires.open c.in-Ok.ensures.read.reads c.in-Ok.ensures.answers.home)
 
 pub returns-in-Err-clause-handles : goal.returns-in-Err-clause-handles
 returns-in-Err-clause-handles g c =
@@ -27,4 +29,4 @@ returns-in-Err-clause-handles g c =
 pub returns-in-Err-clause-open : goal.returns-in-Err-clause-open
 returns-in-Err-clause-open g c =
     stays-open (table_of c.args.self.now) c.args.files.now c.read_attr.new.self c.args.task c.args.caller _ _ [] [] c.requires.open (λ _. tt) (returns-in-Err-clause-handles g c)
-    (λ clean. c.in-Err.ensures.answers.next ∙ ap (λ b. b || is_fatal c.in-Err.refusal) c.requires.open.alive ∙ clean)
+    (λ clean. c.in-Err.ensures.answers.next ∙ ap (λ b. b || is_fatal c.in-Err.refusal) c.requires.open.alive ∙ clean) tt

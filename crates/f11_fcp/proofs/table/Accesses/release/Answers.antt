@@ -2,17 +2,19 @@ use Rattle.std.proofs.Common.{◌≡◌, ℕ, [], Ok, Err, refl, sym, ◌∙◌,
 use Rattle.f11_fcp.specs.Handles.{Handles, state_of}
 use Rattle.f11_fcp.specs.Places.{table_of, entry_of}
 use Rattle.f11_store.specs.declared.requests.Request.TheVariants as request
+use Rattle.f11_fcp.proofs.ByWindowLemmas.{keeps-same, keeps-then}
 use Rattle.f11_fcp.proofs.ReleaseLemmas.{Released, released-none, released-skips, released-more, released-fails, released-all}
 use Rattle.f11_fcp.proofs.table.Accesses.release.Goals as goal
 
 pub loop-unit-init : goal.loop-unit-init
-loop-unit-init g c = record { open_now = c.requires.open; so_far = released-none c.args.task c.args.caller (state_of (table_of c.args.self.now) c.args.files.now) }
+loop-unit-init g c = record { windows = keeps-same (table_of c.args.self.now); open_now = c.requires.open; so_far = released-none c.args.task c.args.caller (state_of (table_of c.args.self.now) c.args.files.now) }
 
 pub loop-unit-preserved-in-None : goal.loop-unit-preserved-in-None
 loop-unit-preserved-in-None g c = absurd (let no = c.in-None.ensures.valid.1 c.loop-unit-test.true in cc)
 
 pub loop-unit-preserved-in-None-held : goal.loop-unit-preserved-in-None-held
 loop-unit-preserved-in-None-held g c = record {
+  windows = c.loop-unit.invariant.windows;
   open_now = c.loop-unit.invariant.open_now;
   so_far = released-skips c.args.task c.args.caller (state_of (table_of c.args.self.now) c.args.files.now) (state_of (table_of c.loop-unit.self) c.loop-unit.files) c.loop-unit.unit c.loop-unit-test.true
       c.loop-unit.invariant.so_far (ap (table_of c.loop-unit.self c.args.task) (sym c.in-Some.ensures.value) ∙ sym c.in-None-held.ensures.value);
@@ -32,6 +34,7 @@ pub loop-unit-preserved : goal.loop-unit-preserved
 loop-unit-preserved g c =
     let t = table_of c.loop-unit.self in
     record {
+      windows = keeps-then (table_of c.args.self.now) t (table_of c.give_up.new.self) c.loop-unit.invariant.windows c.in-Ok.ensures.windows;
       open_now = c.in-Ok.ensures.open refl;
       so_far = released-more c.args.task c.args.caller (state_of (table_of c.args.self.now) c.args.files.now) (state_of t c.loop-unit.files) c.loop-unit.unit c.loop-unit-test.true c.loop-unit.invariant.so_far
           (entry_of c.in-Some-held.held) (ap (t c.args.task) (sym c.in-Some.ensures.value) ∙ sym c.in-Some-held.ensures.value) (state_of (table_of c.give_up.new.self) c.give_up.new.files) c.in-Ok.field-0
@@ -47,3 +50,6 @@ returns-clause-handles g c =
 
 pub returns-clause-open : goal.returns-clause-open
 returns-clause-open g c = λ _. c.loop-unit.invariant.open_now
+
+pub returns-clause-windows : goal.returns-clause-windows
+returns-clause-windows g c = c.loop-unit.invariant.windows

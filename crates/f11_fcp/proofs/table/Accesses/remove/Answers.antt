@@ -1,6 +1,8 @@
 use Rattle.std.proofs.Common.{[], refl, sym, ◌∙◌}
 use Rattle.f11_fcp.specs.Handles.{state_of}
 use Rattle.f11_fcp.specs.Places.{table_of}
+use Rattle.f11_fcp.proofs.WindowLemmas.{windows-on}
+use Rattle.f11_fcp.proofs.RowLemmas.{leaves-behind}
 use Rattle.f11_fcp.proofs.OpenLemmas.{stays-open}
 use Rattle.f11_fcp.proofs.RemoveLemmas.{remove-bad, remove-refused, remove-absent, remove-holds, removed, not-removed}
 use Rattle.f11_fcp.proofs.table.Accesses.remove.Goals as goal
@@ -15,7 +17,7 @@ returns-in-Err-clause-handles g c =
 
 pub returns-in-Err-clause-open : goal.returns-in-Err-clause-open
 returns-in-Err-clause-open g c =
-    stays-open (table_of c.args.self.now) c.args.files.now c.search.new.files c.args.task c.args.caller _ _ [] [] c.requires.open (λ _. tt) (returns-in-Err-clause-handles g c) c.in-Err.ensures.alive
+    stays-open (table_of c.args.self.now) c.args.files.now c.search.new.files c.args.task c.args.caller _ _ [] [] c.requires.open (λ _. tt) (returns-in-Err-clause-handles g c) c.in-Err.ensures.alive tt
 
 pub returns-in-Absent-clause-handles : goal.returns-in-Absent-clause-handles
 returns-in-Absent-clause-handles g c =
@@ -24,7 +26,7 @@ returns-in-Absent-clause-handles g c =
 
 pub returns-in-Absent-clause-open : goal.returns-in-Absent-clause-open
 returns-in-Absent-clause-open g c =
-    stays-open (table_of c.args.self.now) c.args.files.now c.search.new.files c.args.task c.args.caller _ _ [] [] c.requires.open (λ _. tt) (returns-in-Absent-clause-handles g c) (λ _. c.in-Ok.ensures.alive refl)
+    stays-open (table_of c.args.self.now) c.args.files.now c.search.new.files c.args.task c.args.caller _ _ [] [] c.requires.open (λ _. tt) (returns-in-Absent-clause-handles g c) (λ _. c.in-Ok.ensures.alive refl) tt
 
 pub clear_entry-requires-clause-there : goal.clear_entry-requires-clause-there
 clear_entry-requires-clause-there g c =
@@ -40,6 +42,8 @@ returns-in-Ok-clear_entry-clause-handles g c =
 pub returns-in-Ok-clear_entry-clause-open : goal.returns-in-Ok-clear_entry-clause-open
 returns-in-Ok-clear_entry-clause-open g c =
     stays-open (table_of c.args.self.now) c.args.files.now c.clear_entry.new.files c.args.task c.args.caller _ _ [] [] c.requires.open (λ _. tt) (returns-in-Ok-clear_entry-clause-handles g c) (λ _. c.in-Ok-clear_entry.ensures.alive)
+    (windows-on (table_of c.args.self.now) c.args.files.now c.clear_entry.new.files c.requires.open (returns-in-Ok-clear_entry-clause-handles g c).writes (returns-in-Ok-clear_entry-clause-handles g c).home
+    (leaves-behind c.args.files.now c.search.new.files c.clear_entry.new.files c.search.ensures.home c.in-Ok.ensures.searched.reads.looked.honest c.in-Ok.ensures.searched.reads.looked.image c.in-Ok-clear_entry.ensures.rows))
 
 pub returns-in-Err-clear_entry-clause-handles : goal.returns-in-Err-clear_entry-clause-handles
 returns-in-Err-clear_entry-clause-handles g c =

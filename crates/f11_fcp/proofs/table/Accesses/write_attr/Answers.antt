@@ -2,6 +2,8 @@ use Rattle.std.proofs.Common.{[], ◌∙◌, ◌||◌, false, ap, refl, sym}
 use Rattle.f11_files.specs.Answers.{is_fatal}
 use Rattle.f11_fcp.specs.Handles.{state_of}
 use Rattle.f11_fcp.specs.Places.{table_of}
+use Rattle.f11_fcp.proofs.WindowLemmas.{windows-on}
+use Rattle.f11_fcp.proofs.RowLemmas.{replaced-leaves, leaves-behind}
 use Rattle.f11_fcp.proofs.OpenLemmas.{stays-open}
 use Rattle.f11_fcp.proofs.AttributeLemmas.{change-bad, change-system, change-unread, change-marked, change-unprivileged, changed, not-changed}
 use Rattle.f11_fcp.proofs.table.Accesses.write_attr.Goals as goal
@@ -21,7 +23,7 @@ returns-in-Err-clause-handles g c =
 pub returns-in-Err-clause-open : goal.returns-in-Err-clause-open
 returns-in-Err-clause-open g c =
     stays-open (table_of c.args.self.now) c.args.files.now c.read_attr.new.self c.args.task c.args.caller _ _ [] [] c.requires.open (λ _. tt) (returns-in-Err-clause-handles g c)
-    (λ clean. c.in-Err.ensures.answers.next ∙ ap (λ b. b || is_fatal c.in-Err.refusal) c.requires.open.alive ∙ clean)
+    (λ clean. c.in-Err.ensures.answers.next ∙ ap (λ b. b || is_fatal c.in-Err.refusal) c.requires.open.alive ∙ clean) tt
 
 pub returns-then-is_marked-clause-handles : goal.returns-then-is_marked-clause-handles
 returns-then-is_marked-clause-handles g c =
@@ -30,7 +32,7 @@ returns-then-is_marked-clause-handles g c =
 pub returns-then-is_marked-clause-open : goal.returns-then-is_marked-clause-open
 returns-then-is_marked-clause-open g c =
     stays-open (table_of c.args.self.now) c.args.files.now c.read_attr.new.self c.args.task c.args.caller _ _ [] [] c.requires.open (λ _. tt) (returns-then-is_marked-clause-handles g c)
-    (λ _. c.in-Ok.ensures.answers.next ∙ ap (λ b. b || false) c.requires.open.alive)
+    (λ _. c.in-Ok.ensures.answers.next ∙ ap (λ b. b || false) c.requires.open.alive) tt
 
 pub returns-then-lacks_change-clause-handles : goal.returns-then-lacks_change-clause-handles
 returns-then-lacks_change-clause-handles g c =
@@ -39,7 +41,7 @@ returns-then-lacks_change-clause-handles g c =
 pub returns-then-lacks_change-clause-open : goal.returns-then-lacks_change-clause-open
 returns-then-lacks_change-clause-open g c =
     stays-open (table_of c.args.self.now) c.args.files.now c.read_attr.new.self c.args.task c.args.caller _ _ [] [] c.requires.open (λ _. tt) (returns-then-lacks_change-clause-handles g c)
-    (λ _. c.in-Ok.ensures.answers.next ∙ ap (λ b. b || false) c.requires.open.alive)
+    (λ _. c.in-Ok.ensures.answers.next ∙ ap (λ b. b || false) c.requires.open.alive) tt
 
 pub returns-in-Ok-write_attr-clause-handles : goal.returns-in-Ok-write_attr-clause-handles
 returns-in-Ok-write_attr-clause-handles g c =
@@ -49,6 +51,9 @@ pub returns-in-Ok-write_attr-clause-open : goal.returns-in-Ok-write_attr-clause-
 returns-in-Ok-write_attr-clause-open g c =
     stays-open (table_of c.args.self.now) c.args.files.now c.write_attr.new.self c.args.task c.args.caller _ _ [] [] c.requires.open (λ _. tt) (returns-in-Ok-write_attr-clause-handles g c)
     (λ _. c.in-Ok-write_attr.ensures.answers.next ∙ ap (λ b. b || false) (c.in-Ok.ensures.answers.next ∙ ap (λ b. b || false) c.requires.open.alive))
+    (windows-on (table_of c.args.self.now) c.args.files.now c.write_attr.new.self c.requires.open (returns-in-Ok-write_attr-clause-handles g c).writes (returns-in-Ok-write_attr-clause-handles g c).home
+    (leaves-behind c.args.files.now c.read_attr.new.self c.write_attr.new.self c.in-Ok.ensures.answers.home c.in-Ok.ensures.read.reads.looked.honest c.in-Ok.ensures.read.reads.looked.image
+    (replaced-leaves c.read_attr.new.self c.write_attr.new.self (g.met.D.Device.is_image c.read_attr.new.self.device) (g.met.D.Device.is_image c.write_attr.new.self.device) c.in-Ok-write_attr.ensures.answers.home c.args.file c.args.change.now c.in-Ok-write_attr.ensures.altered)))
 
 pub returns-in-Err-write_attr-clause-handles : goal.returns-in-Err-write_attr-clause-handles
 returns-in-Err-write_attr-clause-handles g c =
@@ -57,4 +62,4 @@ returns-in-Err-write_attr-clause-handles g c =
 pub returns-in-Err-write_attr-clause-open : goal.returns-in-Err-write_attr-clause-open
 returns-in-Err-write_attr-clause-open g c =
     stays-open (table_of c.args.self.now) c.args.files.now c.write_attr.new.self c.args.task c.args.caller _ _ [] [] c.requires.open (λ _. tt) (returns-in-Err-write_attr-clause-handles g c)
-    (λ clean. c.in-Err-write_attr.ensures.answers.next ∙ ap (λ b. b || is_fatal c.in-Err-write_attr.refusal) (c.in-Ok.ensures.answers.next ∙ ap (λ b. b || false) c.requires.open.alive) ∙ clean)
+    (λ clean. c.in-Err-write_attr.ensures.answers.next ∙ ap (λ b. b || is_fatal c.in-Err-write_attr.refusal) (c.in-Ok.ensures.answers.next ∙ ap (λ b. b || false) c.requires.open.alive) ∙ clean) tt
