@@ -35,7 +35,10 @@ pub free_blocks-kept : (bitmap : Bitmap) (old new : Image) → IsBitmap bitmap �
 free_blocks-kept bitmap old new valid keeps = count_below-same (is_free new bitmap) (is_free old bitmap) bitmap.size (λ k. is_free-kept bitmap old new k valid keeps)
 
 pub Keeps-kept : (s : Storage) (old new : Image) → KeepsBitmap (bitmap_of s) old new → Keeps s old → Keeps s new
-Keeps-kept s old new keeps before = record { free = before.free ∙ sym (free_blocks-kept (bitmap_of s) old new s.valid keeps) }
+Keeps-kept s old new keeps before = record {
+  free = before.free ∙ sym (free_blocks-kept (bitmap_of s) old new s.valid keeps);
+  block = record { within = before.block.within; is_block = keeps s.kept before.block.within ∙ before.block.is_block };
+}
 
 pub IsFor-write : (s : Storage) (disk : Disk) (passed : Bool) (lbn : ℕ) (block : List ℕ)
     → (IsTrue disk.honest → (i : ℕ) → i < length (bitmap_of s).places → get_or (bitmap_of s).places i 0 ≢ lbn) → IsFor s disk → IsFor s (with_transfer passed (with_block_at lbn block disk))

@@ -13,6 +13,8 @@ use Rattle.f11_bits.specs.Bitmap.{Bitmap, IsBitmap, LiesWithin, KeepsOthers, Mar
 use Rattle.f11_bits.specs.Calls.{MarksOnDisk, FailsToMark, FailsToTake}
 use Rattle.f11_bits.specs.Changes.{Changing, Taking}
 use Rattle.f11_bits.specs.Parts.{HasBitOf, IsPart, FindsRun}
+use Rattle.f11_bits.specs.Storage.{bitmap_of, KeepsBlock, IsOn}
+use Rattle.f11_bits.specs.declared.storage.Storage.{Storage}
 use Rattle.f11_bits.proofs.BitmapLemmas.{Changing-all, Changing-more, KeepsOthers-refl, KeepsOthers-write, Marks-more, Marks-write}
 
 -- a bitmap block that was written, with the bits of count blocks set in it
@@ -71,6 +73,13 @@ LiesWithin-kept bitmap old new lies keeps = subst (LiesWithin bitmap) (sym keeps
 -- and so they are after reads alone
 pub LiesWithin-looked : (bitmap : Bitmap) {old new : Disk} {most faults : ℕ} → LiesWithin bitmap (length old.image) → Looked old new most faults → LiesWithin bitmap (length new.image)
 LiesWithin-looked bitmap lies looked = subst (λ (image : Image). LiesWithin bitmap (length image)) (sym looked.image) lies
+
+-- what is on a disk is on it after reads alone
+pub IsOn-looked : (s : Storage) {old new : Disk} {most faults : ℕ} → IsOn s old → Looked old new most faults → IsOn s new
+IsOn-looked s {old} {new} is looked = record {
+  within = LiesWithin-looked (bitmap_of s) is.within looked;
+  block = λ honest. subst (KeepsBlock s) (sym looked.image) (is.block (subst (λ (b : Bool). IsTrue b) looked.honest honest));
+}
 
 -- n blocks are being marked after the m before them
 pub Went-more : (free : Bool) (bitmap : Bitmap) (lbn m start n count : ℕ) (old now new : Disk) {first then faults : ℕ}

@@ -1,6 +1,6 @@
 -- The storage bitmap (Files-11 On-Disk Structure Level 1, "Storage Bitmap File"): the set of a volume's free blocks.
 use Rattle.std.specs.Prelude.{◌≡◌, ◌≢◌, ◌⊎◌, ℕ, zero, suc, ◌+◌, ◌*◌, ◌/◌, ◌%◌, ◌<◌, ◌≤◌, Bool, ◌&&◌}
-use Rattle.std.specs.Prelude.{nat_lt, if◌then◌else◌, List, length, slice_index}
+use Rattle.std.specs.Prelude.{nat_lt, if◌then◌else◌, List, length, slice_index, Some}
 use Rattle.std.specs.List.{slice_get}
 use Rattle.f11_bytes.specs.Bits.{bit}
 use Rattle.f11_dev.specs.Image.{Image, image_block}
@@ -22,6 +22,10 @@ pub record IsBitmap (bitmap : Bitmap) : Type 0 where
 -- they are below the end of a device of so many blocks
 abbrev pub LiesWithin : Bitmap → ℕ → Type 0
 LiesWithin bitmap blocks = (i : ℕ) → i < length bitmap.places → slice_index bitmap.places i < blocks
+
+-- this is the bitmap's block of that number, counted from 0
+abbrev pub IsBitmapBlock : Image → Bitmap → ℕ → List ℕ → Type 0
+IsBitmapBlock image bitmap index block = slice_get image (slice_index bitmap.places index) ≡ Some block
 
 -- the bit of block lbn: a bitmap block has 4096 bits
 unfoldable pub bitmap_bit : Image → Bitmap → ℕ → Bool

@@ -26,7 +26,7 @@ pub record MarksOnDisk (free : Bool) (bitmap : Bitmap) (lbn count most : ℕ) (o
 abbrev pub FailsToMark : Bool → Bitmap → ℕ → ℕ → ℕ → Disk → Disk → Type 0
 FailsToMark free bitmap lbn count most old new = Went (Changing old.honest free bitmap lbn count old.image) old new most 1
 
--- Count blocks from lbn on were given back: each bitmap block that has their bits was read and written once.
+-- Count blocks from lbn on were given back: each bitmap block that has their bits was read once at most, and written once.
 abbrev pub Gives : Bitmap → ℕ → ℕ → Disk → Disk → Type 0
 Gives bitmap lbn count old new = MarksOnDisk true bitmap lbn count (2 * blocks_touched lbn count) old new
 

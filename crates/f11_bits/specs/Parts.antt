@@ -1,16 +1,15 @@
 -- A run of free blocks whose bits are in one bitmap block, or go on in the next, and how it is found.
-use Rattle.std.specs.Prelude.{◌≡◌, ℕ, ◌+◌, ◌-◌, ◌/◌, ◌%◌, ◌<◌, ◌≤◌, Bool, true, false, List, slice_index, Some, IsTrue}
-use Rattle.std.specs.List.{slice_get}
+use Rattle.std.specs.Prelude.{◌≡◌, ℕ, ◌+◌, ◌-◌, ◌/◌, ◌%◌, ◌<◌, ◌≤◌, Bool, true, false, List, IsTrue}
 use Rattle.f11_dev.specs.Disk.{Disk}
 use Rattle.f11_dev.specs.Image.{Image}
 use Rattle.f11_dev.specs.Looked.{Looked}
-use Rattle.f11_bits.specs.Bitmap.{Bitmap, is_free}
+use Rattle.f11_bits.specs.Bitmap.{Bitmap, IsBitmapBlock, is_free}
 use Rattle.f11_bits.specs.Run.{IsFirstRun, IsRunWithin}
 use Rattle.f11_bits.specs.Transfers.{blocks_from, blocks_to}
 
 -- this is the bitmap block that has the bit of block lbn
 abbrev pub HasBitOf : Image → Bitmap → ℕ → List ℕ → Type 0
-HasBitOf image bitmap lbn block = slice_get image (slice_index bitmap.places (lbn / 4096)) ≡ Some block
+HasBitOf image bitmap lbn block = IsBitmapBlock image bitmap (lbn / 4096) block
 
 -- count blocks from lbn on, at or above `from` and at most `most`, with their bits in one bitmap block
 pub record IsPart (size from most lbn count : ℕ) : Type 0 where

@@ -1,9 +1,9 @@
 -- What contracts know of a `Storage`.
-use Rattle.std.specs.Prelude.{◌≡◌, ℕ, length, take, IsTrue}
+use Rattle.std.specs.Prelude.{◌≡◌, ℕ, ◌<◌, length, take, IsTrue}
 use Rattle.f11_dev.specs.Disk.{Disk}
 use Rattle.f11_dev.specs.Image.{Image}
 use Rattle.f11_dev.specs.Looked.{Looked}
-use Rattle.f11_bits.specs.Bitmap.{Bitmap, free_blocks, LiesWithin}
+use Rattle.f11_bits.specs.Bitmap.{Bitmap, IsBitmapBlock, free_blocks, LiesWithin}
 use Rattle.f11_bits.specs.declared.storage.Storage.{Storage}
 
 -- the bitmap that it stands for
@@ -14,9 +14,20 @@ bitmap_of s = record { places = take s.used s.places; size = s.size }
 abbrev pub count_of : Storage → ℕ
 count_of s = s.free
 
+-- the bitmap block that it keeps is the image's
+pub record KeepsBlock (s : Storage) (image : Image) : Type 0 where
+  pub within : s.kept < length (bitmap_of s).places
+  pub is_block : IsBitmapBlock image (bitmap_of s) s.kept s.block
+
 -- what it keeps is that of the image
 pub record Keeps (s : Storage) (image : Image) : Type 0 where
   pub free : s.free ≡ free_blocks image (bitmap_of s)
+  pub block : KeepsBlock s image
+
+-- its blocks are on this disk, and the one that it keeps is that of the image where the disk is honest
+pub record IsOn (s : Storage) (disk : Disk) : Type 0 where
+  pub within : LiesWithin (bitmap_of s) (length disk.image)
+  pub block : IsTrue disk.honest → KeepsBlock s disk.image
 
 -- It is for this disk: its blocks are there, and what it keeps is that of the image where the disk is honest.
 pub record IsFor (s : Storage) (disk : Disk) : Type 0 where

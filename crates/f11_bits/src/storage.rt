@@ -1,6 +1,6 @@
 //! The bitmap of a volume's free blocks.
 ghost use Rattle.std.specs.Prelude.{◌≡◌, ◌+◌, ◌*◌, ◌-◌, ◌/◌, ◌^◌, ◌<◌, ◌≤◌, ℕ, false, length, take, min, slice_index, slice_set, IsTrue, IfOk, OnOk, OnErr, IfSome, IfNone};
-ghost use Rattle.f11_bits.specs.Bitmap.{IsBitmap, LiesWithin, is_free};
+ghost use Rattle.f11_bits.specs.Bitmap.{IsBitmap, IsBitmapBlock, LiesWithin, is_free};
 ghost use Rattle.f11_bits.specs.Calls.{Counts, FailsToCount};
 
 use crate::bits::{BITS, LONGEST, count_free_to, first_run_to, run_length, set_bits};
@@ -11,9 +11,9 @@ use f11_dev::{Device, DeviceFault};
 pub const MAX_PLACES: usize = 126;
 
 /// The bitmap of a volume's free blocks (Files-11 On-Disk Structure Level 1, "Storage Bitmap File"): where its blocks
-/// are, and how many blocks of the volume are free.
+/// are, and how many blocks of the volume are free. One bitmap block is kept, so that it isn't read again.
 ///
-/// After a call has answered `DeviceFault` nothing is known of the number of free blocks that it keeps.
+/// After a call has answered `DeviceFault` nothing is known of what it keeps: the number of free blocks and that block.
 #[derive(Drop)]
 pub struct Storage {
     /// The LBNs of the bitmap's blocks, in order; the first `used` of them.
@@ -23,6 +23,9 @@ pub struct Storage {
     size: u32,
     /// The number of free ones.
     free: u32,
+    /// Which bitmap block is kept, counted from 0, and that block.
+    kept: u32,
+    block: Block,
     /// The blocks at its places are different, and have a bit for each block of the volume.
     pub ghost valid: { IsBitmap (record { places = take used places; size = size }) },
 }
@@ -38,14 +41,15 @@ struct Run {
 impl Storage {
     ghost use Rattle.std.specs.Prelude.{true};
     ghost use Rattle.f11_dev.specs.Image.{Image};
+    ghost use Rattle.f11_dev.specs.Looked.{Looked};
     ghost use Rattle.f11_bits.specs.Bitmap.{free_blocks};
     ghost use Rattle.f11_bits.specs.Calls.{MarksOnDisk, FailsToMark, Gives, FailsToGive, Takes, FindsNone, FailsToTake};
     ghost use Rattle.f11_bits.specs.Parts.{IsPart, HasBitOf, HasBits, FindsPart, FindsRest, FindsRun, FailsToFindPart, FailsToFindRest};
-    ghost use Rattle.f11_bits.specs.Storage.{bitmap_of, count_of, Keeps, IsFor, Loads};
+    ghost use Rattle.f11_bits.specs.Storage.{bitmap_of, count_of, Keeps, IsOn, IsFor, Loads};
     ghost use Rattle.f11_bits.specs.Transfers.{blocks_touched};
 
     /// Counts the free blocks of a volume of `size` blocks whose bitmap blocks are at `places`, in order. It reads each of
-    /// them once at most, and takes no memory.
+    /// them once at most, keeps the last, and takes no memory.
     ///
     /// # Errors
     ///
@@ -64,12 +68,15 @@ impl Storage {
         ensures failed { OnErr result (FailsToCount (record { places = places.now; size = size })
             (D.disk device.old) (D.disk device.new)) }
     {
-        let free = count_blocks(device, places, size)?;
+        let mut block = [0; BLOCK_SIZE];
+        let free = count_blocks(device, places, size, &mut block)?;
         Ok(Storage {
-            places: kept(places),
+            places: in_front(places),
             used: places.len(),
             size,
             free,
+            kept: (size - 1) / BITS,
+            block,
         })
     }
 
@@ -90,7 +97,7 @@ impl Storage {
     }
 
     /// Gives `count` used blocks from `lbn` on back: they are free after it. It reads and writes each bitmap block that
-    /// has their bits once.
+    /// has their bits once; one that is kept isn't read again. The last of them is kept.
     ///
     /// # Errors
     ///
@@ -127,7 +134,8 @@ impl Storage {
     /// their number, which are used after it. `None` where no block is free there.
     ///
     /// It reads each bitmap block from that of `from` to that of the block after the run, and where there is none to the
-    /// last, once at most, and writes each block that changes once.
+    /// last, once at most, and writes each block that changes once. A bitmap block that is kept isn't read again. The
+    /// last that was written is kept.
     ///
     /// # Errors
     ///
@@ -169,7 +177,7 @@ impl Storage {
         block: &mut Block,
         next: &mut Block,
     ) -> Result<Option<Run>, DeviceFault>
-        requires within { LiesWithin (bitmap_of self.now) (length (D.disk device.old).image) }
+        requires on { IsOn self.now (D.disk device.old) }
         requires some { 0 < most }
         ensures finds { IfOk result (λ answer. IfSome answer (λ run.
             FindsRun (bitmap_of self.now) from most run.lbn run.here run.beyond block.new next.new
@@ -195,7 +203,7 @@ impl Storage {
         most: u32,
         block: &mut Block,
     ) -> Result<Option<(u32, u32)>, DeviceFault>
-        requires within { LiesWithin (bitmap_of self.now) (length (D.disk device.old).image) }
+        requires on { IsOn self.now (D.disk device.old) }
         requires some { 0 < most }
         requires few { most ≤ 256 }
         ensures finds { IfOk result (λ answer. IfSome answer (λ part.
@@ -207,7 +215,7 @@ impl Storage {
             (FailsToFindPart (bitmap_of self.now) from (D.disk device.old) (D.disk device.new)) }
     {
         for index in from / BITS..self.size.div_ceil(BITS) {
-            device.read(self.place(index), block)?;
+            self.read_block(device, index, block)?;
             let start = from.saturating_sub(index * BITS);
             let end = bits_in(self.size, index);
             if let Some((at, count)) = first_run_to(block, start, most, end) {
@@ -226,7 +234,7 @@ impl Storage {
         most: u32,
         next: &mut Block,
     ) -> Result<u32, DeviceFault>
-        requires places { LiesWithin (bitmap_of self.now) (length (D.disk device.old).image) }
+        requires on { IsOn self.now (D.disk device.old) }
         requires some { 0 < end }
         requires within { end ≤ (bitmap_of self.now).size }
         requires few { most ≤ 256 }
@@ -239,26 +247,29 @@ impl Storage {
             return Ok(0);
         }
         let index = end / BITS;
-        device.read(self.place(index), next)?;
+        self.read_block(device, index, next)?;
         Ok(run_length(next, 0, most, bits_in(self.size, index)))
     }
 
     /// Marks a run of blocks used, whose bits are in these bitmap blocks.
     fn mark_used<D: Device>(
-        &self,
+        &mut self,
         device: &mut D,
         run: Run,
         block: &mut Block,
         next: &mut Block,
     ) -> Result<(), DeviceFault>
-        requires within { LiesWithin (bitmap_of self.now) (length (D.disk device.old).image) }
-        requires bits { HasBits (bitmap_of self.now) run.lbn run.here run.beyond block.old next.old
+        requires within { LiesWithin (bitmap_of self.old) (length (D.disk device.old).image) }
+        requires bits { HasBits (bitmap_of self.old) run.lbn run.here run.beyond block.old next.old
             (D.disk device.old) }
+        ensures same { bitmap_of self.new ≡ bitmap_of self.old }
+        ensures free { count_of self.new ≡ count_of self.old }
+        ensures on { OnOk result (IsOn self.new (D.disk device.new)) }
         ensures marks { let count = run.here + run.beyond in
-            OnOk result (MarksOnDisk false (bitmap_of self.now) run.lbn count
+            OnOk result (MarksOnDisk false (bitmap_of self.old) run.lbn count
             (blocks_touched run.lbn count) (D.disk device.old) (D.disk device.new)) }
         ensures failed { let count = run.here + run.beyond in
-            OnErr result (FailsToMark false (bitmap_of self.now) run.lbn count
+            OnErr result (FailsToMark false (bitmap_of self.old) run.lbn count
             2 (D.disk device.old) (D.disk device.new)) }
     {
         self.write_bits(device, run.lbn, run.here, false, block)?;
@@ -269,42 +280,76 @@ impl Storage {
     }
 
     /// Marks blocks free whose bits are in one bitmap block.
-    fn free_part<D: Device>(&self, device: &mut D, lbn: u32, count: u32) -> Result<(), DeviceFault>
-        requires within { LiesWithin (bitmap_of self.now) (length (D.disk device.old).image) }
-        requires part { IsPart (bitmap_of self.now).size 0 4096 lbn count }
-        ensures marks { OnOk result (MarksOnDisk true (bitmap_of self.now) lbn count
+    fn free_part<D: Device>(
+        &mut self,
+        device: &mut D,
+        lbn: u32,
+        count: u32,
+    ) -> Result<(), DeviceFault>
+        requires on { IsOn self.old (D.disk device.old) }
+        requires part { IsPart (bitmap_of self.old).size 0 4096 lbn count }
+        ensures same { bitmap_of self.new ≡ bitmap_of self.old }
+        ensures free { count_of self.new ≡ count_of self.old }
+        ensures on { OnOk result (IsOn self.new (D.disk device.new)) }
+        ensures marks { OnOk result (MarksOnDisk true (bitmap_of self.old) lbn count
             2 (D.disk device.old) (D.disk device.new)) }
-        ensures failed { OnErr result (FailsToMark true (bitmap_of self.now) lbn count
+        ensures failed { OnErr result (FailsToMark true (bitmap_of self.old) lbn count
             2 (D.disk device.old) (D.disk device.new)) }
     {
         let mut block = [0; BLOCK_SIZE];
-        device.read(self.place(lbn / BITS), &mut block)?;
+        self.read_block(device, lbn / BITS, &mut block)?;
         self.write_bits(device, lbn, count, true, &mut block)
     }
 
-    /// Marks blocks free, or used, whose bits are in this bitmap block, and writes it.
+    /// Marks blocks free, or used, whose bits are in this bitmap block, writes it and keeps it.
     fn write_bits<D: Device>(
-        &self,
+        &mut self,
         device: &mut D,
         lbn: u32,
         count: u32,
         free: bool,
         block: &mut Block,
     ) -> Result<(), DeviceFault>
-        requires within { LiesWithin (bitmap_of self.now) (length (D.disk device.old).image) }
-        requires part { IsPart (bitmap_of self.now).size 0 4096 lbn count }
+        requires within { LiesWithin (bitmap_of self.old) (length (D.disk device.old).image) }
+        requires part { IsPart (bitmap_of self.old).size 0 4096 lbn count }
         requires block { IsTrue (D.disk device.old).honest
-            → HasBitOf (D.disk device.old).image (bitmap_of self.now) lbn block.old }
-        ensures writes { let place = slice_index (bitmap_of self.now).places (lbn / 4096) in
+            → HasBitOf (D.disk device.old).image (bitmap_of self.old) lbn block.old }
+        ensures same { bitmap_of self.new ≡ bitmap_of self.old }
+        ensures free { count_of self.new ≡ count_of self.old }
+        ensures on { OnOk result (IsOn self.new (D.disk device.new)) }
+        ensures writes { let place = slice_index (bitmap_of self.old).places (lbn / 4096) in
             OnOk result ((D.disk device.new).image
             ≡ slice_set (D.disk device.old).image place block.new) }
-        ensures marks { OnOk result (MarksOnDisk free (bitmap_of self.now) lbn count
+        ensures marks { OnOk result (MarksOnDisk free (bitmap_of self.old) lbn count
             1 (D.disk device.old) (D.disk device.new)) }
-        ensures failed { OnErr result (FailsToMark free (bitmap_of self.now) lbn count
+        ensures failed { OnErr result (FailsToMark free (bitmap_of self.old) lbn count
             1 (D.disk device.old) (D.disk device.new)) }
     {
         set_bits(block, lbn % BITS, count, free);
+        self.kept = lbn / BITS;
+        self.block = *block;
         device.write(self.place(lbn / BITS), block)
+    }
+
+    /// A bitmap block: the kept one where it is that, and else as it is read.
+    fn read_block<D: Device>(
+        &self,
+        device: &mut D,
+        index: u32,
+        block: &mut Block,
+    ) -> Result<(), DeviceFault>
+        requires on { IsOn self.now (D.disk device.old) }
+        requires index { index < length (bitmap_of self.now).places }
+        ensures block { OnOk result (IsTrue (D.disk device.old).honest
+            → IsBitmapBlock (D.disk device.old).image (bitmap_of self.now) index block.new) }
+        ensures looked { OnOk result (Looked (D.disk device.old) (D.disk device.new) 1 0) }
+        ensures failed { OnErr result (Looked (D.disk device.old) (D.disk device.new) 1 1) }
+    {
+        if index == self.kept {
+            *block = self.block;
+            return Ok(());
+        }
+        device.read(self.place(index), block)
     }
 
     /// The LBN of a bitmap block.
@@ -316,34 +361,41 @@ impl Storage {
     }
 }
 
-/// The number of free blocks of a volume of this size whose bitmap blocks are at these places.
-fn count_blocks<D: Device>(device: &mut D, places: &[u32], size: u32) -> Result<u32, DeviceFault>
+/// The number of free blocks of a volume of this size whose bitmap blocks are at these places, and the last of them.
+fn count_blocks<D: Device>(
+    device: &mut D,
+    places: &[u32],
+    size: u32,
+    block: &mut Block,
+) -> Result<u32, DeviceFault>
     requires bitmap { IsBitmap (record { places = places.now; size = size }) }
     requires within { LiesWithin (record { places = places.now; size = size })
         (length (D.disk device.old).image) }
     ensures counts { IfOk result (λ count.
         Counts (record { places = places.now; size = size }) count
         (D.disk device.old) (D.disk device.new)) }
+    ensures last { let last = (size - 1) / 4096 in
+        OnOk result (IsTrue (D.disk device.old).honest → IsBitmapBlock (D.disk device.old).image
+        (record { places = places.now; size = size }) last block.new) }
     ensures failed { OnErr result (FailsToCount (record { places = places.now; size = size })
         (D.disk device.old) (D.disk device.new)) }
 {
-    let mut block = [0; BLOCK_SIZE];
     let mut count = 0;
     for index in 0..size.div_ceil(BITS) {
-        device.read(places[index as usize], &mut block)?;
-        count += count_free_to(&block, bits_in(size, index));
+        device.read(places[index as usize], block)?;
+        count += count_free_to(block, bits_in(size, index));
     }
     Ok(count)
 }
 
 /// Room for the most places, with these at the front.
-fn kept(places: &[u32]) -> [u32; MAX_PLACES]
+fn in_front(places: &[u32]) -> [u32; MAX_PLACES]
     requires { length places.now ≤ 126 }
     ensures { take (length places.now) result ≡ places.now }
 {
-    let mut kept = [0; MAX_PLACES];
-    kept[..places.len()].copy_from_slice(places);
-    kept
+    let mut room = [0; MAX_PLACES];
+    room[..places.len()].copy_from_slice(places);
+    room
 }
 
 /// How many bits of a bitmap block are those of blocks of a volume of this size.

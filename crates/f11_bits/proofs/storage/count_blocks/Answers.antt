@@ -1,4 +1,4 @@
-use Rattle.std.proofs.Common.{◌≡◌, ◌-◌, ◌*◌, min, refl, sym, ap, ◌∙◌, arith}
+use Rattle.std.proofs.Common.{◌≡◌, ℕ, ◌+◌, ◌-◌, ◌*◌, min, get_or, refl, sym, ap, ◌∙◌, arith}
 use Rattle.f11_bytes.specs.Bits.{bit}
 use Rattle.f11_dev.proofs.LookedLemmas.{looked_none, looked_read, looked_more}
 use Rattle.f11_bits.specs.Bitmap.{Bitmap, count_below, is_free}
@@ -14,6 +14,7 @@ loop-index-init g c = record {
       let none : min 0 c.args.size ≡ 0 = omega arith in
       sym (ap (count_below free) none ∙ count_below-zero free);
   few = omega arith;
+  last = λ some. absurd (omega arith);
   looked = looked_none _;
 }
 
@@ -25,11 +26,13 @@ pub loop-index-preserved : goal.loop-index-preserved
 loop-index-preserved g c =
     let old = g.D.Device.disk c.args.device.now in
     let bitmap : Bitmap = record { places = c.args.places.now; size = c.args.size } in
+    let at_last : c.loop-index.index ≡ c.loop-index.index + 1 - 1 = omega arith in
     let is = rw c.bits_in.ensures at c.count_free_to-count.ensures in
     record {
       counts = λ honest.
           free_below-more old.image bitmap c.loop-index.index c.loop-index.count c.count_free_to-count.result c.read.new.into
           (slice_get-read old _ _ _ _ _ c.loop-index.invariant.looked refl c.in_ok-read.ensures.reads.gives honest) (c.loop-index.invariant.counts honest) is;
       few = omega (arith, is, count_below-le (bit c.read.new.into) (min (c.args.size - 4096 * c.loop-index.index) 4096), c.loop-index.invariant.few);
+      last = λ some honest. slice_get-read old _ _ _ _ _ c.loop-index.invariant.looked (ap (λ (i : ℕ). get_or c.args.places.now i 0) at_last) c.in_ok-read.ensures.reads.gives honest;
       looked = looked_more c.loop-index.invariant.looked (looked_read _ _ c.in_ok-read.ensures.reads.counts);
     }

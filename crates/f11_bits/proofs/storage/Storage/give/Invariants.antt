@@ -1,17 +1,20 @@
-use Rattle.std.proofs.Common.{◌-◌, ◌*◌, ◌/◌, min, true, IsTrue}
+use Rattle.std.proofs.Common.{◌≡◌, ◌-◌, ◌*◌, ◌/◌, min, true, IsTrue}
 use Rattle.f11_dev.specs.Went.{Went}
 use Rattle.f11_bits.specs.Bitmap.{KeepsOthers, Marks}
 use Rattle.f11_bits.specs.Changes.{Changing}
-use Rattle.f11_bits.specs.Storage.{bitmap_of}
+use Rattle.f11_bits.specs.Storage.{bitmap_of, count_of, IsOn}
 use Rattle.f11_bits.proofs.storage.Storage.give.Given as goal
 
--- the blocks so far are marked free, and each bitmap block was read and written once
+-- the blocks so far are marked free, each bitmap block was read once at most and written once, and the last is kept
 abbrev pub invariant-loop-index : goal.invariant-loop-index
 invariant-loop-index g l =
     let old = g.D.Device.disk l.fn.device in
     let now = g.D.Device.disk l.device in
     let bitmap = bitmap_of l.fn.self in
     record {
+      same : bitmap_of l.self ≡ bitmap;
+      free : count_of l.self ≡ count_of l.fn.self;
+      on : IsOn l.self now;
       keeps : KeepsOthers bitmap old.image now.image;
       marks : IsTrue old.honest → Marks true bitmap l.lbn (min l.end (4096 * l.index) - l.lbn) old.image now.image;
       went : Went (Changing old.honest true bitmap l.lbn l.count old.image) old now (2 * (l.index - l.lbn / 4096)) 0;

@@ -1,6 +1,6 @@
-use Rattle.std.proofs.Common.{◌≡◌, ◌*◌, ◌/◌, inl, inr, arith}
+use Rattle.std.proofs.Common.{◌≡◌, ◌*◌, ◌/◌, inl, inr, refl, arith}
 use Rattle.std.proofs.lemmas.Bool.{cases_lt}
-use Rattle.f11_dev.proofs.LookedLemmas.{looked_none, looked_read, looked_within}
+use Rattle.f11_dev.proofs.LookedLemmas.{looked_none, looked_within}
 use Rattle.f11_bits.specs.Storage.{bitmap_of}
 use Rattle.f11_bits.proofs.StepLemmas.{slice_get-read}
 use Rattle.f11_bits.proofs.SearchLemmas.{bits-within, IsFreeRest-none, IsFreeRest-found}
@@ -23,7 +23,7 @@ pub returns-clause-finds : goal.returns-clause-finds
 returns-clause-finds g c =
     let old = g.D.Device.disk c.args.device.now in
     let run = c.run_length.ensures in
-    let gives = c.in_ok-read.ensures.reads.gives in
+    let gives = c.in_ok-read_block.ensures.block in
     let begins : c.args.end ≡ 4096 * (c.args.end / 4096) = omega arith in
     record {
       rest = record {
@@ -35,8 +35,8 @@ returns-clause-finds g c =
         ];
       };
       free = λ honest.
-          let stands = slice_get-read old old _ _ _ _ (looked_none old) c.place.ensures gives honest in
+          let stands = slice_get-read old old _ _ _ _ (looked_none old) refl gives honest in
           IsFreeRest-found _ (bitmap_of c.args.self.now) _ _ _ _ _ _ c.bits_in.ensures c.requires.few begins run.most stands run.each run.ended;
-      block_is = λ honest some. slice_get-read old old _ _ _ _ (looked_none old) c.place.ensures gives honest;
-      looked = looked_within (looked_read _ _ c.in_ok-read.ensures.reads.counts) (omega (arith, c.args.self.now.valid.covered));
+      block_is = λ honest some. slice_get-read old old _ _ _ _ (looked_none old) refl gives honest;
+      looked = looked_within c.in_ok-read_block.ensures.looked (omega (arith, c.args.self.now.valid.covered));
     }

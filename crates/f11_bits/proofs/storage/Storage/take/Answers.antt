@@ -1,10 +1,10 @@
-use Rattle.std.proofs.Common.{◌+◌, ◌≤◌, false, Bool, IsTrue, subst, arith}
+use Rattle.std.proofs.Common.{◌+◌, ◌≤◌, false, Bool, IsTrue, subst, ap, arith}
 use Rattle.f11_dev.specs.Image.{Image}
 use Rattle.f11_bytes.proofs.ResultLemmas.{OnErr-given}
-use Rattle.f11_bits.specs.Bitmap.{Marks}
+use Rattle.f11_bits.specs.Bitmap.{Marks, free_blocks}
 use Rattle.f11_bits.specs.Storage.{bitmap_of}
 use Rattle.f11_bits.proofs.BitmapLemmas.{free_blocks-taken}
-use Rattle.f11_bits.proofs.StepLemmas.{FailsToTake-marking, KeepsOthers-went, LiesWithin-kept, LiesWithin-looked}
+use Rattle.f11_bits.proofs.StepLemmas.{FailsToTake-marking}
 use Rattle.f11_bits.proofs.storage.Storage.take.Goals as goal
 
 pub returns-in_err-mark_used-clause-failed : goal.returns-in_err-mark_used-clause-failed
@@ -22,11 +22,16 @@ returns-clause-storage g c =
     let count = c.in-Some.run'.here + c.in-Some.run'.beyond in
     let within : lbn + count ≤ bitmap.size = omega (arith, found.bits.beyond_is.within) in
     record {
-      within = LiesWithin-kept bitmap _ _ (LiesWithin-looked bitmap c.requires.storage.within found.looked) (KeepsOthers-went marked.went);
+      within = c.in_ok-mark_used.ensures.on.within;
       keeps = λ honest.
           let now_honest = subst (λ (b : Bool). IsTrue b) marked.went.honest honest in
           let was_honest = subst (λ (b : Bool). IsTrue b) found.looked.honest now_honest in
           let marks = subst (λ (image : Image). Marks false bitmap lbn count image new.image) found.looked.image (marked.marks now_honest) in
           let taken = free_blocks-taken bitmap lbn count old.image new.image within marks (found.first was_honest).each in
-          record { free = omega (arith, taken, (c.requires.storage.keeps was_honest).free, c.saturating_sub-self.ensures) };
+          let kept = c.in_ok-mark_used.ensures.on.block honest in
+          let same = ap (free_blocks new.image) c.mark_used.ensures.same in
+          record {
+            free = omega (arith, taken, same, (c.requires.storage.keeps was_honest).free, c.mark_used.ensures.free, c.saturating_sub-self.ensures);
+            block = record { within = kept.within; is_block = kept.is_block };
+          };
     }
