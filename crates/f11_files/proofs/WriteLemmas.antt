@@ -1,7 +1,9 @@
 -- What is kept of an open volume, where blocks are written.
 use Rattle.std.proofs.Common.{◌≡◌, ◌≢◌, ◌⊎◌, ◌+◌, ◌≤◌, ℕ, Bool, true, false, cond, IsTrue, List, Option, None, length, inl, inr, refl, sym, ap, subst, ◌∙◌, arith}
 use Rattle.std.proofs.lemmas.Bool.{cases_eq, lt-ltb, ne_eqb}
-use Rattle.f11_bits.specs.Bitmap.{free_blocks, count_below}
+use Rattle.f11_bits.specs.Bitmap.{Bitmap, KeepsBitmap}
+use Rattle.f11_bits.specs.Storage.{Keeps}
+use Rattle.f11_bits.proofs.LawLemmas.{Keeps-kept}
 use Rattle.f11_dev.specs.Disk.{Disk}
 use Rattle.f11_dev.specs.Image.{Image}
 use Rattle.f11_dev.specs.Looked.{Looked}
@@ -15,20 +17,23 @@ use Rattle.f11_store.specs.Refusal.{refusal_number}
 use Rattle.f11_store.specs.declared.refusals.Refusal.{Refusal}
 use Rattle.f11_store.specs.declared.refusals.Refusal.TheVariants.{VolumeFailed}
 use Rattle.f11_volume.specs.Sound.{HasSoundVolume}
-use Rattle.f11_volume.specs.Volume.{Volume}
+use Rattle.f11_volume.specs.Space.{storage_bitmap}
 use Rattle.f11_writes.specs.Kept.{KeepsVolume}
 use Rattle.f11_files.specs.Answers.{ReadsAtMost, WritesAtMost, FailsToRead, FailsToWrite, IsRight, IsUnderWay, Meanwhile, is_fatal, faults_of}
 use Rattle.f11_files.specs.Structure.{home_of, FitsOn, IsStructureOf, IsStructureFor, StaysFor}
 use Rattle.f11_files.specs.declared.structure.Structure.{Structure}
-use Rattle.f11_image_store.proofs.StoreLemmas.{free-count}
+
+-- where the storage bitmap's blocks stay, so does what is kept of it
+pub keeps-storage : (s : Structure) (old new : Image) → KeepsBitmap (storage_bitmap old (home_of s)) old new → IsStructureOf s old → Keeps s.storage new
+keeps-storage s old new stay keeps =
+    Keeps-kept s.storage old new (subst (λ (b : Bitmap). KeepsBitmap b old new) (sym keeps.bitmap_is) stay) keeps.storage
 
 -- where headers, storage bitmap and free blocks stay, so does what is kept
 pub keeps-volume : (s : Structure) (old new : Image) → KeepsVolume (home_of s) old new → IsStructureOf s old → IsStructureOf s new
 keeps-volume s old new kept keeps = record {
   index_is = keeps.index_is ∙ sym kept.index_file.index;
   bitmap_is = keeps.bitmap_is ∙ sym kept.bitmap;
-  free = keeps.free ∙ ap (free_blocks old) keeps.bitmap_is ∙ free-count old (home_of s) ∙ ap (λ (v : Volume). count_below v.free v.size) (sym kept.volume)
-      ∙ sym (free-count new (home_of s)) ∙ ap (free_blocks new) (kept.bitmap ∙ sym keeps.bitmap_is);
+  storage = keeps-storage s old new kept.bitmap_blocks keeps;
 }
 
 -- a volume that was sound at each moment is sound at the end

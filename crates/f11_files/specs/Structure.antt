@@ -1,7 +1,7 @@
 -- What is kept of an open volume, and when it is that of a disk.
 use Rattle.std.specs.Prelude.{◌≡◌, ℕ, ◌≤◌, Bool, false, IsTrue, List, [], length}
-use Rattle.f11_bits.specs.Bitmap.{Bitmap, free_blocks, LiesWithin as BitmapLiesWithin}
-use Rattle.f11_bits.specs.Storage.{bitmap_of, count_of}
+use Rattle.f11_bits.specs.Bitmap.{Bitmap, LiesWithin as BitmapLiesWithin}
+use Rattle.f11_bits.specs.Storage.{bitmap_of, count_of, Keeps}
 use Rattle.f11_dev.specs.Disk.{Disk}
 use Rattle.f11_dev.specs.Image.{Image}
 use Rattle.f11_home.specs.Home.{HomeFields, IsHomeOf}
@@ -43,7 +43,7 @@ pub record FitsOn (s : Structure) (blocks : ℕ) : Type 0 where
 pub record IsStructureOf (s : Structure) (image : Image) : Type 0 where
   pub index_is : index_in s ≡ index_of image (home_of s)
   pub bitmap_is : bitmap_in s ≡ storage_bitmap image (home_of s)
-  pub free : s.storage.free ≡ free_blocks image (bitmap_in s)
+  pub storage : Keeps s.storage image
 
 -- An image's home block is this, if it has one.
 abbrev pub HasNoOtherHome : Image → HomeFields → Type 0

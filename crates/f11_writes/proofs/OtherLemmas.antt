@@ -75,6 +75,7 @@ module _ (image : Image) (home : HomeFields) (is : HasSoundVolume image home) (l
           sound = record { framed = framed-kept image new home is size control keeps candidates; sound = subst IsSoundVolume (sym volume) is.sound };
           index_file = keeps;
           bitmap = bitmap-kept image new home is size control keeps;
+          bitmap_blocks = blocks;
           volume = volume;
         }
 

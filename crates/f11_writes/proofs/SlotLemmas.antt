@@ -150,6 +150,7 @@ module _ (image : Image) (home : HomeFields) (is : HasSoundVolume image home) (l
       slot-kept = record {
         sound = sound;
         bitmap = bitmap-stays image new home is size control file;
+        bitmap_blocks = blocks;
         volume = volume-slot;
         others = spares.others;
         files = λ f is_file other away. same-file f is_file away other;

@@ -1,7 +1,7 @@
 -- What a write leaves of a sound volume, in a record for each kind of write. A law about the next write asks no more of the image than
 -- stands here.
 use Rattle.std.specs.Prelude.{◌≡◌, ◌≢◌, ℕ, List, [], map}
-use Rattle.f11_bits.specs.Bitmap.{is_free}
+use Rattle.f11_bits.specs.Bitmap.{is_free, KeepsBitmap}
 use Rattle.f11_dev.specs.Image.{Image}
 use Rattle.f11_home.specs.Home.{HomeFields}
 use Rattle.f11_index.specs.Growth.{GrowsIndexFile}
@@ -25,11 +25,12 @@ file_in home f image = file_of image (table_of image home) f
 abbrev pub said_of : HomeFields → ℕ → Image → File
 said_of home f image = record (file_in home f image) { blocks = [] }
 
--- The volume is as it was: its index file, its headers, its storage bitmap and its free blocks.
+-- The volume is as it was: its index file, its headers, its storage bitmap with each of its blocks, and its free blocks.
 pub record KeepsVolume (home : HomeFields) (old new : Image) : Type 0 where
   pub sound : HasSoundVolume new home
   pub index_file : KeepsIndexFile home old new
   pub bitmap : storage_bitmap new home ≡ storage_bitmap old home
+  pub bitmap_blocks : KeepsBitmap (storage_bitmap old home) old new
   pub volume : volume_of new home ≡ volume_of old home
 
 -- And so are all its files.
@@ -52,11 +53,12 @@ pub record KeepsButFree (home : HomeFields) (old new : Image) : Type 0 where
   pub files : (f : ℕ) → IsFile (table_of old home) f → f ≢ 2 → file_in home f new ≡ file_in home f old
   pub said : said_of home 2 new ≡ said_of home 2 old
 
--- The block of header n or of its bit was written, and so one of the index file's. All else is as it was: where the storage bitmap is and
--- which blocks are free, the other slots, and each other file. A file's blocks hold what they held.
+-- The block of header n or of its bit was written, and so one of the index file's. All else is as it was: where the storage bitmap is, its
+-- blocks and which blocks are free, the other slots, and each other file. A file's blocks hold what they held.
 pub record KeepsButSlot (n : ℕ) (home : HomeFields) (old new : Image) : Type 0 where
   pub sound : HasSoundVolume new home
   pub bitmap : storage_bitmap new home ≡ storage_bitmap old home
+  pub bitmap_blocks : KeepsBitmap (storage_bitmap old home) old new
   pub volume : volume_of new home ≡ record (volume_of old home) { table = table_of new home }
   pub others : KeepsOtherSlots n (table_of old home) (table_of new home)
   pub files : (f : ℕ) → IsFile (table_of new home) f → f ≢ 1 → ¬ IsHeaderOf (table_of new home) f n →

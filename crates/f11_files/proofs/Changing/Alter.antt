@@ -1,7 +1,6 @@
 -- A file's first header that is read, changed and written.
 use Rattle.std.proofs.Common.{◌≡◌, ◌⊎◌, ◌≤◌, ℕ, true, false, IsTrue, List, refl, sym, ap, subst, ◌∙◌}
 use Rattle.std.proofs.Math.ListN.{set}
-use Rattle.f11_bits.specs.Bitmap.{free_blocks, count_below}
 use Rattle.f11_dev.specs.Disk.{Disk, with_transfer, with_block_at}
 use Rattle.f11_dev.specs.Image.{Image}
 use Rattle.f11_dev.proofs.WentLemmas.{went_write, went_failed_write}
@@ -14,35 +13,28 @@ use Rattle.f11_store.specs.Store.{Store}
 use Rattle.f11_store.specs.declared.files.FileId.{FileId}
 use Rattle.f11_store.specs.declared.refusals.Refusal.TheVariants.{DeviceFault}
 use Rattle.f11_store.proofs.LagLaws.{change_lags}
-use Rattle.f11_volume.specs.Volume.{Volume, volume_of}
-use Rattle.f11_writes.specs.Kept.{KeepsButSlot, WritesHeader}
+use Rattle.f11_volume.specs.Volume.{volume_of}
+use Rattle.f11_writes.specs.Kept.{WritesHeader}
 use Rattle.f11_image_store.specs.Allocation.{KeepsBlocks}
 use Rattle.f11_files.specs.Answers.{Meanwhile}
 use Rattle.f11_image_store.specs.FieldLaws.{SaysBut, ChangesFile}
 use Rattle.f11_files.specs.Changing.Fields.{Alters, FailsToAlter}
 use Rattle.f11_files.specs.Finding.First.{FindsFile}
 use Rattle.f11_image_store.specs.StoreOf.{store_of}
-use Rattle.f11_files.specs.Structure.{index_in, bitmap_in, home_of, store_on, IsStructureOf, IsStructureFor, StaysFor}
+use Rattle.f11_files.specs.Structure.{index_in, home_of, store_on, IsStructureOf, IsStructureFor, StaysFor}
 use Rattle.f11_files.specs.declared.structure.Structure.{Structure}
 use Rattle.f11_files.proofs.AnswerLemmas.{right-fault, reads-looked}
 use Rattle.f11_image_store.proofs.FieldLemmas.{changes-file, field-keeps}
 use Rattle.f11_files.proofs.Finding.First.{table-of}
 use Rattle.f11_files.proofs.Finding.Named.{is-file, block-is, no-file-cause}
-use Rattle.f11_image_store.proofs.StoreLemmas.{free-count}
-use Rattle.f11_files.proofs.WriteLemmas.{breaks-off, failed-stays, served-stays, writes-behind}
-
--- where a slot was written, the blocks that were free are free still
-pub free-slot : (s : Structure) (n : ℕ) (old new : Image) → KeepsButSlot n (home_of s) old new → IsStructureOf s old → s.storage.free ≡ free_blocks new (bitmap_in s)
-free-slot s n old new kept keeps =
-    keeps.free ∙ ap (free_blocks old) keeps.bitmap_is ∙ free-count old (home_of s) ∙ ap (λ (v : Volume). count_below v.free v.size) (sym kept.volume)
-    ∙ sym (free-count new (home_of s)) ∙ ap (free_blocks new) (kept.bitmap ∙ sym keeps.bitmap_is)
+use Rattle.f11_files.proofs.WriteLemmas.{keeps-storage, breaks-off, failed-stays, served-stays, writes-behind}
 
 -- where a header was written, what is kept stays
 pub keeps-header : (s : Structure) (n : ℕ) (block : List ℕ) (old new : Image) → WritesHeader n block (home_of s) old new → IsStructureOf s old → IsStructureOf s new
 keeps-header s n block old new wrote keeps = record {
   index_is = keeps.index_is ∙ sym wrote.index_file.index;
   bitmap_is = keeps.bitmap_is ∙ sym wrote.slot.bitmap;
-  free = free-slot s n old new wrote.slot keeps;
+  storage = keeps-storage s old new wrote.slot.bitmap_blocks keeps;
 }
 
 -- the header was read, and is written with the change

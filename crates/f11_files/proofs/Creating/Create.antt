@@ -5,7 +5,9 @@ use Rattle.std.proofs.lemmas.List.{length-set}
 use Rattle.std.proofs.Math.ListN.{set}
 use Rattle.std.proofs.lemmas.Bool.{cases_eq, eq-eqb, ne_eqb}
 use Rattle.std.proofs.lemmas.Option.{slice_get_within}
-use Rattle.f11_bits.specs.Bitmap.{Bitmap, free_blocks, LiesWithin as BitmapLiesWithin}
+use Rattle.f11_bits.specs.Bitmap.{Bitmap, LiesWithin as BitmapLiesWithin}
+use Rattle.f11_bits.specs.Storage.{bitmap_of, Keeps}
+use Rattle.f11_bits.specs.declared.storage.Storage.{Storage}
 use Rattle.f11_dev.specs.Disk.{Disk, with_transfer, with_block_at}
 use Rattle.f11_dev.specs.Image.{Image}
 use Rattle.f11_dev.specs.Went.{Went}
@@ -37,11 +39,11 @@ use Rattle.f11_image_store.specs.SlotLaws.{with_last}
 use Rattle.f11_image_store.specs.StoreOf.{store_of}
 use Rattle.f11_files.specs.Structure.{index_in, bitmap_in, home_of, store_on, FitsOn, IsStructureOf, IsStructureFor, StaysFor}
 use Rattle.f11_files.specs.declared.structure.Structure.{Structure}
-use Rattle.f11_files.proofs.Changing.Alter.{free-slot, keeps-header}
+use Rattle.f11_files.proofs.Changing.Alter.{keeps-header}
 use Rattle.f11_files.proofs.AnswerLemmas.{right-fault, reads-looked}
 use Rattle.f11_files.proofs.Creating.FreeSlot.{IsReadAt, read-at}
 use Rattle.f11_image_store.proofs.NewFileLemmas.{free-stored, least-stored, writes-first, enters-file, entered-keeps}
-use Rattle.f11_files.proofs.WriteLemmas.{breaks-off, failed-stays, sound-went, writes-behind, writes-within}
+use Rattle.f11_files.proofs.WriteLemmas.{keeps-storage, breaks-off, failed-stays, sound-went, writes-behind, writes-within}
 
 -- a slot that was given its next sequence number
 numbered : (s : Store) (owner : Uic) (protection : ℕ) (ident attr : List ℕ) (n sequence : ℕ) → sequence ≡ next_sequence (s.last n) → LagsBy (new_work s owner protection ident attr) (with_last s n sequence) s
@@ -192,12 +194,12 @@ module _ (s : Structure) (owner : Uic) (protection : ℕ) (ident attr : List ℕ
               λ i. record { number = sym number i; sequence = ((slot honest).given ∙ ap (λ (k : ℕ). next_sequence (st.last k)) (sym number)) i; volume = 0 };
         }
 
-        pub created-stays : (t : Structure) (new : Disk) → home_of t ≡ home → bitmap_in t ≡ bitmap_in s → t.storage.free ≡ s.storage.free → WritesBit true n (index_in s) (index_in t) one new → StaysFor false s t new
-        created-stays t new same bitmap free wrote_bit =
+        pub created-stays : (t : Structure) (new : Disk) → home_of t ≡ home → t.storage ≡ s.storage → WritesBit true n (index_in s) (index_in t) one new → StaysFor false s t new
+        created-stays t new same kept wrote_bit =
             let writes = (creates (index_in t) new wrote_bit).does.writes in
             record {
               home = same;
-              lies = λ _. subst (FitsOn t) (sym writes.went.size) (lies-bit s t true n (length old.image) bitmap wrote_bit.bit for.lies);
+              lies = λ _. subst (FitsOn t) (sym writes.went.size) (lies-bit s t true n (length old.image) (ap bitmap_of kept) wrote_bit.bit for.lies);
               sound = λ honest. subst (HasSoundVolume new.image) (sym same) (sound-went work home old new for.sound writes.went honest);
               keeps = λ _ honest. keeps (sym writes.went.honest ∙ honest);
             }
@@ -208,6 +210,7 @@ module _ (s : Structure) (owner : Uic) (protection : ℕ) (ident attr : List ℕ
                 let here : new.image ≡ with_bitmap_block first (index_in t) n = image-two (index_in t) new wrote_bit in
                 subst (IsStructureOf t) (sym here) record {
                   index_is = sym made.bit.index_file.index_is ∙ ap (index_of (with_bitmap_block first (index_in t) n)) (sym same);
-                  bitmap_is = bitmap ∙ (for.keeps honest).bitmap_is ∙ sym (wrote honest).header.slot.bitmap ∙ sym made.bit.slot.bitmap ∙ ap (storage_bitmap (with_bitmap_block first (index_in t) n)) (sym same);
-                  free = free ∙ free-slot s n first (with_bitmap_block first (index_in t) n) made.bit.slot (keeps-header s n block old.image first (wrote honest).header (for.keeps honest)) ∙ ap (free_blocks (with_bitmap_block first (index_in t) n)) (sym bitmap);
+                  bitmap_is = ap bitmap_of kept ∙ (for.keeps honest).bitmap_is ∙ sym (wrote honest).header.slot.bitmap ∙ sym made.bit.slot.bitmap ∙ ap (storage_bitmap (with_bitmap_block first (index_in t) n)) (sym same);
+                  storage = subst (λ (k : Storage). Keeps k (with_bitmap_block first (index_in t) n)) (sym kept)
+                      (keeps-storage s first (with_bitmap_block first (index_in t) n) made.bit.slot.bitmap_blocks (keeps-header s n block old.image first (wrote honest).header (for.keeps honest)));
                 }

@@ -51,7 +51,7 @@ use Rattle.f11_files.specs.declared.structure.Structure.{Structure}
 use Rattle.f11_files.specs.declared.extend.tail.Tail.{Tail}
 use Rattle.f11_image_store.proofs.AllocationLemmas.{adds-fileless}
 use Rattle.f11_files.proofs.GrowingIndex.ZeroSlots.{zero-entered}
-use Rattle.f11_files.proofs.Changing.Alter.{free-slot, keeps-header}
+use Rattle.f11_files.proofs.Changing.Alter.{keeps-header}
 use Rattle.f11_files.proofs.AnswerLemmas.{reads-looked}
 use Rattle.f11_files.proofs.Creating.Create.{lies-bit}
 use Rattle.f11_image_store.proofs.ExtensionLemmas.{enters-extension}
@@ -61,7 +61,7 @@ use Rattle.f11_files.proofs.Removing.Freeing.{writes-none, stays-for}
 use Rattle.f11_files.proofs.Extending.Growing.{breaks-fault}
 use Rattle.f11_image_store.proofs.InstanceLemmas.{unused-given}
 use Rattle.f11_image_store.proofs.NewFileLemmas.{free-stored, least-stored, slot-taken}
-use Rattle.f11_files.proofs.WriteLemmas.{writes-behind, writes-within}
+use Rattle.f11_files.proofs.WriteLemmas.{keeps-storage, writes-behind, writes-within}
 use Rattle.f11_image_store.specs.Allocation.{SaysOnly}
 
 -- a slot that wasn't in use and was given its next sequence number
@@ -267,7 +267,7 @@ module _ (s : Structure) (tail : Tail) (lbn count : ℕ) (old : Disk) (for : IsS
                 record {
                   index_is = sym here.bit.index_file.index_is;
                   bitmap_is = kept.bitmap_is ∙ sym here.bit.slot.bitmap;
-                  free = free-slot s n first done.image here.bit.slot kept;
+                  storage = keeps-storage s first done.image here.bit.slot.bitmap_blocks kept;
                 }
 
             pub entered-stays : StaysFor false s t done

@@ -193,6 +193,6 @@ module _ (s : Structure) (from most : ℕ) (old : Disk) (for : IsStructureFor s 
           record {
             index_is = (for.keeps was).index_is ∙ sym (kept was).index_file.index;
             bitmap_is = same ∙ bitmap was ∙ sym (kept was).bitmap;
-            free = (is.keeps honest).free;
+            storage = is.keeps honest;
           };
     }

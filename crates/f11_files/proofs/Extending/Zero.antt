@@ -4,6 +4,7 @@ use Rattle.std.proofs.Math.ListN.{set}
 use Rattle.std.proofs.lemmas.Bool.{cases_eq}
 use Rattle.std.proofs.lemmas.List.{get_or-set_same, get_or-set_other}
 use Rattle.f11_bytes.specs.Block.{zero_block}
+use Rattle.f11_bits.specs.Bitmap.{Bitmap, KeepsBitmap}
 use Rattle.f11_dev.specs.Disk.{Disk, with_transfer, with_block_at}
 use Rattle.f11_dev.specs.Image.{Image}
 use Rattle.f11_dev.proofs.LookedLemmas.{looked_none}
@@ -25,6 +26,7 @@ volume-same home image sound = record {
   sound = sound;
   index_file = record { file = refl; index = refl; table = refl; sound = sound.framed.indexed.file };
   bitmap = refl;
+  bitmap_blocks = λ i within. refl;
   volume = refl;
 }
 
@@ -38,6 +40,7 @@ volume-more home a b c one two = record {
     sound = two.index_file.sound;
   };
   bitmap = two.bitmap ∙ one.bitmap;
+  bitmap_blocks = λ i within. subst (λ (x : Bitmap). KeepsBitmap x b c) one.bitmap two.bitmap_blocks i within ∙ one.bitmap_blocks i within;
   volume = two.volume ∙ one.volume;
 }
 

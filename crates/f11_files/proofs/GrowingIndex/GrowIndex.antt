@@ -55,7 +55,7 @@ module _ (s : Structure) (index : IndexFile) (kept : index_kept index ≡ index_
   reserved-for disk for = record {
     lies = record { index = subst (λ (x : Index). IndexLiesWithin x (length disk.image)) (sym kept) for.lies.index; bitmap = for.lies.bitmap; volume = for.lies.volume };
     sound = for.sound;
-    keeps = λ honest. let keeps = for.keeps honest in record { index_is = kept ∙ keeps.index_is; bitmap_is = keeps.bitmap_is; free = keeps.free };
+    keeps = λ honest. let keeps = for.keeps honest in record { index_is = kept ∙ keeps.index_is; bitmap_is = keeps.bitmap_is; storage = keeps.storage };
   }
 
   pub reserved-finds : (n : ℕ) (end : FileEnd) (was last : List ℕ) (old read : Disk) → FindsIndexRoom s n end was last old read → FindsIndexRoom r n end was last old read

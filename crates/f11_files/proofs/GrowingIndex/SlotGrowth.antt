@@ -5,7 +5,8 @@ use Rattle.std.proofs.Math.ListN.{set}
 use Rattle.std.proofs.lemmas.List.{length-append, length-take, length-set, get_or-take, get_or-append-add}
 use Rattle.std.proofs.lemmas.List.FromFn.{get_or-range_with_len, length-map-range_with_len, length-range_with_len}
 use Rattle.std.proofs.lemmas.Option.{slice_get_within, slice_get-get_or}
-use Rattle.f11_bits.specs.Bitmap.{free_blocks, LiesWithin as BitmapLiesWithin}
+use Rattle.f11_bits.specs.Bitmap.{LiesWithin as BitmapLiesWithin}
+use Rattle.f11_bits.specs.Storage.{Keeps}
 use Rattle.f11_bytes.specs.Block.{zero_block}
 use Rattle.f11_dev.specs.Disk.{Disk, with_transfer, with_block_at}
 use Rattle.f11_dev.specs.Image.{Image, image_block}
@@ -35,7 +36,7 @@ use Rattle.f11_image_store.specs.StoreOf.{store_of}
 use Rattle.f11_files.specs.Structure.{index_in, bitmap_in, home_of, IsStructureFor, StaysFor}
 use Rattle.f11_files.specs.Extending.Zeros.{HoldsZeros}
 use Rattle.f11_files.specs.declared.structure.Structure.{Structure}
-use Rattle.f11_files.proofs.Changing.Alter.{free-slot}
+use Rattle.f11_files.proofs.WriteLemmas.{keeps-storage}
 use Rattle.f11_image_store.proofs.FreshStoreLemmas.{zero-sequence}
 
 -- a slot that was in use is so still
@@ -172,10 +173,10 @@ module _ (s : Structure) (after : IndexFile) (n : ℕ) (block : List ℕ) (lbn c
       bitmap_is =
           let before = was-honest honest in
           subst (λ (i : Image). bitmap_in s ≡ storage_bitmap i home) (sym (grown-image before)) ((for.keeps before).bitmap_is ∙ sym (wrote before).slot.bitmap);
-      free =
+      storage =
           let before = was-honest honest in
-          subst (λ (i : Image). s.storage.free ≡ free_blocks i (bitmap_in s)) (sym (grown-image before))
-          (free-slot s n old.image (with_header old.image home n block) (wrote before).slot (for.keeps before));
+          subst (Keeps s.storage) (sym (grown-image before))
+          (keeps-storage s old.image (with_header old.image home n block) (wrote before).slot.bitmap_blocks (for.keeps before));
     };
   }
 

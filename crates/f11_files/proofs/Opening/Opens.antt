@@ -103,7 +103,7 @@ module _ (old : Disk) (image_is : IsImage old.image) (accepted : IsTrue old.hone
           keeps = λ honest. record {
             index_is = index_is ∙ (are (back honest)).index_is ∙ ap (λ (i : Image). index_of i home) image ∙ ap (index_of new.image) (sym home_is);
             bitmap_is = loads.bitmap_is ∙ (are (back honest)).bitmap_is ∙ ap (λ (i : Image). storage_bitmap i home) image ∙ ap (storage_bitmap new.image) (sym home_is);
-            free = (loads.is_for.keeps honest).free;
+            storage = loads.is_for.keeps honest;
           };
         };
         looked =

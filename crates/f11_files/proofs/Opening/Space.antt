@@ -28,7 +28,7 @@ pub space-is : (s : Structure) (disk : Disk) → IsStructureFor s disk → IsTru
 space-is s disk for honest free headers count free_is headers_are count_is =
     let keeps = for.keeps honest in
     record {
-      blocks_are = free_is disk.image (record { free = keeps.free }) ∙ ap (free_blocks disk.image) keeps.bitmap_is ∙ sym (free-of disk.image (home_of s));
+      blocks_are = free_is disk.image keeps.storage ∙ ap (free_blocks disk.image) keeps.bitmap_is ∙ sym (free-of disk.image (home_of s));
       headers_are = headers_are ∙ ap (λ (x : Index). length (free_slots_in x)) keeps.index_is ∙ ap (λ (l : List ℕ). length l) (sym (free-stored disk.image (home_of s)));
       slots_are = count_is ∙ ap slots keeps.index_is ∙ sym (slots-of disk.image (home_of s));
     }

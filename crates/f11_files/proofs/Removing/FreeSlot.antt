@@ -38,7 +38,8 @@ use Rattle.f11_image_store.specs.StoreOf.{is_first, store_of}
 use Rattle.f11_files.specs.Structure.{index_in, home_of, store_on, FitsOn, IsStructureOf, IsStructureFor, StaysFor}
 use Rattle.f11_files.specs.declared.structure.Structure.{Structure}
 use Rattle.f11_files.proofs.Creating.Create.{lies-bit}
-use Rattle.f11_files.proofs.Changing.Alter.{free-slot, keeps-header}
+use Rattle.f11_files.proofs.Changing.Alter.{keeps-header}
+use Rattle.f11_files.proofs.WriteLemmas.{keeps-storage}
 use Rattle.f11_files.proofs.Finding.First.{table-of}
 use Rattle.f11_files.proofs.Removing.Freeing.{sound-freed}
 use Rattle.f11_image_store.proofs.FreeingLemmas.{dead-sequence, frees-none, frees-slot}
@@ -245,7 +246,7 @@ module _ (s : Structure) (n lbn : ℕ) (block dead : List ℕ) (old : Disk) (for
           record {
             index_is = sym wrote_bit.index_file.index_is;
             bitmap_is = keeps.bitmap_is ∙ sym wrote_bit.slot.bitmap;
-            free = free-slot s n killed (with_bitmap_block killed (index_kept after) n) wrote_bit.slot keeps;
+            storage = keeps-storage s killed (with_bitmap_block killed (index_kept after) n) wrote_bit.slot.bitmap_blocks keeps;
           }
 
       pub freed-stays : StaysFor false s (record s { index = after }) new

@@ -174,7 +174,7 @@ module _ (s : Structure) (lbn count : ℕ) (old : Disk) (for : IsStructureFor s 
         record {
           index_is = (for.keeps was).index_is ∙ sym kept.index_file.index;
           bitmap_is = same ∙ bitmap was ∙ sym kept.bitmap;
-          free = (is.keeps honest).free;
+          storage = is.keeps honest;
         };
   }
 

@@ -4,6 +4,7 @@ use Rattle.f11_files.proofs.Extending.TakenRun.{run-last}
 use Rattle.f11_files.proofs.AnswerLemmas.{handed}
 use Rattle.f11_files.proofs.Extending.Parts.{grows-marked, grows-then, growth-run, growth-marked}
 use Rattle.std.proofs.Common.{[]}
+use Rattle.f11_files.proofs.Removing.Freeing.{handed-stays, stays-then}
 use Rattle.f11_files.proofs.structure.Structure.add_run.Goals as goal
 
 pub returns-in_err-lbn-clause-refused : goal.returns-in_err-lbn-clause-refused
@@ -41,3 +42,9 @@ returns-clause-places g c =
     let t = c.take_run.new.self in
     let marked = grows-marked s t c.args.tail.now [] c.in_ok-lbn.ensures.taken.index c.take_run.ensures.places in
     grows-then s t c.append_run.new.self c.args.tail.now c.args.tail.now c.append_run.new.tail [] [] (λ l out. out) marked c.in_ok-append_run.ensures.places
+
+pub returns-in_err-append_run-clause-stays : goal.returns-in_err-append_run-clause-stays
+returns-in_err-append_run-clause-stays g c =
+    let fatal = c.in_err-append_run.ensures.refused.fatal in
+    handed-stays c.from_residual-in_err-append_run.result _ _ _ _ c.from_residual-in_err-append_run.ensures.1 fatal
+    (stays-then c.in_ok-lbn.ensures.stays.home (rw fatal at c.in_err-append_run.ensures.stays))

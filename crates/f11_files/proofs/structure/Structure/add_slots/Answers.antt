@@ -4,6 +4,7 @@ use Rattle.f11_store.proofs.PieceLemmas.{may-free}
 use Rattle.f11_files.proofs.Extending.TakenRun.{run-last}
 use Rattle.f11_files.proofs.AnswerLemmas.{handed}
 use Rattle.f11_files.proofs.Extending.Parts.{grows-marked, grows-then, growth-run, run-free, growth-marked}
+use Rattle.f11_files.proofs.Removing.Freeing.{handed-stays, stays-then}
 use Rattle.f11_files.proofs.structure.Structure.add_slots.Goals as goal
 
 pub returns-in_err-lbn-clause-refused : goal.returns-in_err-lbn-clause-refused
@@ -41,3 +42,9 @@ returns-clause-places g c = λ honest.
     let taken = c.in_ok-lbn.ensures.taken in
     let marked = grows-marked s c.take_run.new.self c.args.tail.now _ taken.index c.take_run.ensures.places in
     grows-then s c.take_run.new.self c.append_slots.new.self c.args.tail.now c.args.tail.now c.append_slots.new.tail _ _ (run-free s c.take_run.new.self _ _ _ _ _ _ honest taken) marked c.in_ok-append_slots.ensures.places
+
+pub returns-in_err-append_slots-clause-stays : goal.returns-in_err-append_slots-clause-stays
+returns-in_err-append_slots-clause-stays g c =
+    let fatal = c.in_err-append_slots.ensures.refused.fatal in
+    handed-stays c.from_residual-in_err-append_slots.result _ _ _ _ c.from_residual-in_err-append_slots.ensures.1 fatal
+    (stays-then c.in_ok-lbn.ensures.stays.home (rw fatal at c.in_err-append_slots.ensures.stays))

@@ -46,7 +46,7 @@ returns-in-Ok-set-clause-created g c = creates c.args.self.now c.args.owner c.ar
 
 pub returns-in-Ok-set-clause-stays : goal.returns-in-Ok-set-clause-stays
 returns-in-Ok-set-clause-stays g c = created-stays c.args.self.now c.args.owner c.args.protection c.args.ident.now c.args.attr.now c.in-Some.number _ _ _ c.read.new.into c.next_sequence.result c.requires.is_for c.in-Some.ensures c.lbn_of_header-lbn.ensures c.in-Ok.ensures.reads.counts c.in-Ok.ensures.reads.gives
-    c.next_sequence.ensures.next _ _ c.fill_first.ensures _ c.in-Ok-write.ensures.writes.ok _ _ refl refl refl c.in-Ok-set.ensures.done
+    c.next_sequence.ensures.next _ _ c.fill_first.ensures _ c.in-Ok-write.ensures.writes.ok _ _ refl refl c.in-Ok-set.ensures.done
 
 pub returns-in-Err-set-clause-refused : goal.returns-in-Err-set-clause-refused
 returns-in-Err-set-clause-refused g c = fails-bit c.args.self.now c.args.owner c.args.protection c.args.ident.now c.args.attr.now c.in-Some.number _ _ _ c.read.new.into c.next_sequence.result c.requires.is_for c.in-Some.ensures c.lbn_of_header-lbn.ensures c.in-Ok.ensures.reads.counts c.in-Ok.ensures.reads.gives

@@ -2,7 +2,7 @@ use Rattle.std.proofs.Common.{refl, arith}
 use Rattle.f11_store.specs.Store.{index_file}
 use Rattle.f11_files.specs.GrowingIndex.Runs.{index_id}
 use Rattle.f11_files.specs.Structure.{store_on}
-use Rattle.f11_files.proofs.AnswerLemmas.{handed}
+use Rattle.f11_files.proofs.AnswerLemmas.{handed, not-clean}
 use Rattle.f11_files.proofs.Extending.Cleared.{holds-last}
 use Rattle.f11_files.proofs.Removing.Freeing.{handed-stays, stays-then}
 use Rattle.f11_files.proofs.GrowingIndex.GrowIndex.{reserved-for, reserved-finds, as-grow, no-want, read-cost, wants-memory, fails-clearing, stays-clearing, may-grow, fails-growing, grows-file, slots-after}
@@ -77,3 +77,7 @@ pub returns-clause-confined : goal.returns-clause-confined
 returns-clause-confined g c = λ honest.
     growing-confined c.args.self.now c.reserve.new.self index_id c.args.n _ _ _ _ _ c.requires.is_for c.in_ok-end.ensures.room.room c.reserve.ensures.kept honest (rw c.index_id.ensures at c.in-Ok-clear_mark.ensures.clears) (rw c.index_id-2.ensures at c.tail_of-tail.ensures.tail)
     (rw c.index_id.ensures at c.clear_mark.ensures.confined) c.grow_by.ensures.confined
+
+pub returns-in_err-grow_by-clause-counts : goal.returns-in_err-grow_by-clause-counts
+returns-in_err-grow_by-clause-counts g c =
+    not-clean c.from_residual-in_err-grow_by.result _ c.from_residual-in_err-grow_by.ensures.1 c.in_err-grow_by.ensures.refused.fatal

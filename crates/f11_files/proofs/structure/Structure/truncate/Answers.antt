@@ -4,7 +4,7 @@ use Rattle.f11_index.proofs.InUseLemmas.{in_use-some, in_use-slot}
 use Rattle.f11_files.specs.Structure.{index_in}
 use Rattle.f11_files.proofs.AnswerLemmas.{handed, not-clean}
 use Rattle.f11_files.proofs.Removing.Cut.{fails-written, written-for, unreferenced-now, fails-giving, behind-hangs, fails-behind, cuts-file}
-use Rattle.f11_files.proofs.Removing.Freeing.{stays-for, stays-then}
+use Rattle.f11_files.proofs.Removing.Freeing.{stays-for, stays-then, handed-stays}
 use Rattle.f11_files.proofs.WriteLemmas.{failed-stays}
 use Rattle.f11_files.proofs.Finding.First.{place-within}
 use Rattle.f11_files.proofs.Removing.Parts.{cut-dropped, cut-failed, cut-given}
@@ -100,3 +100,9 @@ returns-clause-confined g c = λ honest.
 pub returns-in_err-drop_behind-clause-counts : goal.returns-in_err-drop_behind-clause-counts
 returns-in_err-drop_behind-clause-counts g c =
     not-clean c.from_residual-in_err-drop_behind.result _ c.from_residual-in_err-drop_behind.ensures.1 c.in_err-drop_behind.ensures.refused.fatal
+
+pub returns-in_err-drop_behind-clause-stays : goal.returns-in_err-drop_behind-clause-stays
+returns-in_err-drop_behind-clause-stays g c =
+    let fatal = c.in_err-drop_behind.ensures.refused.fatal in
+    handed-stays c.from_residual-in_err-drop_behind.result _ _ _ _ c.from_residual-in_err-drop_behind.ensures.1 fatal
+    (stays-then c.in_ok-give_from.ensures.stays.home (rw fatal at c.in_err-drop_behind.ensures.stays))
