@@ -159,7 +159,7 @@ const CUTS: [Row; 8] = [
 
 const DELETES: [Row; 7] = [
     (Call::Space, Ok(Given::Space(0, 9, 16)), Some(0)),
-    (Call::Delete(A), Ok(Given::Done), Some(10)),
+    (Call::Delete(A), Ok(Given::Done), Some(8)),
     (Call::Space, Ok(Given::Space(2, 11, 16)), Some(0)),
     (Call::Delete(A), Err(Refusal::NoSuchFile), None),
     (Call::CreateWith(0, 0, 0), Ok(Given::File(6, 2)), None),
@@ -221,10 +221,10 @@ fn a_transfer_of_a_call_fails(rt: HostRuntime) -> Result<(), Fail> {
     let opened_at = transfers(&files);
     let first = opened_at.saturating_sub(made);
     assert!(rt; calls(&mut files) && !files.failed());
-    // three each of create and delete, five of extend and of grow_index, four of truncate, one or two of
-    // each other
-    assert_eq!(rt; transfers(&files).saturating_sub(opened_at), 30);
-    for (k, lands) in (1..=30).flat_map(|k| [(k, false), (k, true)]) {
+    // three each of create, truncate and delete, four of extend and of grow_index, one or two of each other: the
+    // bitmap block that these need is kept
+    assert_eq!(rt; transfers(&files).saturating_sub(opened_at), 27);
+    for (k, lands) in (1..=27).flat_map(|k| [(k, false), (k, true)]) {
         let device = volumes::fresh(rt.alloc(), volumes::BLOCKS)?;
         let device = FailOnce::new(device, first.saturating_add(k), lands);
         let mut files = opened(rt.alloc(), device)?;

@@ -32,7 +32,7 @@ fn the_index_file_gets_a_header(rt: HostRuntime) -> Result<(), Fail> {
     Ok(())
 }
 
-/// Whether two slots are added, or the call answers `DeviceFault` where one of its six transfers fails; and the volume is accepted then.
+/// Whether two slots are added, or the call answers `DeviceFault` where one of its five transfers fails; and the volume is accepted then.
 fn grows(alloc: Global, at: u64, lands: bool, fails: bool) -> Result<bool, Fail> {
     let device = volumes::fresh(alloc, volumes::BLOCKS)?;
     let mut files = opened(alloc, FailOnce::new(device, at, lands))?;
@@ -50,9 +50,9 @@ fn a_transfer_of_growing_the_index_file_fails(rt: HostRuntime) -> Result<(), Fai
     let device = volumes::fresh(rt.alloc(), volumes::BLOCKS)?;
     let made = device.transfers();
     let opening = transfers(&opened(rt.alloc(), device)?).saturating_sub(made);
-    for (k, lands) in (1..=7).flat_map(|k| [(k, false), (k, true)]) {
+    for (k, lands) in (1..=6).flat_map(|k| [(k, false), (k, true)]) {
         let at = opening.saturating_add(k);
-        assert!(rt; grows(rt.alloc(), at, lands, k < 7)?, "{k}");
+        assert!(rt; grows(rt.alloc(), at, lands, k < 6)?, "{k}");
     }
     Ok(())
 }

@@ -180,8 +180,9 @@ fn lanes(rt: HostRuntime) {
 fn a_small_volume(rt: HostRuntime) -> Result<(), Fail> {
     let mut device = Liar::new(device_with(rt.alloc(), &block_with_22_used(), &ONES)?, 0);
     assert_eq!(rt; small_volume(&mut device)?, answers());
-    // two transfers to write the bitmap, and 1 to load, 2, 2 and 1 to take, 2 to give and 2 to take again
-    assert_eq!(rt; device.into_inner().transfers(), 12);
+    // two transfers to write the bitmap, and 1 each to load, to take twice, to give and to take again: the bitmap block is
+    // kept, and none is made where no block is free
+    assert_eq!(rt; device.into_inner().transfers(), 7);
     Ok(())
 }
 
@@ -202,11 +203,11 @@ fn a_run_over_two_bitmap_blocks(rt: HostRuntime) -> Result<(), Fail> {
 
 #[test]
 fn a_device_that_stops(rt: HostRuntime) -> Result<(), Fail> {
-    for transfers in 0..12 {
+    for transfers in 0..7 {
         let inner = device_with(rt.alloc(), &block_with_22_used(), &ONES)?;
         let mut device = Liar::new(Fuse::new(inner, transfers), 0);
         let done = small_volume(&mut device);
-        if transfers < 10 {
+        if transfers < 5 {
             assert_eq!(rt; done, Err(DeviceFault), "after {transfers}");
         } else {
             assert_eq!(rt; done, Ok(answers()), "after {transfers}");
@@ -216,17 +217,12 @@ fn a_device_that_stops(rt: HostRuntime) -> Result<(), Fail> {
 }
 
 /// The transfer that fails, and the free blocks of the image after it, where a write didn't land and where it did.
-const FAILING: [(u64, u32, u32); 10] = [
+const FAILING: [(u64, u32, u32); 5] = [
     (1, 378, 378),
-    (2, 378, 378),
-    (3, 378, 122),
-    (4, 122, 122),
-    (5, 122, 0),
-    (6, 0, 0),
-    (7, 0, 0),
-    (8, 0, 4),
-    (9, 4, 4),
-    (10, 4, 1),
+    (2, 378, 122),
+    (3, 122, 0),
+    (4, 0, 4),
+    (5, 4, 1),
 ];
 
 /// The free blocks of the image where a transfer of the calls failed, which has to be told.
@@ -263,6 +259,24 @@ fn what_was_taken_is_given_back(rt: HostRuntime) -> Result<(), Fail> {
         storage.give(&mut device, lbn, count)?;
     }
     assert_eq!(rt; storage.free(), 378);
+    Ok(())
+}
+
+/// Where the second of two bitmap blocks is kept, the first one is read and written to take; where the first is, it is written alone.
+#[test]
+fn a_bitmap_block_that_is_kept_is_not_read(rt: HostRuntime) -> Result<(), Fail> {
+    let mut device = device_with(rt.alloc(), &ONES, &ONES)?;
+    assert!(rt; device.blocks() >= 3);
+    let mut storage = Storage::load(&mut device, &[1, 2], 8192)?;
+    let loaded = device.transfers();
+    storage.take(&mut device, 0, 4)?;
+    let once = device.transfers();
+    let run = storage.take(&mut device, 0, 4)?;
+    let twice = device.transfers();
+    if let Some((lbn, count)) = run {
+        storage.give(&mut device, lbn, count)?;
+    }
+    assert_eq!(rt; (loaded, once, twice, device.transfers()), (4, 6, 7, 8));
     Ok(())
 }
 
