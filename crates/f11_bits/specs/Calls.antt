@@ -1,12 +1,12 @@
 -- What each call of a storage bitmap does to a disk, by its outcome.
-use Rattle.std.specs.Prelude.{◌≡◌, ℕ, ◌+◌, ◌*◌, length, Bool, true, false, IsTrue}
+use Rattle.std.specs.Prelude.{◌≡◌, ℕ, ◌+◌, length, Bool, true, false, IsTrue}
 use Rattle.f11_dev.specs.Disk.{Disk}
 use Rattle.f11_dev.specs.Looked.{Looked}
 use Rattle.f11_dev.specs.Went.{Went}
 use Rattle.f11_bits.specs.Bitmap.{Bitmap, free_blocks, is_free, Marks}
 use Rattle.f11_bits.specs.Changes.{Changing, Taking}
 use Rattle.f11_bits.specs.Run.{IsFirstRun, IsRunWithin, NoneFrom}
-use Rattle.f11_bits.specs.Transfers.{blocks_from, blocks_to, blocks_touched}
+use Rattle.f11_bits.specs.Transfers.{blocks_from, taking_transfers, giving_transfers}
 
 -- The free blocks were counted, and each bitmap block was read once at most.
 pub record Counts (bitmap : Bitmap) (count : ℕ) (old new : Disk) : Type 0 where
@@ -28,18 +28,18 @@ FailsToMark free bitmap lbn count most old new = Went (Changing old.honest free 
 
 -- Count blocks from lbn on were given back: each bitmap block that has their bits was read once at most, and written once.
 abbrev pub Gives : Bitmap → ℕ → ℕ → Disk → Disk → Type 0
-Gives bitmap lbn count old new = MarksOnDisk true bitmap lbn count (2 * blocks_touched lbn count) old new
+Gives bitmap lbn count old new = MarksOnDisk true bitmap lbn count (giving_transfers lbn count) old new
 
 -- A transfer failed while they were being given back.
 abbrev pub FailsToGive : Bitmap → ℕ → ℕ → Disk → Disk → Type 0
-FailsToGive bitmap lbn count old new = FailsToMark true bitmap lbn count (2 * blocks_touched lbn count) old new
+FailsToGive bitmap lbn count old new = FailsToMark true bitmap lbn count (giving_transfers lbn count) old new
 
 -- A run was taken, which is the image's first where the disk is honest. The bitmap blocks from that of block `from` to that
 -- of the block after the run were read once at most, and each that has the run's bits was written once.
 pub record Takes (bitmap : Bitmap) (from most lbn count : ℕ) (old new : Disk) : Type 0 where
   pub within : IsRunWithin bitmap.size from most lbn count
   pub first : IsTrue old.honest → IsFirstRun (is_free old.image bitmap) from most lbn count
-  pub marked : MarksOnDisk false bitmap lbn count (blocks_to bitmap from (lbn + count) + blocks_touched lbn count) old new
+  pub marked : MarksOnDisk false bitmap lbn count (taking_transfers bitmap from lbn count) old new
 
 -- No block at or above `from` is free where the disk is honest, and the bitmap blocks from there on were read once at most.
 pub record FindsNone (bitmap : Bitmap) (from : ℕ) (old new : Disk) : Type 0 where

@@ -14,6 +14,10 @@ bitmap_of s = record { places = take s.used s.places; size = s.size }
 abbrev pub count_of : Storage → ℕ
 count_of s = s.free
 
+-- the number of the bitmap block that it keeps, counted from 0
+abbrev pub kept_at : Storage → ℕ
+kept_at s = s.kept
+
 -- the bitmap block that it keeps is the image's
 pub record KeepsBlock (s : Storage) (image : Image) : Type 0 where
   pub within : s.kept < length (bitmap_of s).places

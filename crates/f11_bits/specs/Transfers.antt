@@ -1,6 +1,7 @@
--- How many bitmap blocks a call reads and writes.
-use Rattle.std.specs.Prelude.{ℕ, ◌+◌, ◌-◌, ◌/◌, min, length}
+-- How many bitmap blocks a call reads and writes, as if none were kept.
+use Rattle.std.specs.Prelude.{ℕ, ◌+◌, ◌-◌, ◌*◌, ◌/◌, ◌<◌, min, length}
 use Rattle.f11_bits.specs.Bitmap.{Bitmap}
+use Rattle.f11_dev.specs.Disk.{Disk}
 
 -- how many bitmap blocks there are from that of block `from` on
 abbrev pub blocks_from : Bitmap → ℕ → ℕ
@@ -13,3 +14,15 @@ blocks_to bitmap from to = min (to / 4096 + 1) (length bitmap.places) - from / 4
 -- how many have the bits of count blocks from lbn on
 abbrev pub blocks_touched : ℕ → ℕ → ℕ
 blocks_touched lbn count = (lbn + count + 4095) / 4096 - lbn / 4096
+
+-- how many transfers take a run, where block `from` and those behind it were looked at
+abbrev pub taking_transfers : Bitmap → ℕ → ℕ → ℕ → ℕ
+taking_transfers bitmap from lbn count = blocks_to bitmap from (lbn + count) + blocks_touched lbn count
+
+-- how many give a run back
+abbrev pub giving_transfers : ℕ → ℕ → ℕ
+giving_transfers lbn count = 2 * blocks_touched lbn count
+
+-- fewer than so many were made
+abbrev pub MakesFewer : ℕ → Disk → Disk → Type 0
+MakesFewer most old new = new.transfers < old.transfers + most

@@ -45,8 +45,8 @@ impl Storage {
     ghost use Rattle.f11_bits.specs.Bitmap.{free_blocks};
     ghost use Rattle.f11_bits.specs.Calls.{MarksOnDisk, FailsToMark, Gives, FailsToGive, Takes, FindsNone, FailsToTake};
     ghost use Rattle.f11_bits.specs.Parts.{IsPart, HasBitOf, HasBits, FindsPart, FindsRest, FindsRun, FailsToFindPart, FailsToFindRest};
-    ghost use Rattle.f11_bits.specs.Storage.{bitmap_of, count_of, Keeps, IsOn, IsFor, Loads};
-    ghost use Rattle.f11_bits.specs.Transfers.{blocks_touched};
+    ghost use Rattle.f11_bits.specs.Storage.{bitmap_of, count_of, kept_at, Keeps, IsOn, IsFor, Loads};
+    ghost use Rattle.f11_bits.specs.Transfers.{blocks_to, blocks_touched, taking_transfers, giving_transfers, MakesFewer};
 
     /// Counts the free blocks of a volume of `size` blocks whose bitmap blocks are at `places`, in order. It reads each of
     /// them once at most, keeps the last, and takes no memory.
@@ -65,6 +65,7 @@ impl Storage {
         ensures loads { IfOk result (λ storage.
             Loads (record { places = places.now; size = size }) storage
             (D.disk device.old) (D.disk device.new)) }
+        ensures keeps { IfOk result (λ storage. kept_at storage ≡ (size - 1) / 4096) }
         ensures failed { OnErr result (FailsToCount (record { places = places.now; size = size })
             (D.disk device.old) (D.disk device.new)) }
     {
@@ -117,6 +118,9 @@ impl Storage {
         ensures storage { OnOk result (IsFor self.new (D.disk device.new)) }
         ensures gives { OnOk result
             (Gives (bitmap_of self.old) lbn count (D.disk device.old) (D.disk device.new)) }
+        ensures saves { kept_at self.old ≡ lbn / 4096 → OnOk result
+            (MakesFewer (giving_transfers lbn count) (D.disk device.old) (D.disk device.new)) }
+        ensures keeps { OnOk result (kept_at self.new ≡ (lbn + count - 1) / 4096) }
         ensures failed { OnErr result
             (FailsToGive (bitmap_of self.old) lbn count (D.disk device.old) (D.disk device.new)) }
     {
@@ -152,8 +156,14 @@ impl Storage {
         ensures storage { OnOk result (IsFor self.new (D.disk device.new)) }
         ensures takes { IfOk result (λ answer. IfSome answer (λ run.
             Takes (bitmap_of self.old) from most run.0 run.1 (D.disk device.old) (D.disk device.new))) }
+        ensures saves { IfOk result (λ answer. IfSome answer (λ run. kept_at self.old ≡ run.0 / 4096
+            → MakesFewer (taking_transfers (bitmap_of self.old) from run.0 run.1)
+            (D.disk device.old) (D.disk device.new))) }
+        ensures keeps { IfOk result (λ answer. IfSome answer (λ run.
+            kept_at self.new ≡ (run.0 + run.1 - 1) / 4096)) }
         ensures none { IfOk result (λ answer. IfNone answer
             (FindsNone (bitmap_of self.old) from (D.disk device.old) (D.disk device.new))) }
+        ensures stays { IfOk result (λ answer. IfNone answer (kept_at self.new ≡ kept_at self.old)) }
         ensures failed { OnErr result
             (FailsToTake (bitmap_of self.old) from most (D.disk device.old) (D.disk device.new)) }
     {
@@ -182,6 +192,10 @@ impl Storage {
         ensures finds { IfOk result (λ answer. IfSome answer (λ run.
             FindsRun (bitmap_of self.now) from most run.lbn run.here run.beyond block.new next.new
             (D.disk device.old) (D.disk device.new))) }
+        ensures saves { IfOk result (λ answer. IfSome answer (λ run.
+            kept_at self.now ≡ run.lbn / 4096
+            → MakesFewer (blocks_to (bitmap_of self.now) from (run.lbn + run.here + run.beyond))
+            (D.disk device.old) (D.disk device.new))) }
         ensures none { IfOk result (λ answer. IfNone answer
             (FindsNone (bitmap_of self.now) from (D.disk device.old) (D.disk device.new))) }
         ensures failed { OnErr result
@@ -208,6 +222,9 @@ impl Storage {
         requires few { most ≤ 256 }
         ensures finds { IfOk result (λ answer. IfSome answer (λ part.
             FindsPart (bitmap_of self.now) from most part.0 part.1 block.new
+            (D.disk device.old) (D.disk device.new))) }
+        ensures saves { IfOk result (λ answer. IfSome answer (λ part.
+            kept_at self.now ≡ part.0 / 4096 → MakesFewer (part.0 / 4096 - from / 4096 + 1)
             (D.disk device.old) (D.disk device.new))) }
         ensures none { IfOk result (λ answer. IfNone answer
             (FindsNone (bitmap_of self.now) from (D.disk device.old) (D.disk device.new))) }
@@ -268,6 +285,8 @@ impl Storage {
         ensures marks { let count = run.here + run.beyond in
             OnOk result (MarksOnDisk false (bitmap_of self.old) run.lbn count
             (blocks_touched run.lbn count) (D.disk device.old) (D.disk device.new)) }
+        ensures keeps { OnOk result
+            (kept_at self.new ≡ (run.lbn + run.here + run.beyond - 1) / 4096) }
         ensures failed { let count = run.here + run.beyond in
             OnErr result (FailsToMark false (bitmap_of self.old) run.lbn count
             2 (D.disk device.old) (D.disk device.new)) }
@@ -293,6 +312,9 @@ impl Storage {
         ensures on { OnOk result (IsOn self.new (D.disk device.new)) }
         ensures marks { OnOk result (MarksOnDisk true (bitmap_of self.old) lbn count
             2 (D.disk device.old) (D.disk device.new)) }
+        ensures saves { kept_at self.old ≡ lbn / 4096 → OnOk result
+            (MakesFewer 2 (D.disk device.old) (D.disk device.new)) }
+        ensures keeps { OnOk result (kept_at self.new ≡ lbn / 4096) }
         ensures failed { OnErr result (FailsToMark true (bitmap_of self.old) lbn count
             2 (D.disk device.old) (D.disk device.new)) }
     {
@@ -317,6 +339,7 @@ impl Storage {
         ensures same { bitmap_of self.new ≡ bitmap_of self.old }
         ensures free { count_of self.new ≡ count_of self.old }
         ensures on { OnOk result (IsOn self.new (D.disk device.new)) }
+        ensures keeps { kept_at self.new ≡ lbn / 4096 }
         ensures writes { let place = slice_index (bitmap_of self.old).places (lbn / 4096) in
             OnOk result ((D.disk device.new).image
             ≡ slice_set (D.disk device.old).image place block.new) }
@@ -343,6 +366,8 @@ impl Storage {
         ensures block { OnOk result (IsTrue (D.disk device.old).honest
             → IsBitmapBlock (D.disk device.old).image (bitmap_of self.now) index block.new) }
         ensures looked { OnOk result (Looked (D.disk device.old) (D.disk device.new) 1 0) }
+        ensures saves { kept_at self.now ≡ index
+            → (D.disk device.new).transfers ≡ (D.disk device.old).transfers }
         ensures failed { OnErr result (Looked (D.disk device.old) (D.disk device.new) 1 1) }
     {
         if index == self.kept {

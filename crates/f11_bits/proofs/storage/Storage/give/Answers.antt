@@ -44,11 +44,21 @@ loop-index-preserved g c =
     let bitmap = bitmap_of c.args.self.now in
     let held = c.loop-index.invariant in
     let made = rw held.same at c.in_ok-free_part.ensures.marks in
+    let at : c.max-start.result / 4096 ≡ c.loop-index.index = omega arith in
     let next = step c.args.lbn c.args.count c.loop-index.index c.max-start.result c.min-stop.result c.requires.some (omega arith) (omega arith) (omega arith) (omega arith) in
     record {
       same = c.free_part.ensures.same ∙ held.same;
       free = c.free_part.ensures.free ∙ held.free;
       on = c.in_ok-free_part.ensures.on;
+      first = λ here. absurd (omega arith);
+      last = λ _. omega (arith, c.in_ok-free_part.ensures.keeps, at);
+      saves = λ kept _. elim (cases_lt (c.args.lbn / 4096) c.loop-index.index) [
+        | inl later ↦ let fewer = held.saves kept later in omega (arith, fewer, made.went.transfers)
+        | inr start ↦
+            let before = held.first (omega arith) in
+            let fewer = c.in_ok-free_part.ensures.saves (omega (arith, before, kept, at)) in
+            omega (arith, fewer, held.went.transfers)
+      ];
       keeps = KeepsOthers-trans bitmap _ _ _ held.keeps (KeepsOthers-went made.went);
       marks = Marks-next true bitmap c.args.lbn _ _ _ _ old (g.D.Device.disk c.loop-index.device) (g.D.Device.disk c.free_part.new.device) held.went.honest held.marks next.begins next.next made.marks;
       went = went_within (Changing old.honest true bitmap c.args.lbn c.args.count old.image)

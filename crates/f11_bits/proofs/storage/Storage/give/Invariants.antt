@@ -1,8 +1,9 @@
-use Rattle.std.proofs.Common.{◌≡◌, ◌-◌, ◌*◌, ◌/◌, min, true, IsTrue}
+use Rattle.std.proofs.Common.{◌≡◌, ◌-◌, ◌*◌, ◌/◌, ◌<◌, min, true, IsTrue}
 use Rattle.f11_dev.specs.Went.{Went}
 use Rattle.f11_bits.specs.Bitmap.{KeepsOthers, Marks}
 use Rattle.f11_bits.specs.Changes.{Changing}
-use Rattle.f11_bits.specs.Storage.{bitmap_of, count_of, IsOn}
+use Rattle.f11_bits.specs.Transfers.{MakesFewer}
+use Rattle.f11_bits.specs.Storage.{bitmap_of, count_of, kept_at, IsOn}
 use Rattle.f11_bits.proofs.storage.Storage.give.Given as goal
 
 -- the blocks so far are marked free, each bitmap block was read once at most and written once, and the last is kept
@@ -15,6 +16,9 @@ invariant-loop-index g l =
       same : bitmap_of l.self ≡ bitmap;
       free : count_of l.self ≡ count_of l.fn.self;
       on : IsOn l.self now;
+      first : l.index ≡ l.lbn / 4096 → kept_at l.self ≡ kept_at l.fn.self;
+      last : l.lbn / 4096 < l.index → kept_at l.self ≡ l.index - 1;
+      saves : kept_at l.fn.self ≡ l.lbn / 4096 → l.lbn / 4096 < l.index → MakesFewer (2 * (l.index - l.lbn / 4096)) old now;
       keeps : KeepsOthers bitmap old.image now.image;
       marks : IsTrue old.honest → Marks true bitmap l.lbn (min l.end (4096 * l.index) - l.lbn) old.image now.image;
       went : Went (Changing old.honest true bitmap l.lbn l.count old.image) old now (2 * (l.index - l.lbn / 4096)) 0;
