@@ -110,8 +110,9 @@ fn a_transfer_of_extending_fails(rt: HostRuntime) -> Result<(), Fail> {
     let begun = volume.lent().transfers().saturating_sub(made);
     assert_eq!(rt; first_wrong(&mut volume, &EXTENDED), None);
     let extended = volume.lent().transfers().saturating_sub(made);
-    // the header is read for the right, and again to be changed; a bitmap block is read and written, the block made zeros, the header written
-    assert_eq!(rt; extended, begun.saturating_add(6));
+    // the header is read for the right, and again to be changed; the bitmap block, which is kept, is written, the block made zeros, the header
+    // written
+    assert_eq!(rt; extended, begun.saturating_add(5));
     for transfer in begun..extended {
         for lands in [false, true] {
             let device = volumes::fresh(rt.alloc(), 400)?;
@@ -183,7 +184,7 @@ fn thirty_three() -> Attr {
 }
 
 /// Behind so many transfers of that a block is marked used, and no header names it.
-const LOST: Range<u64> = 7..9;
+const LOST: Range<u64> = 6..8;
 
 /// A volume on a device that stops while a record is entered: whether it is accepted then with exactly these notes, and these rows are right on it.
 fn stops(
