@@ -27,8 +27,8 @@ use Rattle.f11_files.proofs.AnswerLemmas.{reads-looked, reads-more, right-fault}
 use Rattle.f11_files.proofs.WriteLemmas.{fails-unread, writes-behind}
 use Rattle.f11_image_store.specs.Allocation.{KeepsBlocks}
 use Rattle.f11_image_store.specs.StoreOf.{store_of}
-use Rattle.f11_fcp.specs.Accesses.{Entry}
-use Rattle.f11_fcp.specs.Windows.{FindsNext, KeepsWindow, LeavesRows, with_window}
+use Rattle.f11_fcp.specs.Accesses.{Entry, with_window}
+use Rattle.f11_fcp.specs.Windows.{FindsNext, KeepsWindow, LeavesRows}
 use Rattle.f11_fcp.proofs.WindowLemmas.{as-slice, begins-at, window-kept}
 use Rattle.f11_dev.specs.declared.device.Device.{Ghosts}
 use Rattle.f11_files.specs.declared.files.Files.{Files}

@@ -32,9 +32,9 @@ use Rattle.f11_files.proofs.Opening.Kept.{accepted-opened}
 use Rattle.f11_image_store.specs.Allocation.{BeginsWith}
 use Rattle.f11_image_store.specs.Confines.{no_header, only_header}
 use Rattle.f11_image_store.specs.StoreOf.{store_of}
-use Rattle.f11_fcp.specs.Accesses.{Entry, HasAccessed, Table, access_of, accesses, any_mode, emptied_if, held_in, is_held_in, mark_kept, mark_there, marked_if, with_empty_windows, with_entry, with_marks}
+use Rattle.f11_fcp.specs.Accesses.{Entry, HasAccessed, Table, access_of, accesses, any_mode, emptied_if, held_in, is_held_in, mark_kept, mark_there, marked_if, with_empty_windows, with_entry, with_marks, with_window}
 use Rattle.f11_fcp.specs.Handles.{Handles, IsOpen, State, store_at}
-use Rattle.f11_fcp.specs.Windows.{HasWindows, IsSliceOf, KeepsWindow, LeavesRows, with_window}
+use Rattle.f11_fcp.specs.Windows.{HasWindows, IsSliceOf, KeepsWindow, LeavesRows}
 use Rattle.f11_fcp.proofs.AccessedLemmas.{there-held}
 
 -- the volume of files that are open is sound
@@ -169,8 +169,8 @@ module _ {D : Type 0} {met : Ghosts D} (t : Table) (old new : Files D met) (f : 
     pub windows-cut : HasWindows t old → HasWindows (with_empty_windows f t) new
     windows-cut has task lun e low small held = by_entry (t task lun) refl held
       where
-        by_test : (was : Entry) → t task lun ≡ Some was → (b : Bool) → is_same was.file f ≡ b → (if b then record was { window = empty_window } else was) ≡ e → KeepsWindow e new
-        by_test was is true same to = subst (λ (x : Entry). KeepsWindow x new) to (empty-kept (record was { window = empty_window }) new refl)
+        by_test : (was : Entry) → t task lun ≡ Some was → (b : Bool) → is_same was.file f ≡ b → (if b then with_window empty_window was else was) ≡ e → KeepsWindow e new
+        by_test was is true same to = subst (λ (x : Entry). KeepsWindow x new) to (empty-kept (with_window empty_window was) new refl)
         by_test was is false other to = subst (λ (x : Entry). KeepsWindow x new) to (other-kept task lun was low small is other (has task lun was low small is))
 
         by_entry : (o : Option Entry) → t task lun ≡ o → option_map (emptied_if f) o ≡ Some e → KeepsWindow e new
@@ -226,7 +226,7 @@ kept-with t s k l e w held kept task lun low small = go ((task == k) && (lun == 
 pub accesses-emptied : (f : FileId) (t : Table) → accesses (with_empty_windows f t) ≡ accesses t
 accesses-emptied f t = λ i task lun. go (t task lun) i
   where
-    by_test : (e : Entry) (b : Bool) → Some (access_of (if b then record e { window = empty_window } else e)) ≡ Some (access_of e)
+    by_test : (e : Entry) (b : Bool) → Some (access_of (if b then with_window empty_window e else e)) ≡ Some (access_of e)
     by_test e true = refl
     by_test e false = refl
 
@@ -238,7 +238,7 @@ pub kept-emptied : (f : FileId) (t : Table) (s : Store) → HasAccessed t s → 
 kept-emptied f t s kept task lun low small = go (t task lun) (kept task lun low small)
   where
     by_test : (e : Entry) (b : Bool) → mark_of s e.file ≡ Some e.marked
-        → mark_of s (if b then record e { window = empty_window } else e).file ≡ Some ((if b then record e { window = empty_window } else e).marked)
+        → mark_of s (if b then with_window empty_window e else e).file ≡ Some ((if b then with_window empty_window e else e).marked)
     by_test e true h = h
     by_test e false h = h
 

@@ -35,9 +35,13 @@ marked_if id e = if is_same e.file id then record e { marked = true } else e
 abbrev pub with_marks : FileId → Table → Table
 with_marks id t = λ task lun. option_map (marked_if id) (t task lun)
 
+-- one with this window
+abbrev pub with_window : Window → Entry → Entry
+with_window w e = record e { window = w }
+
 -- an entry, whose window holds no run then if its file is this one
 abbrev pub emptied_if : FileId → Entry → Entry
-emptied_if id e = if is_same e.file id then record e { window = empty_window } else e
+emptied_if id e = if is_same e.file id then with_window empty_window e else e
 
 -- each access to the file has a window that holds no run
 abbrev pub with_empty_windows : FileId → Table → Table

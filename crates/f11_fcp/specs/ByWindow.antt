@@ -7,10 +7,10 @@ use Rattle.f11_store.specs.declared.refusals.Refusal.{Refusal}
 use Rattle.f11_store.specs.declared.requests.Reply.{Reply}
 use Rattle.f11_store.specs.declared.requests.Request.{Request}
 use Rattle.f11_store.specs.declared.requests.Request.TheVariants as request
-use Rattle.f11_fcp.specs.Accesses.{Entry, Table, with_empty_windows, with_entry}
+use Rattle.f11_fcp.specs.Accesses.{Entry, Table, with_empty_windows, with_entry, with_window}
 use Rattle.f11_fcp.specs.Handles.{State}
 use Rattle.f11_fcp.specs.Serving.{state_in}
-use Rattle.f11_fcp.specs.Windows.{IsNextWindow, with_window}
+use Rattle.f11_fcp.specs.Windows.{IsNextWindow}
 use Rattle.f11_fcp.specs.declared.volume.Volume.{Volume}
 
 -- the block that a request reads or writes: that of a lun, by VBN

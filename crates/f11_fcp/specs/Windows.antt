@@ -17,7 +17,7 @@ use Rattle.f11_files.specs.Rows.{KeepsRows}
 use Rattle.f11_files.specs.declared.files.Files.{Files}
 use Rattle.f11_image_store.specs.Confines.{no_header}
 use Rattle.f11_image_store.specs.StoreOf.{store_of}
-use Rattle.f11_fcp.specs.Accesses.{Entry, Table}
+use Rattle.f11_fcp.specs.Accesses.{Entry, Table, with_window}
 
 -- A window's blocks are a slice of a file's, from the VBN of its first one on.
 pub record IsSliceOf (blocks : List ℕ) (w : Window) : Type 0 where
@@ -32,10 +32,6 @@ pub record KeepsWindow {D : Type 0} {met : Ghosts D} (e : Entry) (files : Files 
 -- each access keeps one
 abbrev pub HasWindows : {D : Type 0} {met : Ghosts D} → Table → Files D met → Type 0
 HasWindows t files = (task lun : ℕ) (e : Entry) → task < 8 → lun < 4 → t task lun ≡ Some e → KeepsWindow e files
-
--- an access that keeps this window then
-abbrev pub with_window : Window → Entry → Entry
-with_window w e = record e { window = w }
 
 -- No call has failed, and an access is to a file that is there, and keeps a window.
 pub record IsHeld {D : Type 0} {met : Ghosts D} (e : Entry) (files : Files D met) : Type 0 where

@@ -1,8 +1,7 @@
 //! What tasks hold.
 ghost use Rattle.std.specs.Prelude.{◌≡◌, ◌+◌, ◌*◌, ◌<◌, ◌≤◌, option_map, true, false, IfSome, IsNone, Some};
-ghost use Rattle.f11_fcp.specs.Accesses.{no_entries, with_entry, with_empty_windows, with_marks, emptied_if, marked_if, is_held_in, any_mode, accesses};
+ghost use Rattle.f11_fcp.specs.Accesses.{no_entries, with_entry, with_empty_windows, with_marks, emptied_if, marked_if, is_held_in, any_mode, accesses, with_window};
 ghost use Rattle.f11_fcp.specs.Places.{entry_of, table_of};
-ghost use Rattle.f11_fcp.specs.Windows.{with_window};
 ghost use Rattle.f11_store.specs.Causes.{is_no_write, is_no_writer};
 ghost use Rattle.f11_store.specs.Store.{bars};
 
@@ -49,18 +48,25 @@ fn marked(held: Option<Held>, file: FileId) -> Option<Held>
     }
 }
 
+/// What is held, with this window.
+fn with_window(held: Held, window: Window) -> Held
+    ensures { entry_of result ≡ with_window window (entry_of held) }
+{
+    Held {
+        file: held.file,
+        mode: held.mode,
+        marked: held.marked,
+        window,
+    }
+}
+
 /// What is held, if it is an access to the file then with a window that holds no run.
 fn emptied(held: Option<Held>, file: FileId) -> Option<Held>
     ensures { option_map entry_of result ≡ option_map (emptied_if file) (option_map entry_of held) }
 {
     match held {
         Some(held) if held.file.number == file.number && held.file.sequence == file.sequence => {
-            Some(Held {
-                file: held.file,
-                mode: held.mode,
-                marked: held.marked,
-                window: Window::empty(),
-            })
+            Some(with_window(held, Window::empty()))
         }
         held => held,
     }
@@ -110,22 +116,7 @@ impl Accesses {
             (Some (with_window window (entry_of held))) }
         ensures within { (task < 8) × (lun < 4) }
     {
-        let Held {
-            file,
-            mode,
-            marked,
-            ..
-        } = held;
-        self.set(
-            task,
-            lun,
-            Some(Held {
-                file,
-                mode,
-                marked,
-                window,
-            }),
-        );
+        self.set(task, lun, Some(with_window(held, window)));
     }
 
     /// Whether some access to the file stands against one in this mode.
