@@ -8,8 +8,8 @@ struct Synopsis {
     does: &'static str,
 }
 
-/// The program's name and version, and what it was proved and built with.
-const VERSION: &str = "f11_pip 0.1, proved and built with Rattle, logic dac8208d650f15bf";
+/// The program's name and version, and what it was built with.
+const VERSION: &str = "f11_pip 0.1, built with Rattle, logic dac8208d650f15bf";
 
 const COMMANDS: [Synopsis; 12] = [
     Synopsis {
