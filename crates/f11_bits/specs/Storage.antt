@@ -1,9 +1,10 @@
 -- What contracts know of a `Storage`.
-use Rattle.std.specs.Prelude.{◌≡◌, ℕ, ◌<◌, length, take, IsTrue}
+use Rattle.std.specs.Prelude.{◌≡◌, ℕ, ◌+◌, ◌-◌, ◌/◌, ◌<◌, length, take, IsTrue}
 use Rattle.f11_dev.specs.Disk.{Disk}
 use Rattle.f11_dev.specs.Image.{Image}
 use Rattle.f11_dev.specs.Looked.{Looked}
 use Rattle.f11_bits.specs.Bitmap.{Bitmap, IsBitmapBlock, free_blocks, LiesWithin}
+use Rattle.f11_bits.specs.Transfers.{MakesFewer}
 use Rattle.f11_bits.specs.declared.storage.Storage.{Storage}
 
 -- the bitmap that it stands for
@@ -43,3 +44,9 @@ pub record Loads (bitmap : Bitmap) (s : Storage) (old new : Disk) : Type 0 where
   pub bitmap_is : bitmap_of s ≡ bitmap
   pub is_for : IsFor s new
   pub looked : Looked old new (length bitmap.places) 0
+
+-- A run was taken or given back: where it begins in the bitmap block that was kept fewer than so many transfers were made, and the one
+-- that has its last bit is kept then.
+pub record UsesKept (most lbn count : ℕ) (was now : Storage) (old new : Disk) : Type 0 where
+  pub saves : kept_at was ≡ lbn / 4096 → MakesFewer most old new
+  pub keeps : kept_at now ≡ (lbn + count - 1) / 4096

@@ -1,5 +1,5 @@
 //! The bitmap of a volume's free blocks.
-ghost use Rattle.std.specs.Prelude.{◌≡◌, ◌+◌, ◌*◌, ◌-◌, ◌/◌, ◌^◌, ◌<◌, ◌≤◌, ℕ, false, length, take, min, slice_index, slice_set, IsTrue, IfOk, OnOk, OnErr, IfSome, IfNone};
+ghost use Rattle.std.specs.Prelude.{◌≡◌, ◌+◌, ◌*◌, ◌-◌, ◌/◌, ◌^◌, ◌<◌, ◌≤◌, ℕ, false, length, take, min, slice_index, slice_set, IsTrue, IfOk, OnOk, OnErr, IfSome, IfNone, MatchOption};
 ghost use Rattle.f11_bits.specs.Bitmap.{IsBitmap, IsBitmapBlock, LiesWithin, is_free};
 ghost use Rattle.f11_bits.specs.Calls.{Counts, FailsToCount};
 
@@ -45,7 +45,7 @@ impl Storage {
     ghost use Rattle.f11_bits.specs.Bitmap.{free_blocks};
     ghost use Rattle.f11_bits.specs.Calls.{MarksOnDisk, FailsToMark, Gives, FailsToGive, Takes, FindsNone, FailsToTake};
     ghost use Rattle.f11_bits.specs.Parts.{IsPart, HasBitOf, HasBits, FindsPart, FindsRest, FindsRun, FailsToFindPart, FailsToFindRest};
-    ghost use Rattle.f11_bits.specs.Storage.{bitmap_of, count_of, kept_at, Keeps, IsOn, IsFor, Loads};
+    ghost use Rattle.f11_bits.specs.Storage.{bitmap_of, count_of, kept_at, Keeps, IsOn, IsFor, Loads, UsesKept};
     ghost use Rattle.f11_bits.specs.Transfers.{blocks_to, blocks_touched, taking_transfers, giving_transfers, MakesFewer};
 
     /// Counts the free blocks of a volume of `size` blocks whose bitmap blocks are at `places`, in order. It reads each of
@@ -118,9 +118,8 @@ impl Storage {
         ensures storage { OnOk result (IsFor self.new (D.disk device.new)) }
         ensures gives { OnOk result
             (Gives (bitmap_of self.old) lbn count (D.disk device.old) (D.disk device.new)) }
-        ensures saves { kept_at self.old ≡ lbn / 4096 → OnOk result
-            (MakesFewer (giving_transfers lbn count) (D.disk device.old) (D.disk device.new)) }
-        ensures keeps { OnOk result (kept_at self.new ≡ (lbn + count - 1) / 4096) }
+        ensures kept { OnOk result (UsesKept (giving_transfers lbn count) lbn count
+            self.old self.new (D.disk device.old) (D.disk device.new)) }
         ensures failed { OnErr result
             (FailsToGive (bitmap_of self.old) lbn count (D.disk device.old) (D.disk device.new)) }
     {
@@ -156,14 +155,12 @@ impl Storage {
         ensures storage { OnOk result (IsFor self.new (D.disk device.new)) }
         ensures takes { IfOk result (λ answer. IfSome answer (λ run.
             Takes (bitmap_of self.old) from most run.0 run.1 (D.disk device.old) (D.disk device.new))) }
-        ensures saves { IfOk result (λ answer. IfSome answer (λ run. kept_at self.old ≡ run.0 / 4096
-            → MakesFewer (taking_transfers (bitmap_of self.old) from run.0 run.1)
-            (D.disk device.old) (D.disk device.new))) }
-        ensures keeps { IfOk result (λ answer. IfSome answer (λ run.
-            kept_at self.new ≡ (run.0 + run.1 - 1) / 4096)) }
+        ensures kept { IfOk result (λ answer. MatchOption answer
+            (kept_at self.new ≡ kept_at self.old)
+            (λ run. UsesKept (taking_transfers (bitmap_of self.old) from run.0 run.1) run.0 run.1
+            self.old self.new (D.disk device.old) (D.disk device.new))) }
         ensures none { IfOk result (λ answer. IfNone answer
             (FindsNone (bitmap_of self.old) from (D.disk device.old) (D.disk device.new))) }
-        ensures stays { IfOk result (λ answer. IfNone answer (kept_at self.new ≡ kept_at self.old)) }
         ensures failed { OnErr result
             (FailsToTake (bitmap_of self.old) from most (D.disk device.old) (D.disk device.new)) }
     {
