@@ -29,6 +29,7 @@ use Rattle.f11_store.specs.Run.{Answer, Call, Run}
 use Rattle.f11_store.specs.Store.{Store}
 use Rattle.f11_store.specs.declared.refusals.Refusal.{Refusal}
 use Rattle.f11_store.specs.declared.requests.Reply.{Reply}
+use Rattle.f11_fcp.specs.ByWindow.{ServesByWindow}
 use Rattle.f11_fcp.specs.Handles.{store_at}
 use Rattle.f11_fcp.specs.Serving.{Serving, StaysAccepted, is_spent, state_in}
 use Rattle.f11_fcp.specs.declared.call.Call.{Call as Listed}
@@ -69,6 +70,7 @@ AreAnswered (c ∷ old) [] = ⊥
 pub record ServesCall {D : Type 0} {met : Ghosts D} (old : Volume D met) (c : Call) (a : Answer) (new : Volume D met) : Type 0 where
   pub serving : Serving c.task c.caller c.request a.result old new c.block a.block
   pub accepted : StaysAccepted (state_in new)
+  pub windows : ServesByWindow c.task c.request a.result old new
 
 -- A call of a list was served, and has its answer.
 pub record IsServed {D : Type 0} {met : Ghosts D} (old : Volume D met) (c d : Listed) (new : Volume D met) : Type 0 where
