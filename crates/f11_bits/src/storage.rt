@@ -98,7 +98,7 @@ impl Storage {
     }
 
     /// Gives `count` used blocks from `lbn` on back: they are free after it. It reads and writes each bitmap block that
-    /// has their bits once; one that is kept isn't read again. The last of them is kept.
+    /// has their bits once; where the run begins in the one that is kept, that isn't read again. The last of them is kept.
     ///
     /// # Errors
     ///
@@ -137,8 +137,8 @@ impl Storage {
     /// their number, which are used after it. `None` where no block is free there.
     ///
     /// It reads each bitmap block from that of `from` to that of the block after the run, and where there is none to the
-    /// last, once at most, and writes each block that changes once. A bitmap block that is kept isn't read again. The
-    /// last that was written is kept.
+    /// last, once at most, and writes each block that changes once. Where the run begins in the
+    /// bitmap block that is kept, that isn't read again. The last that was written is kept.
     ///
     /// # Errors
     ///

@@ -37,12 +37,6 @@ file-alike old new f links names =
     let headers = from-stays 256 old new f links in
     (headers, ap (blocks_by new) headers ∙ blocks-stay old new (headers_of old f) names)
 
--- so it has the blocks that it had where the headers are the same and name the same
-pub names-alike : (old new : Table) (f : ℕ) → headers_of new f ≡ headers_of old f → ((n : ℕ) → Contains (headers_of old f) n → blocks_named (new.header n) ≡ blocks_named (old.header n))
-    → file_blocks new f ≡ file_blocks old f
-unfolding file_blocks
-names-alike old new f headers names = ap (blocks_by new) headers ∙ blocks-stay old new (headers_of old f) names
-
 pub file-stays : (old new : Table) (f : ℕ) → ((n : ℕ) → Contains (headers_of old f) n → new.header n ≡ old.header n) → (headers_of new f ≡ headers_of old f) × (file_blocks new f ≡ file_blocks old f)
 file-stays old new f stay =
     file-alike old new f (λ n listed. ap (λ (b : List ℕ). (link_of b).number) (stay n listed)) (λ n listed. ap blocks_named (stay n listed))

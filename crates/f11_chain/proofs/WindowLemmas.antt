@@ -189,9 +189,6 @@ pub window-stays : (old new : Table) (f : ℕ) (w : Window) (more : List ℕ) �
 window-stays old new f w more grows is =
     subst (λ (blocks : List ℕ). StandsIn blocks (w.first - 1) (blocks_held w)) (sym grows) (row-stays (file_blocks old f) (blocks_held w) more (w.first - 1) is)
 
-pub window-stays-alike : (old new : Table) (f : ℕ) (w : Window) → file_blocks new f ≡ file_blocks old f → IsWindowOf old f w → IsWindowOf new f w
-window-stays-alike old new f w same is = subst (λ (blocks : List ℕ). StandsIn blocks (w.first - 1) (blocks_held w)) (sym same) is
-
 pub empty-window : (t : Table) (f : ℕ) → IsWindowOf t f empty_window
 empty-window t f = record {
   before = [];

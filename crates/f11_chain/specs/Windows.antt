@@ -1,8 +1,7 @@
 -- A header's retrieval pointers, and windows: a few of them in a row (Files-11 On-Disk Structure Level 1, "Map Area"; profile: seven).
-use Rattle.std.specs.Prelude.{◌≡◌, ℕ, ◌+◌, ◌-◌, ◌<◌, ◌≤◌, IsTrue, List, ◌++◌, length, replicate, take, drop, slice_range, All, Contains, Some, Result}
+use Rattle.std.specs.Prelude.{◌≡◌, ℕ, ◌+◌, ◌-◌, ◌<◌, ◌≤◌, IsTrue, List, ◌++◌, length, replicate, take, drop, slice_range, All, Some, Result}
 use Rattle.std.specs.List.{slice_get}
 use Rattle.f11_dev.specs.Disk.{Disk, Reads, Writes}
-use Rattle.f11_index.specs.Headers.{headers_of}
 use Rattle.f11_index.specs.IndexFile.{Index}
 use Rattle.f11_index.specs.Table.{Table, IsHeaderOf}
 use Rattle.f11_map.specs.HeaderBlock.{blocks_named, runs_named, segment_number}
@@ -38,7 +37,7 @@ pub record HoldsBlock (w : Window) (vbn : ℕ) : Type 0 where
   pub from : w.first ≤ vbn
   pub before : vbn < w.first + length (blocks_held w)
 
--- The runs of a window lie on a device of so many blocks; they are seven at most.
+-- The runs of a window lie on a device of so many blocks; they are seven at most, and its first block has a VBN.
 pub record LiesOn (w : Window) (blocks : ℕ) : Type 0 where
   pub few : w.used ≤ 7
   pub first : 0 < w.first
@@ -136,20 +135,11 @@ RowHas = (whole part : List ℕ) (at i : ℕ) → StandsIn whole at part → i <
 abbrev pub WindowHas : Type 0
 WindowHas = (t : Table) (f vbn lbn : ℕ) (w : Window) → IsWindowOf t f w → 0 < w.first → HoldsAt w vbn lbn → block_by_vbn t f vbn ≡ Some lbn
 
--- they are still where the file has more blocks, or none more
+-- they are still where the file has more blocks
 abbrev pub WindowStays : Type 0
 WindowStays =
     (old new : Table) (f : ℕ) (w : Window) (more : List ℕ) → file_blocks new f ≡ file_blocks old f ++ more → IsWindowOf old f w → IsWindowOf new f w
 
-abbrev pub WindowStaysAlike : Type 0
-WindowStaysAlike = (old new : Table) (f : ℕ) (w : Window) → file_blocks new f ≡ file_blocks old f → IsWindowOf old f w → IsWindowOf new f w
-
 -- an empty window is any file's
 abbrev pub EmptyWindowIs : Type 0
 EmptyWindowIs = (t : Table) (f : ℕ) → IsWindowOf t f empty_window
-
--- a file has the blocks that it had where its headers are those that it had, and name what they named
-abbrev pub FileNamesAlike : Type 0
-FileNamesAlike =
-    (old new : Table) (f : ℕ) → headers_of new f ≡ headers_of old f →
-    ((n : ℕ) → Contains (headers_of old f) n → blocks_named (new.header n) ≡ blocks_named (old.header n)) → file_blocks new f ≡ file_blocks old f

@@ -38,7 +38,5 @@ pub fn windows()
     ensures stands { windows.WindowStands }
     ensures has { windows.WindowHas }
     ensures stays { windows.WindowStays }
-    ensures alike { windows.WindowStaysAlike }
     ensures empty { windows.EmptyWindowIs }
-    ensures names { windows.FileNamesAlike }
 {}

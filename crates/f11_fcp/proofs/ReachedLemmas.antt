@@ -20,7 +20,7 @@ use Rattle.f11_store.specs.declared.refusals.Refusal.TheVariants.{DeviceFault, V
 use Rattle.f11_volume.specs.Volume.{volume_of}
 use Rattle.f11_files.specs.Answers.{FailsToRead, IsRight, IsUnderWay, Meanwhile, is_fatal}
 use Rattle.f11_files.specs.Finding.Blocks.{FailsToStore, ReadsBlock, StoresBlock, block_work}
-use Rattle.f11_files.specs.Finding.Windows.{FailsToReadBy, FindsFileWindow, HasWindow, IsOfTransfer, IsWindowOn, ReadsBy}
+use Rattle.f11_files.specs.Finding.Windows.{FailsToReadBy, FindsFileWindow, HasWindow, IsOfFailure, IsWindowOn, ReadsBy}
 use Rattle.f11_files.specs.Open.{IsIdFrom, disk_in, home_in, is_honest, store_in}
 use Rattle.f11_files.specs.Operations.{length_causes}
 use Rattle.f11_files.proofs.AnswerLemmas.{reads-looked, reads-more, right-fault}
@@ -122,7 +122,7 @@ module _ (home : HomeFields) (e : Entry) (vbn : ℕ) (w : Window) (old mid : Dis
       }
 
   -- the refusal is that of a transfer
-  pub is-fault : {failed : Bool} (refusal : Refusal) → failed ≡ false → IsOfTransfer failed refusal → refusal ≡ DeviceFault
+  pub is-fault : {failed : Bool} (refusal : Refusal) → failed ≡ false → IsOfFailure failed refusal → refusal ≡ DeviceFault
   is-fault refusal alive why = go why.only
     where
       go : (refusal ≡ VolumeFailed) ⊎ (refusal ≡ DeviceFault) → refusal ≡ DeviceFault
@@ -155,7 +155,7 @@ module _ (home : HomeFields) (e : Entry) (vbn : ℕ) (w : Window) (old mid : Dis
     }
 
     -- or not
-    pub unstored-through : {failed was : Bool} (refusal : Refusal) → was ≡ false → failed ≡ false → IsOfTransfer failed refusal → new.transfers ≤ mid.transfers + 1
+    pub unstored-through : {failed was : Bool} (refusal : Refusal) → was ≡ false → failed ≡ false → IsOfFailure failed refusal → new.transfers ≤ mid.transfers + 1
         → FailsToStore failed home e.file vbn block refusal mid new → FailsToStore was home e.file vbn block refusal old new
     unstored-through {failed} {was} refusal alive still why few fails = record {
       right = right refusal alive (is-fault refusal still why);

@@ -17,9 +17,8 @@ use Rattle.f11_files.specs.GrowingIndex.Runs.{GrowsIndexFile}
 use Rattle.f11_files.specs.Open.{disk_in, home_in, is_honest}
 use Rattle.f11_files.specs.Removing.Delete.{Deletes}
 use Rattle.f11_files.specs.Removing.Truncate.{Cuts}
-use Rattle.f11_files.specs.Rows.{KeepsRows}
+use Rattle.f11_files.specs.Rows.{KeepsRows, no_number, this_number}
 use Rattle.f11_files.specs.declared.files.Files.{Files}
-use Rattle.f11_image_store.specs.Confines.{no_header, only_header}
 use Rattle.f11_fcp.specs.Windows.{LeavesRows}
 use Rattle.f11_fcp.proofs.WindowLemmas.{rows-then, sound-in}
 
@@ -49,24 +48,24 @@ module _ {D : Type 0} {met : Ghosts D} (old new : Files D met) (image : IsImage 
   pub grown-leaves : (n : ℕ) → GrowsIndexFile (home_in old) n (disk_in old) (disk_in new) → LeavesRows old new
   grown-leaves n does honest = grown-rows (home_in old) n (disk_in old) (disk_in new) (before honest) (after does.writes.went.honest honest) honest does
 
-  pub cut-leaves : (f : FileId) (to : ℕ) → Cuts (home_in old) f to (disk_in old) (disk_in new) → is_honest old → KeepsRows (only_header f.number) (home_in old) (disk_in old).image (disk_in new).image
+  pub cut-leaves : (f : FileId) (to : ℕ) → Cuts (home_in old) f to (disk_in old) (disk_in new) → is_honest old → KeepsRows (this_number f.number) (home_in old) (disk_in old).image (disk_in new).image
   cut-leaves f to does honest = cut-rows (home_in old) f to (disk_in old) (disk_in new) (before honest) (after does.writes.went.honest honest) honest does
 
-  pub deleted-leaves : (f : FileId) → Deletes (home_in old) f (disk_in old) (disk_in new) → is_honest old → KeepsRows (only_header f.number) (home_in old) (disk_in old).image (disk_in new).image
+  pub deleted-leaves : (f : FileId) → Deletes (home_in old) f (disk_in old) (disk_in new) → is_honest old → KeepsRows (this_number f.number) (home_in old) (disk_in old).image (disk_in new).image
   deleted-leaves f does honest = deleted-rows (home_in old) f (disk_in old) (disk_in new) (before honest) (after does.writes.went.honest honest) honest does
 
 -- one call after another
 pub leaves-then : {D : Type 0} {met : Ghosts D} (old mid new : Files D met) → home_in mid ≡ home_in old → (disk_in mid).honest ≡ (disk_in old).honest → LeavesRows old mid → LeavesRows mid new → LeavesRows old new
 leaves-then old mid new home same one two honest =
-    rows-then (one honest) (subst (λ (h : HomeFields). KeepsRows no_header h (disk_in mid).image (disk_in new).image) home (two (same ∙ honest)))
+    rows-then (one honest) (subst (λ (h : HomeFields). KeepsRows no_number h (disk_in mid).image (disk_in new).image) home (two (same ∙ honest)))
 
 -- behind a look
 pub leaves-behind : {D : Type 0} {met : Ghosts D} (old mid new : Files D met) → home_in mid ≡ home_in old → (disk_in mid).honest ≡ (disk_in old).honest → (disk_in mid).image ≡ (disk_in old).image → LeavesRows mid new → LeavesRows old new
 leaves-behind old mid new home same image two honest =
-    subst (λ (i : Image). KeepsRows no_header (home_in old) i (disk_in new).image) image (subst (λ (h : HomeFields). KeepsRows no_header h (disk_in mid).image (disk_in new).image) home (two (same ∙ honest)))
+    subst (λ (i : Image). KeepsRows no_number (home_in old) i (disk_in new).image) image (subst (λ (h : HomeFields). KeepsRows no_number h (disk_in mid).image (disk_in new).image) home (two (same ∙ honest)))
 
 pub cut-behind : {D : Type 0} {met : Ghosts D} (old mid new : Files D met) (f : FileId) → home_in mid ≡ home_in old → (disk_in mid).honest ≡ (disk_in old).honest → (disk_in mid).image ≡ (disk_in old).image
-    → (is_honest mid → KeepsRows (only_header f.number) (home_in mid) (disk_in mid).image (disk_in new).image) → is_honest old → KeepsRows (only_header f.number) (home_in old) (disk_in old).image (disk_in new).image
+    → (is_honest mid → KeepsRows (this_number f.number) (home_in mid) (disk_in mid).image (disk_in new).image) → is_honest old → KeepsRows (this_number f.number) (home_in old) (disk_in old).image (disk_in new).image
 cut-behind old mid new f home same image two honest =
-    subst (λ (i : Image). KeepsRows (only_header f.number) (home_in old) i (disk_in new).image) image
-    (subst (λ (h : HomeFields). KeepsRows (only_header f.number) h (disk_in mid).image (disk_in new).image) home (two (same ∙ honest)))
+    subst (λ (i : Image). KeepsRows (this_number f.number) (home_in old) i (disk_in new).image) image
+    (subst (λ (h : HomeFields). KeepsRows (this_number f.number) h (disk_in mid).image (disk_in new).image) home (two (same ∙ honest)))

@@ -25,12 +25,11 @@ use Rattle.f11_store.proofs.FateLaws.{held-at}
 use Rattle.f11_volume.specs.Sound.{HasSoundVolume}
 use Rattle.f11_files.specs.Answers.{ReadsAtMost, WritesAtMost, is_clean, is_fatal}
 use Rattle.f11_files.specs.Open.{disk_in, home_in, is_honest, store_in}
-use Rattle.f11_files.specs.Rows.{KeepsRows}
+use Rattle.f11_files.specs.Rows.{KeepsRows, no_number, this_number}
 use Rattle.f11_files.specs.declared.files.Files.{Files}
 use Rattle.f11_files.proofs.Finding.Windows.{is-there}
 use Rattle.f11_files.proofs.Opening.Kept.{accepted-opened}
 use Rattle.f11_image_store.specs.Allocation.{BeginsWith}
-use Rattle.f11_image_store.specs.Confines.{no_header, only_header}
 use Rattle.f11_image_store.specs.StoreOf.{store_of}
 use Rattle.f11_fcp.specs.Accesses.{Entry, HasAccessed, Table, access_of, accesses, any_mode, emptied_if, held_in, is_held_in, mark_kept, mark_there, marked_if, with_empty_windows, with_entry, with_marks, with_window}
 use Rattle.f11_fcp.specs.Handles.{Handles, IsOpen, State, store_at}
@@ -42,11 +41,11 @@ pub sound-in : {D : Type 0} {met : Ghosts D} (files : Files D met) → IsImage (
 sound-in files image honest = accepted-opened (disk_in files).image (home_in files) image (files.accepted honest) (files.home honest)
 
 -- an image has the rows that it has
-pub rows-same : (home : HomeFields) (old new : Image) → new ≡ old → KeepsRows no_header home old new
-rows-same home old new same = subst (λ (i : Image). KeepsRows no_header home old i) (sym same) record { there = λ f left file. file; rows = λ f left file. ([], sym (append-nil (file_blocks (table_of old home) f))) }
+pub rows-same : (home : HomeFields) (old new : Image) → new ≡ old → KeepsRows no_number home old new
+rows-same home old new same = subst (λ (i : Image). KeepsRows no_number home old i) (sym same) record { there = λ f left file. file; rows = λ f left file. ([], sym (append-nil (file_blocks (table_of old home) f))) }
 
 -- and one kept twice is kept
-pub rows-then : {home : HomeFields} {old mid new : Image} → KeepsRows no_header home old mid → KeepsRows no_header home mid new → KeepsRows no_header home old new
+pub rows-then : {home : HomeFields} {old mid new : Image} → KeepsRows no_number home old mid → KeepsRows no_number home mid new → KeepsRows no_number home old new
 rows-then {home} {old} {mid} {new} one two = record {
   there = λ f left file. two.there f left (one.there f left file);
   rows = λ f left file. go (file_blocks (table_of old home) f) (file_blocks (table_of mid home) f) (file_blocks (table_of new home) f) (one.rows f left file) (two.rows f left (one.there f left file));
@@ -108,7 +107,7 @@ empty-kept e files is = record {
 
 -- those of all accesses are kept
 pub windows-kept : {D : Type 0} {met : Ghosts D} (t : Table) (old new : Files D met) → length (disk_in new).image ≡ length (disk_in old).image → (is_honest new → is_honest old) → home_in new ≡ home_in old
-    → (is_honest old → HasAccessed t (store_in old)) → (is_honest new → KeepsRows no_header (home_in old) (disk_in old).image (disk_in new).image) → HasWindows t old → HasWindows t new
+    → (is_honest old → HasAccessed t (store_in old)) → (is_honest new → KeepsRows no_number (home_in old) (disk_in old).image (disk_in new).image) → HasWindows t old → HasWindows t new
 windows-kept t old new size back home kept rows has task lun e low small held =
     window-kept e old new size back
     (λ honest. begins-at old new e.file.number home ((rows honest).rows e.file.number refl (file-held t (disk_in old).image (home_in old) (kept (back honest)) task lun e low small held)))
@@ -133,7 +132,7 @@ same-file image home a b there there' number =
     (eq-eqb a.sequence b.sequence (sym (is-there image home a there).1 ∙ ap (last_sequence (table_of image home)) number ∙ (is-there image home b there').1))
 
 -- so one that isn't the same has another number
-apart : (image : Image) (home : HomeFields) (a b : FileId) → is_missing (store_of image home) a ≡ false → is_missing (store_of image home) b ≡ false → is_same a b ≡ false → only_header b.number a.number ≡ false
+apart : (image : Image) (home : HomeFields) (a b : FileId) → is_missing (store_of image home) a ≡ false → is_missing (store_of image home) b ≡ false → is_same a b ≡ false → this_number b.number a.number ≡ false
 apart image home a b there there' other = go (a.number == b.number) refl
   where
     go : (n : Bool) → (a.number == b.number) ≡ n → (a.number == b.number) ≡ false
@@ -152,7 +151,7 @@ other-file t s f nobody task lun e low small held = go (is_same e.file f) refl
 -- a file's blocks were cut, or it went: windows of accesses to others are kept
 module _ {D : Type 0} {met : Ghosts D} (t : Table) (old new : Files D met) (f : FileId) (size : length (disk_in new).image ≡ length (disk_in old).image) (back : is_honest new → is_honest old) (home : home_in new ≡ home_in old)
     (kept : is_honest old → HasAccessed t (store_in old)) (there : is_honest old → is_missing (store_in old) f ≡ false)
-    (rows : is_honest old → KeepsRows (only_header f.number) (home_in old) (disk_in old).image (disk_in new).image)
+    (rows : is_honest old → KeepsRows (this_number f.number) (home_in old) (disk_in old).image (disk_in new).image)
   where
     other-kept : (task lun : ℕ) (e : Entry) → task < 8 → lun < 4 → t task lun ≡ Some e → is_same e.file f ≡ false → KeepsWindow e old → KeepsWindow e new
     other-kept task lun e low small held other keeps =

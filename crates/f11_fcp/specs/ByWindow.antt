@@ -25,7 +25,7 @@ pub record StandsInWindow (t : Table) (task lun vbn : ℕ) : Type 0 where
   pub held : t task lun ≡ Some entry
   pub holds : HoldsBlock entry.window vbn
 
--- a block that stands in the window of its lun takes one transfer
+-- a block that stands in the window of its lun takes one transfer at most
 abbrev pub TakesOneTransfer : ℕ → Request → State → State → Type 0
 TakesOneTransfer task r old new =
     (lun vbn : ℕ) → block_of r ≡ Some (lun, vbn) → StandsInWindow old.table task lun vbn → new.disk.transfers ≤ old.disk.transfers + 1
@@ -37,6 +37,12 @@ pub record ReachesByWindow (task lun vbn : ℕ) (old new : State) : Type 0 where
   pub window : Window
   pub next : IsNextWindow old.home entry vbn window old.disk
   pub table_is : new.table ≡ with_entry old.table task lun (Some (with_window window entry))
+
+-- The file that a lun holds was cut: the windows of all accesses to it hold no run.
+pub record EmptiesWindows (task lun : ℕ) (old new : State) : Type 0 where
+  pub entry : Entry
+  pub held : old.table task lun ≡ Some entry
+  pub table_is : new.table ≡ with_empty_windows entry.file old.table
 
 -- An access was held before, to this file and with this window.
 pub record WasHeld (t : Table) (task lun : ℕ) (e : Entry) : Type 0 where
@@ -56,10 +62,10 @@ WindowsAfter task (request.Access f mode lun) old new =
     new.table ≡ with_entry old.table task lun (Some (record { file = f; mode = mode; marked = false; window = empty_window }))
 WindowsAfter task (request.ReadBlock lun vbn) old new = ReachesByWindow task lun vbn old new
 WindowsAfter task (request.WriteBlock lun vbn) old new = ReachesByWindow task lun vbn old new
-WindowsAfter task (request.Truncate lun to) old new = (e : Entry) → old.table task lun ≡ Some e → new.table ≡ with_empty_windows e.file old.table
+WindowsAfter task (request.Truncate lun to) old new = EmptiesWindows task lun old new
 WindowsAfter task _ old new = KeepsWindows old.table new.table
 
--- A request was served by windows, or refused; whatever refuses it without failing the volume leaves all as it was.
-pub record ServesByWindow {D : Type 0} {met : Ghosts D} (task : ℕ) (r : Request) (result : Result Reply Refusal) (old new : Volume D met) : Type 0 where
+-- A request was served, and so are windows then; a block that stands in one took one transfer at most, whatever was answered.
+pub record ServesWithWindows {D : Type 0} {met : Ghosts D} (task : ℕ) (r : Request) (result : Result Reply Refusal) (old new : Volume D met) : Type 0 where
   pub once : TakesOneTransfer task r (state_in old) (state_in new)
   pub after : OnOk result (WindowsAfter task r (state_in old) (state_in new))

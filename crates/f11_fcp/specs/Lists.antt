@@ -29,7 +29,7 @@ use Rattle.f11_store.specs.Run.{Answer, Call, Run}
 use Rattle.f11_store.specs.Store.{Store}
 use Rattle.f11_store.specs.declared.refusals.Refusal.{Refusal}
 use Rattle.f11_store.specs.declared.requests.Reply.{Reply}
-use Rattle.f11_fcp.specs.ByWindow.{ServesByWindow}
+use Rattle.f11_fcp.specs.ByWindow.{ServesWithWindows}
 use Rattle.f11_fcp.specs.Handles.{store_at}
 use Rattle.f11_fcp.specs.Serving.{Serving, StaysAccepted, is_spent, state_in}
 use Rattle.f11_fcp.specs.declared.call.Call.{Call as Listed}
@@ -66,11 +66,11 @@ AreAnswered (c ∷ old) (d ∷ new) = HasAnswer c d × AreAnswered old new
 AreAnswered [] (d ∷ new) = ⊥
 AreAnswered (c ∷ old) [] = ⊥
 
--- A call was served, as each request is, and where the disk is honest its image has no fault then.
+-- A call was served, as each request is, and so are windows; where the disk is honest its image has no fault then.
 pub record ServesCall {D : Type 0} {met : Ghosts D} (old : Volume D met) (c : Call) (a : Answer) (new : Volume D met) : Type 0 where
   pub serving : Serving c.task c.caller c.request a.result old new c.block a.block
   pub accepted : StaysAccepted (state_in new)
-  pub windows : ServesByWindow c.task c.request a.result old new
+  pub windows : ServesWithWindows c.task c.request a.result old new
 
 -- A call of a list was served, and has its answer.
 pub record IsServed {D : Type 0} {met : Ghosts D} (old : Volume D met) (c d : Listed) (new : Volume D met) : Type 0 where

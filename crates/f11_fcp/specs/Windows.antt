@@ -13,9 +13,8 @@ use Rattle.f11_store.specs.Store.{file_named}
 use Rattle.f11_files.specs.Answers.{ReadsAtMost}
 use Rattle.f11_files.specs.Finding.Windows.{HasWindow}
 use Rattle.f11_files.specs.Open.{disk_in, has_failed, home_in, is_honest, store_in}
-use Rattle.f11_files.specs.Rows.{KeepsRows}
+use Rattle.f11_files.specs.Rows.{KeepsRows, no_number}
 use Rattle.f11_files.specs.declared.files.Files.{Files}
-use Rattle.f11_image_store.specs.Confines.{no_header}
 use Rattle.f11_image_store.specs.StoreOf.{store_of}
 use Rattle.f11_fcp.specs.Accesses.{Entry, Table, with_window}
 
@@ -39,8 +38,8 @@ pub record IsHeld {D : Type 0} {met : Ghosts D} (e : Entry) (files : Files D met
   pub there : is_honest files → is_missing (store_in files) e.file ≡ false
   pub keeps : KeepsWindow e files
 
--- A window is the one by which an access reaches block `vbn` of its file: the one that it keeps, where the block stands in it, and else
--- that of the block.
+-- A window is the one by which an access reaches block `vbn` of its file: the one that it keeps, where the block stands in it, and else,
+-- where the disk is honest, that of the block.
 pub record IsNextWindow (home : HomeFields) (e : Entry) (vbn : ℕ) (w : Window) (old : Disk) : Type 0 where
   pub stays : HoldsBlock e.window vbn → w ≡ e.window
   pub filled : ¬ HoldsBlock e.window vbn → IsTrue old.honest → IsWindowAt (table_of old.image home) e.file.number vbn w
@@ -60,4 +59,4 @@ pub record KeepsNext {D : Type 0} {met : Ghosts D} (e : Entry) (vbn : ℕ) (w : 
 
 -- Each file has the blocks that it had, by VBN, and perhaps more behind them.
 abbrev pub LeavesRows : {D : Type 0} {met : Ghosts D} → Files D met → Files D met → Type 0
-LeavesRows old new = is_honest old → KeepsRows no_header (home_in old) (disk_in old).image (disk_in new).image
+LeavesRows old new = is_honest old → KeepsRows no_number (home_in old) (disk_in old).image (disk_in new).image

@@ -38,11 +38,12 @@ impl<D: Device> Volume<D> {
     ghost use Rattle.std.specs.Prelude.{true, IfOk, IfErr};
     ghost use Rattle.f11_files.specs.Opening.Opened.{FailsToOpen};
     ghost use Rattle.f11_vfy.specs.Accepted.{device_of};
-    ghost use Rattle.f11_fcp.specs.ByWindow.{ServesByWindow};
+    ghost use Rattle.f11_fcp.specs.ByWindow.{ServesWithWindows};
     ghost use Rattle.f11_fcp.specs.Mounting.{Mounts};
     ghost use Rattle.f11_fcp.specs.Serving.{Serving, StaysAccepted, device_in, is_spent, state_in};
 
-    /// Serves a request of a task.
+    /// Serves a request of a task. A block that stands in the window of its access is read or written without the file's headers, and its
+    /// window stays; one that doesn't leaves a window in which it stands.
     ///
     /// # Errors
     ///
@@ -58,7 +59,7 @@ impl<D: Device> Volume<D> {
     ) -> Result<Reply, Refusal>
         ensures serves { Serving task caller request.now result self.old self.new block.old block.new }
         ensures accepted { StaysAccepted (state_in self.new) }
-        ensures windows { ServesByWindow task request.now result self.old self.new }
+        ensures windows { ServesWithWindows task request.now result self.old self.new }
     {
         if self.failed {
             return Err(Refusal::VolumeFailed);

@@ -43,7 +43,7 @@ fn next_window<D: Device>(files: &mut Files<D>, held: &Held, vbn: u32) -> Result
 }
 
 /// Reads block `vbn` of the file of an access, from 1, and answers the window by which it was reached. Where the block stands in the window
-/// that the access keeps, that is one transfer.
+/// that the access keeps, that is one transfer at most.
 ///
 /// # Errors
 ///
@@ -81,7 +81,7 @@ pub(crate) fn read_by<D: Device>(
 }
 
 /// Writes block `vbn` of the file of an access, from 1, and answers the window by which it was reached. Where the block stands in the window
-/// that the access keeps, that is one transfer.
+/// that the access keeps, that is one transfer at most.
 ///
 /// # Errors
 ///

@@ -27,10 +27,9 @@ use Rattle.f11_volume.specs.Volume.{volume_of, IsLinked}
 use Rattle.f11_volume.proofs.FileLemmas.{image-files}
 use Rattle.f11_volume.proofs.MemberLemmas.{all-from}
 use Rattle.f11_image_store.specs.Allocation.{named_by, BeginsWith, GainsBlocksAs, KeepsBlocks, LosesBlocks, LosesHeaders, NamesMore}
-use Rattle.f11_image_store.specs.Confines.{no_header, only_header}
 use Rattle.f11_image_store.specs.StoreOf.{store_of}
 use Rattle.f11_image_store.proofs.KeptBlocksLemmas.{file-keeps-blocks, held-stored, is-stored}
-use Rattle.f11_files.specs.Rows.{AlteredKeepsRows, CreatedKeepsRows, CutKeepsRows, CutLeavesFile, DeletedKeepsRows, ExtendedKeepsRows, GrownKeepsRows, KeepsRows, ReplacedKeepsRows, StoredKeepsRows}
+use Rattle.f11_files.specs.Rows.{AlteredKeepsRows, CreatedKeepsRows, CutKeepsRows, DeletedKeepsRows, ExtendedKeepsRows, GrownKeepsRows, KeepsRows, ReplacedKeepsRows, StoredKeepsRows, no_number, this_number}
 use Rattle.f11_files.proofs.Finding.Windows.{is-there}
 
 -- the headers of a file of the plain store, where there is one
@@ -125,7 +124,7 @@ module _ (home : HomeFields) (old new : Image) (sound : HasSoundVolume old home)
 
   -- each file has the headers that it had, and each header names what it named
   rows-same : ((f : ℕ) → IsFile t f → HeldStays f) → KeepsBlocks (volume_of old home) (volume_of new home)
-      → KeepsRows no_header home old new
+      → KeepsRows no_number home old new
   unfolding volume_of
   rows-same held keeps = record {
     there = λ f _ file. there-still f file (held f file);
@@ -134,7 +133,7 @@ module _ (home : HomeFields) (old new : Image) (sound : HasSoundVolume old home)
 
   -- file f has blocks more behind its own
   rows-more : (f : ℕ) (ownership : Uic × ℕ) (lbns : List ℕ) → ((g : ℕ) → g ≢ f → HeldStays g) → NamesMore f ownership lbns t u
-      → KeepsRows no_header home old new
+      → KeepsRows no_number home old new
   rows-more f ownership lbns held names = record {
     there = λ g _ file. elim (cases_eq g f) [
       | inl same ↦ subst (IsFile u) (sym same) (file_of-header (names.headers f (first (subst (IsFile t) same file))))
@@ -148,13 +147,13 @@ module _ (home : HomeFields) (old new : Image) (sound : HasSoundVolume old home)
   }
 
   rows-gain : (f n : ℕ) (ownership : Uic × ℕ) → ((g : ℕ) → g ≢ f → HeldStays g)
-      → GainsBlocksAs f ownership n (volume_of old home) (volume_of new home) → KeepsRows no_header home old new
+      → GainsBlocksAs f ownership n (volume_of old home) (volume_of new home) → KeepsRows no_number home old new
   unfolding volume_of
   rows-gain f n ownership held gains = rows-more f ownership _ held gains.names
 
   -- headers of file f name less, or are gone
   rows-but : (f : ℕ) → ((g : ℕ) → g ≢ f → HeldStays g) → ((n : ℕ) → ¬ IsHeaderOf t f n → named_by u n ≡ named_by t n)
-      → KeepsRows (only_header f) home old new
+      → KeepsRows (this_number f) home old new
   rows-but f held names = record {
     there = λ g other file. there-still g file (held g (eqb-false g f other));
     rows = λ g other file.
@@ -163,12 +162,12 @@ module _ (home : HomeFields) (old new : Image) (sound : HasSoundVolume old home)
   }
 
   rows-cut : (f to : ℕ) → ((g : ℕ) → g ≢ f → HeldStays g) → LosesBlocks f to (volume_of old home) (volume_of new home)
-      → KeepsRows (only_header f) home old new
+      → KeepsRows (this_number f) home old new
   unfolding volume_of
   rows-cut f to held loses = rows-but f held loses.others
 
   rows-gone : (f : ℕ) → IsFile t f → ((g : ℕ) → g ≢ f → HeldStays g)
-      → LosesHeaders (headers_of t f) (volume_of old home) (volume_of new home) → KeepsRows (only_header f) home old new
+      → LosesHeaders (headers_of t f) (volume_of old home) (volume_of new home) → KeepsRows (this_number f) home old new
   unfolding volume_of
   rows-gone f file held loses = rows-but f held (λ n none.
       loses.names n
@@ -219,12 +218,6 @@ pub cut-rows : CutKeepsRows
 cut-rows home f to old new sound sound' honest does =
     rows-cut home old.image new.image sound sound' f.number to
     (held-cut (store_of old.image home) (store_of new.image home) f.number to (does.makes honest)) (does.allots honest)
-
-pub cut-there : CutLeavesFile
-cut-there home f to old new honest does =
-    let cut = does.makes honest in
-    is-stored new.image home f.number (take cut.headers cut.before.held)
-    (ap (λ (x : Store). held_of (x.file f.number)) cut.store_is ∙ held-here (store_of old.image home) f.number _)
 
 pub deleted-rows : DeletedKeepsRows
 deleted-rows home f old new sound sound' honest does =

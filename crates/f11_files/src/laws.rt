@@ -11,9 +11,8 @@ pub fn rows_kept()
     ensures grown { rows.GrownKeepsRows }
 {}
 
-/// After these, each but the one that is cut or deleted; and one that is cut is there.
+/// After these, each but the one that is cut or deleted.
 pub fn rows_lost()
     ensures cut { rows.CutKeepsRows }
-    ensures there { rows.CutLeavesFile }
     ensures deleted { rows.DeletedKeepsRows }
 {}

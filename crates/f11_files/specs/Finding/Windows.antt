@@ -48,14 +48,14 @@ pub record ReadsBy (home : HomeFields) (w : Window) (vbn : ℕ) (block : List �
   pub once : new ≡ with_transfer true old
   pub of_file : (f : FileId) → IsWindowOn home f w old → ReadsBlock home f vbn block old new
 
--- A call by a window is refused where the volume had failed, or the transfer did.
-pub record IsOfTransfer (failed : Bool) (refusal : Refusal) : Type 0 where
+-- A call by a window is refused where the volume had failed, or the transfer did, and for no other reason.
+pub record IsOfFailure (failed : Bool) (refusal : Refusal) : Type 0 where
   pub only : (refusal ≡ VolumeFailed) ⊎ (refusal ≡ DeviceFault)
   pub volume : refusal ≡ VolumeFailed → failed ≡ true
 
 -- It wasn't read.
 pub record FailsToReadBy (failed : Bool) (refusal : Refusal) (old new : Disk) : Type 0 where
-  pub why : IsOfTransfer failed refusal
+  pub why : IsOfFailure failed refusal
   pub looked : Looked old new 1 (faults_of refusal)
 
 -- Block `vbn` was written by a window, in one transfer: each file which has the window has this block there, and all else is as it was.
@@ -69,7 +69,7 @@ pub record StoresBy (home : HomeFields) (w : Window) (vbn : ℕ) (block : List �
 -- It wasn't written, and one transfer was made at most.
 pub record FailsToStoreBy (failed : Bool) (home : HomeFields) (w : Window) (vbn : ℕ) (block : List ℕ) (refusal : Refusal)
     (old new : Disk) : Type 0 where
-  pub why : IsOfTransfer failed refusal
+  pub why : IsOfFailure failed refusal
   pub few : new.transfers ≤ old.transfers + 1
   pub of_file : (f : FileId) → IsWindowOn home f w old → FailsToStore failed home f vbn block refusal old new
   pub confined : (f : FileId) → IsWindowOn home f w old → WritesBlocksOf f home old new

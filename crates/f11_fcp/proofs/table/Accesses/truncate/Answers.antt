@@ -3,9 +3,8 @@ use Rattle.f11_files.specs.Answers.{is_fatal}
 use Rattle.f11_files.specs.Open.{store_in}
 use Rattle.f11_fcp.specs.Handles.{state_of}
 use Rattle.f11_fcp.specs.Places.{table_of, entry_of}
-use Rattle.f11_fcp.specs.Accesses.{Entry, HasAccessed, Table, accesses, with_empty_windows}
+use Rattle.f11_fcp.specs.Accesses.{HasAccessed, Table, accesses}
 use Rattle.f11_fcp.specs.Windows.{HasWindows}
-use Rattle.std.proofs.lemmas.Option.{same_Some}
 use Rattle.f11_fcp.proofs.RowLemmas.{cut-leaves}
 use Rattle.f11_fcp.proofs.WindowLemmas.{accesses-emptied, handled-on, kept-emptied, windows-cut}
 use Rattle.f11_fcp.proofs.OpenLemmas.{stays-open, kept-after}
@@ -48,6 +47,4 @@ returns-in-Err-clause-open g c =
     (λ clean. c.in-Err.ensures.answers.next ∙ ap (λ b. b || is_fatal c.in-Err.refusal) c.requires.open.alive ∙ of-accessed-clean c.in-Err.refusal (ap is_fatal (sym c.of_accessed.ensures) ∙ clean)) tt
 
 pub returns-in-Ok-clause-windows : goal.returns-in-Ok-clause-windows
-returns-in-Ok-clause-windows g c = λ e held.
-    c.empty_windows.ensures
-    ∙ ap (λ (x : Entry). with_empty_windows x.file (table_of c.args.self.now)) (same_Some (entry_of c.in-Some.held) e (sym c.in-Some.ensures.some.0 ∙ held))
+returns-in-Ok-clause-windows g c = record { entry = entry_of c.in-Some.held; held = c.in-Some.ensures.some.0; table_is = c.empty_windows.ensures }
