@@ -283,7 +283,7 @@ fn records_come_and_go(rt: HostRuntime) -> Result<(), Fail> {
 }
 
 /// Whether the files of the first two luns are extended by a block each in turn, so many times.
-fn extends_in_turn<D: Device>(volume: &mut Volume<D>, times: u32) -> bool {
+pub fn extends_in_turn<D: Device>(volume: &mut Volume<D>, times: u32) -> bool {
     for blocks in 1..=times {
         for lun in [0, 1] {
             let answer = Ask::Extend(lun, 1).of(volume, 0, SYSTEM);
@@ -317,7 +317,7 @@ fn creates<D: Device>(volume: &mut Volume<D>, first: u16, last: u16) -> bool {
 }
 
 /// A directory, and a file beside it.
-const TWO_FILES: [Row; 4] = [
+pub const TWO_FILES: [Row; 4] = [
     (0, SYSTEM, Ask::CreateDirectory, MADE_SIX),
     (0, SYSTEM, Ask::Create, MADE_SEVEN),
     (0, SYSTEM, Ask::Access((6, 1), Mode::Write, 0), DONE),

@@ -124,6 +124,39 @@ fn a_transfer_of_extending_fails(rt: HostRuntime) -> Result<(), Fail> {
     Ok(())
 }
 
+/// A file with a block, which is read once: it stands in the window then.
+const READ: [Row; 4] = [
+    (0, SYSTEM, Ask::Create, Ok(Reply::Created(MADE))),
+    (
+        0,
+        SYSTEM,
+        Ask::Access(FIRST, Mode::Write, 0),
+        Ok(Reply::Done),
+    ),
+    (0, SYSTEM, Ask::Extend(0, 1), Ok(Reply::Length(1))),
+    (0, SYSTEM, Ask::Read(0, 1), Ok(Reply::Done)),
+];
+
+/// The transfer by that window fails.
+const NOT_READ: [Row; 1] = [(0, SYSTEM, Ask::Read(0, 1), Err(Refusal::DeviceFault))];
+
+const NOT_WRITTEN: [Row; 1] = [(0, SYSTEM, Ask::Write(0, 1), Err(Refusal::DeviceFault))];
+
+#[test]
+fn a_transfer_by_a_window_fails(rt: HostRuntime) -> Result<(), Fail> {
+    let device = volumes::fresh(rt.alloc(), 400)?;
+    let made = device.transfers();
+    let mut volume = mounted(rt.alloc(), device)?;
+    assert_eq!(rt; first_wrong(&mut volume, &READ), None);
+    let begun = volume.lent().transfers().saturating_sub(made);
+    for broken in [&NOT_READ, &NOT_WRITTEN] {
+        let device = volumes::fresh(rt.alloc(), 400)?;
+        let device = FailOnce::new(device, begun.saturating_add(1), true);
+        assert!(rt; fails_once(rt.alloc(), device, &READ, broken)?);
+    }
+    Ok(())
+}
+
 /// N.TXT;34 is entered into a directory whose block is full of records.
 const N34: Words = [22400, 0, 0, 32980, 0o34];
 
@@ -252,6 +285,22 @@ fn a_header_that_is_lost_is_damage(rt: HostRuntime) -> Result<(), Fail> {
     assert_eq!(rt; first_wrong(&mut volume, &EXTENDED), None);
     volume.lent().begin();
     let damaged: [Row; 1] = [(0, SYSTEM, Ask::Read(0, 1), Err(Refusal::Damaged))];
+    assert_eq!(rt; first_wrong(&mut volume, &damaged), None);
+    assert_eq!(rt; first_wrong(&mut volume, &LATER), None);
+    assert!(rt; volume.dismount().is_err());
+    Ok(())
+}
+
+#[test]
+fn a_header_that_is_lost_behind_a_window_is_damage(rt: HostRuntime) -> Result<(), Fail> {
+    let mut volume = mounted(rt.alloc(), Liar::new(volumes::fresh(rt.alloc(), 400)?, 8))?;
+    assert_eq!(rt; first_wrong(&mut volume, &READ), None);
+    volume.lent().begin();
+    // the block stands in the window, and the next one doesn't
+    let damaged: [Row; 2] = [
+        (0, SYSTEM, Ask::Read(0, 1), Ok(Reply::Done)),
+        (0, SYSTEM, Ask::Read(0, 2), Err(Refusal::Damaged)),
+    ];
     assert_eq!(rt; first_wrong(&mut volume, &damaged), None);
     assert_eq!(rt; first_wrong(&mut volume, &LATER), None);
     assert!(rt; volume.dismount().is_err());

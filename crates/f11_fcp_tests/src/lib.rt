@@ -14,3 +14,5 @@ mod failures;
 mod lists;
 #[cfg(test)]
 mod refusals;
+#[cfg(test)]
+mod windows;
