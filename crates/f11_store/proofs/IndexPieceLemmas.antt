@@ -19,14 +19,14 @@ as-index : (s : Store) (n : ℕ) → MayExtend s 1 n → s.slots + n ≤ s.limit
 as-index s n may within = record { is_file = may.is_file; no_mark = may.no_mark; no_cause = may.no_cause; within = within }
 
 -- a store with no slot more
-no-slots : (s : Store) → s ≡ with_more_slots s 0
+pub no-slots : (s : Store) → s ≡ with_more_slots s 0
 no-slots s = same-store s (with_more_slots s 0) (λ m. refl) refl (omega arith) (λ m. refl) (λ m. none m (s.last m)) refl refl refl refl
   where
     none : (m l : ℕ) → l ≡ (if nat_lt s.slots m && nat_le m (s.slots + 0) then 0 else l)
     none m l = grind (arith, nat_tests)
 
 -- slots are added twice
-slots-twice : (s : Store) (a b : ℕ) → with_more_slots (with_more_slots s a) b ≡ with_more_slots s (a + b)
+pub slots-twice : (s : Store) (a b : ℕ) → with_more_slots (with_more_slots s a) b ≡ with_more_slots s (a + b)
 slots-twice s a b =
     same-store (with_more_slots (with_more_slots s a) b) (with_more_slots s (a + b))
     (λ m. refl) refl (omega arith) (λ m. refl) (λ m. twice m (s.last m)) refl refl refl refl
@@ -37,7 +37,7 @@ slots-twice s a b =
     twice m l = grind (arith, nat_tests)
 
 -- a file that grows once slots were added, in headers that were free before: the slots may as well be added then
-grown-then-slots :
+pub grown-then-slots :
     (s : Store) (k a n : ℕ) (f : File) (blocks : List (List ℕ)) (added pointers room : ℕ) → added ≤ free_headers s →
     with_grown_file (with_more_slots s a) k f n blocks added pointers room ≡ with_more_slots (with_grown_file s k f n blocks added pointers room) a
 grown-then-slots s k a n f blocks added pointers room few =
@@ -74,7 +74,7 @@ pub none-grown : NoneIsGrown
 none-grown s n may = record { grown = s; grows = none-grows s 1 n (as-file s n may); store_is = no-slots s }
 
 -- the headers that the second piece takes are free after the first
-headers-left :
+pub headers-left :
     (s t u : Store) (k n a b : ℕ) (blocks more : List (List ℕ)) → MayExtend s k n → a + b ≤ n → (one : Grows s k a blocks t) (two : Grows t k b more u) →
     two.added ≤ free_headers t
 headers-left s t u k n a b blocks more may few one two =
@@ -129,7 +129,7 @@ pub fewer-grow : FewerMayGrow
 fewer-grow s n m may few = as-index s m (fewer-may s 1 n m (as-file s n may) few) (omega (arith, may.within, few))
 
 -- what may grow may where there are more slots
-may-more : (s : Store) (k n a : ℕ) → MayExtend s k n → MayExtend (with_more_slots s a) k n
+pub may-more : (s : Store) (k n a : ℕ) → MayExtend s k n → MayExtend (with_more_slots s a) k n
 may-more s k n a may =
     let has = has-room s (file_numbered s k) n may.no_cause in
     may-extend (with_more_slots s a) k n (file_numbered s k) may.is_file may.no_mark

@@ -23,3 +23,5 @@ pub mod PieceLemmas
 pub mod PieceLagLemmas
 pub mod IndexPieceLemmas
 pub mod IndexPieceLagLemmas
+pub mod GrowsLemmas
+pub mod GrowsLagLemmas

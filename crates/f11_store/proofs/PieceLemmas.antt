@@ -272,7 +272,7 @@ grows-add s t u k a b blocks more one two =
       refl,
     )
 
-zeros-add : (a b : ℕ) → zero_blocks a ++ zero_blocks b ≡ zero_blocks (a + b)
+pub zeros-add : (a b : ℕ) → zero_blocks a ++ zero_blocks b ≡ zero_blocks (a + b)
 unfolding zero_blocks
 zeros-add a b = replicate-append-replicate a b zero_block
 
