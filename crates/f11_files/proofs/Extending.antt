@@ -1,6 +1,8 @@
 -- A file that grows, from the room for it to the header that names its new blocks.
 pub mod Room
 pub mod Zero
+pub mod Reserved
+pub mod Written
 pub mod NameRun
 pub mod Clear
 pub mod LinkTail
@@ -15,6 +17,6 @@ pub mod Zeroed
 pub mod AppendRun
 pub mod TakenRun
 pub mod AddRun
-pub mod ExtendBy
+pub mod GrowBy
 pub mod Cleared
 pub mod Extend

@@ -1,3 +1,2 @@
 -- The index file, which grows: its new blocks are slots.
-pub mod Slots
 pub mod Runs

@@ -6,6 +6,7 @@ pub(crate) mod mark;
 pub(crate) mod name;
 pub(crate) mod room;
 pub(crate) mod runs;
+pub(crate) mod slots;
 pub(crate) mod tail;
 pub(crate) mod take;
 pub(crate) mod zeros;

@@ -1,5 +1,3 @@
 //! The index file, which grows: its new blocks are slots.
 
 pub(crate) mod room;
-pub(crate) mod runs;
-pub(crate) mod slots;

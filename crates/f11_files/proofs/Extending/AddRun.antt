@@ -5,13 +5,12 @@ use Rattle.f11_dev.specs.Disk.{Disk}
 use Rattle.f11_dev.specs.Image.{Image}
 use Rattle.f11_dev.proofs.WentLemmas.{went_weaker}
 use Rattle.f11_home.specs.Home.{HomeFields}
-use Rattle.f11_store.specs.Changes.{Extends}
 use Rattle.f11_store.specs.File.{need}
 use Rattle.f11_store.specs.Store.{Store}
 use Rattle.f11_store.specs.declared.refusals.Refusal.{Refusal}
 use Rattle.f11_volume.specs.Sound.{HasSoundVolume}
 use Rattle.f11_files.specs.Answers.{WritesAtMost, Breaks}
-use Rattle.f11_store.specs.Pieces.{with_more_free, file_numbered, MayExtend, TakesSome, ExtendsSome}
+use Rattle.f11_store.specs.Pieces.{with_more_free, file_numbered, TakesSome, GrowsAs, MayGrowAs}
 use Rattle.f11_files.specs.Extending.Runs.{AddsRun}
 use Rattle.f11_files.specs.Extending.Header.{AppendingRun, AppendsRun}
 use Rattle.f11_files.specs.Extending.Growing.{Taking, IsGrowing, GrowingBy, Grew}
@@ -23,9 +22,11 @@ use Rattle.f11_files.specs.declared.structure.Structure.{Structure}
 use Rattle.f11_files.specs.declared.extend.tail.Tail.{Tail}
 use Rattle.f11_files.proofs.Removing.Freeing.{breaks-behind, breaks-within, writes-none, writes-then, writes-within}
 use Rattle.f11_files.proofs.Extending.Growing.{takes-within, grew-behind, grew-within}
-use Rattle.f11_store.proofs.PieceLemmas.{may-free, fewer-may, taking-adds}
+use Rattle.f11_store.proofs.PieceLemmas.{may-free, taking-adds}
 use Rattle.f11_files.proofs.Extending.Take.{takes-blocks}
-use Rattle.f11_files.proofs.Extending.TakenRun.{run-cost, break-cost, store-mid, store-free, none-left, run-gained}
+use Rattle.f11_files.proofs.Extending.TakenRun.{run-cost, break-cost, store-mid, store-free, none-left, run-gained, slots-gained}
+use Rattle.f11_store.specs.Pieces.{GrowsSome}
+use Rattle.f11_store.proofs.GrowsLemmas.{fewer-may-as}
 
 -- what stands while a run is taken
 taking-grows : (s : Structure) (tail : Tail) (most : ℕ) (old : Disk) (image : Image) → Taking (home_of s) most 0 (store_on s old) old image → GrowingBy (home_of s) (store_on s old) tail.file.number most old image
@@ -44,7 +45,7 @@ fails-take s tail from most old new r breaks = record {
 }
 
 module _ (s t : Structure) (tail : Tail) (from most lbn count : ℕ) (old mid : Disk) (for : IsStructureFor s old) (last : HoldsLast s tail old)
-    (may : IsTrue old.honest → MayExtend (store_on s old) tail.file.number most) (takes : TakesRun s t from most lbn count old mid) (stays : StaysFor false s t mid) where
+    (may : IsTrue old.honest → MayGrowAs (store_on s old) tail.file.number most) (takes : TakesRun s t from most lbn count old mid) (stays : StaysFor false s t mid) where
   abbrev home : HomeFields
   home = home_of s
 
@@ -67,10 +68,10 @@ module _ (s t : Structure) (tail : Tail) (from most lbn count : ℕ) (old mid : 
   few = takes.within.asked
 
   enough : IsTrue old.honest → most ≤ st.free
-  enough honest = may-free st k most (may honest)
+  enough honest = may-free st k most (may honest).file
 
-  pub run-may : IsTrue mid.honest → MayExtend (with_more_free now count) k count
-  run-may honest = let before = was-honest honest in subst (λ (x : Store). MayExtend x k count) (sym (store-free s t tail from most lbn count old mid for last enough takes stays before)) (fewer-may st k most count (may before) few)
+  pub run-may : IsTrue mid.honest → MayGrowAs (with_more_free now count) k count
+  run-may honest = let before = was-honest honest in subst (λ (x : Store). MayGrowAs x k count) (sym (store-free s t tail from most lbn count old mid for last enough takes stays before)) (fewer-may-as st k most count (may before) few)
 
   -- images that stand meanwhile
   abbrev headers : ℕ
@@ -84,15 +85,15 @@ module _ (s t : Structure) (tail : Tail) (from most lbn count : ℕ) (old mid : 
 
   appending-moment : (image : Image) → AppendingRun t tail count mid image → P image
   appending-moment image is honest =
-      let here = subst (λ (h : HomeFields). IsGrowing h 0 (need (file_numbered now k).room count) (Extends (with_more_free now count) k count) now image) stays.home (is (takes.writes.went.honest ∙ honest)) in
+      let here = subst (λ (h : HomeFields). IsGrowing h 0 (need (file_numbered now k).room count) (GrowsAs (with_more_free now count) k count) now image) stays.home (is (takes.writes.went.honest ∙ honest)) in
       record { sound = here.sound; stage = stages honest (store_of image home) here.stage }
     where
-      stages : IsTrue old.honest → (u : Store) → TakesSome 0 (need (file_numbered now k).room count) now u ⊎ Extends (with_more_free now count) k count u → TakesSome most headers st u ⊎ ExtendsSome st k most u
+      stages : IsTrue old.honest → (u : Store) → TakesSome 0 (need (file_numbered now k).room count) now u ⊎ GrowsAs (with_more_free now count) k count u → TakesSome most headers st u ⊎ GrowsSome st k most u
       stages honest u (inl some) =
           let both = taking-adds st now u count 0 (need (file_numbered now k).room count) (subst (TakesSome count 0 st) (sym (store-mid s t tail from most lbn count old mid for last enough takes stays honest)) (takes-blocks st count count (omega arith))) some in
           let room = ap (λ (x : Store). (file_numbered x k).room) (store-mid s t tail from most lbn count old mid for last enough takes stays honest) in
           inl (takes-within (count + 0) most (need (file_numbered now k).room count) headers st u (omega (arith, few)) (omega (arith, few, room)) both)
-      stages honest u (inr grew) = inr (count, few, subst (λ (x : Store). Extends x k count u) (store-free s t tail from most lbn count old mid for last enough takes stays honest) grew)
+      stages honest u (inr grew) = inr (count, few, subst (λ (x : Store). GrowsAs x k count u) (store-free s t tail from most lbn count old mid for last enough takes stays honest) grew)
 
   pub fails-append : (new : Disk) (r : Refusal) → Breaks (AppendingRun t tail count mid) (count + 4) r mid new → Breaks P (blocks_from (bitmap_in s) from + 5 * most + 3) r old new
   fails-append new r breaks =
@@ -103,6 +104,7 @@ module _ (s t : Structure) (tail : Tail) (from most lbn count : ℕ) (old mid : 
     file = given.file;
     last = given.last;
     bitmap = given.bitmap ∙ takes.bitmap;
+    left = let one = given.left in let two = takes.left in omega (arith, one, two);
     some = takes.within.some;
     asked = few;
     above = let above = takes.within.above in omega (arith, above);
@@ -111,6 +113,7 @@ module _ (s t : Structure) (tail : Tail) (from most lbn count : ℕ) (old mid : 
     gains =
         run-gained s t tail from most lbn count old mid for last enough takes stays u new k (ownership_of tail) given.bitmap given.grew.went.honest
         given.free given.names kept;
+    slots = slots-gained s t tail from most lbn count old mid for last enough takes stays new given.slots;
     grew = grew-within (λ _. run-cost (bitmap_in s) from lbn count takes.within.above takes.within.some takes.within.short)
         (grew-behind appending-moment (store-free s t tail from most lbn count old mid for last enough takes stays) taken (subst (λ (h : HomeFields). Grew (AppendingRun t tail count mid) h (with_more_free now count) k count (count + 1) mid new) stays.home given.grew));
   }

@@ -1,5 +1,5 @@
 -- A run of blocks that a file gets: it is made zeros, and its last header names it, or a new one.
-use Rattle.std.proofs.Common.{◌≡◌, ◌+◌, ◌<◌, ◌≤◌, ℕ, Bool, true, false, cond, IsTrue, inl, inr, refl, sym, ap, subst, ◌∙◌, arith}
+use Rattle.std.proofs.Common.{◌==◌, true, false, ◌≡◌, ◌+◌, ◌<◌, ◌≤◌, ℕ, Bool, cond, IsTrue, inl, inr, sym, ap, subst, ◌∙◌, arith}
 use Rattle.std.specs.List.{range_with_len}
 use Rattle.f11_dev.specs.Disk.{Disk}
 use Rattle.f11_dev.specs.Image.{Image}
@@ -9,7 +9,6 @@ use Rattle.f11_home.specs.Home.{HomeFields}
 use Rattle.f11_map.specs.MapArea.{runs_of}
 use Rattle.f11_index.specs.Table.{Table, table_of}
 use Rattle.f11_map.specs.MapWriting.{joins_last}
-use Rattle.f11_store.specs.Changes.{Extends}
 use Rattle.f11_store.specs.File.{need}
 use Rattle.f11_store.specs.Store.{Store}
 use Rattle.f11_store.specs.declared.refusals.Refusal.{Refusal}
@@ -17,46 +16,45 @@ use Rattle.f11_store.specs.declared.refusals.Refusal.TheVariants.{DeviceFault}
 use Rattle.f11_volume.specs.Sound.{HasSoundVolume}
 use Rattle.f11_volume.specs.Volume.{volume_of}
 use Rattle.f11_writes.specs.NameLaws.{AreUnreferenced}
-use Rattle.f11_image_store.specs.Allocation.{NamesMore}
+use Rattle.f11_image_store.specs.Allocation.{NamesMore, AddsZeroSlots}
 use Rattle.f11_files.specs.Answers.{WritesAtMost, Breaks}
-use Rattle.f11_store.specs.Pieces.{with_more_free, file_numbered, MayExtend, TakesSome, with_zeros_more}
+use Rattle.f11_store.specs.Pieces.{with_more_free, file_numbered, TakesSome, GrowsAs, MayGrowAs, with_blocks_named}
 use Rattle.f11_files.specs.Extending.Header.{AppendingRun, AppendsRun}
 use Rattle.f11_image_store.specs.FileLaws.{room_in}
 use Rattle.f11_files.specs.Extending.Growing.{Grew, GrowingInto, SameFree}
 use Rattle.f11_image_store.specs.StoreOf.{store_of}
 use Rattle.f11_files.specs.Structure.{bitmap_in, home_of, store_on, IsStructureFor, StaysFor}
-use Rattle.f11_files.specs.Extending.Tail.{HoldsLast, Naming, NamesRun, FailsToName, HasNoPlace, pointers_more, whose, ownership_of}
+use Rattle.f11_files.specs.Extending.Tail.{HoldsLast, Naming, NamesRun, FailsToName, HasNoPlace, pointers_more, whose, ownership_of, MayBeGiven}
 use Rattle.f11_files.specs.Extending.Zeros.{Keeping, Zeroes, FailsToZero}
 use Rattle.f11_files.specs.declared.structure.Structure.{Structure}
 use Rattle.f11_files.specs.declared.extend.tail.Tail.{Tail}
 use Rattle.f11_files.proofs.Removing.Freeing.{breaks-behind, breaks-within}
 use Rattle.f11_files.proofs.Extending.Growing.{breaks-fault, went-writes, takes-none, room-here, into-same, grew-behind}
-use Rattle.f11_store.proofs.PieceLemmas.{named-extends}
-use Rattle.f11_files.proofs.Extending.Zeroed.{free-mid}
-
--- what is kept of a volume where the last header names them
-pub named-stays : {s : Structure} {tail after : Tail} {lbn count : ℕ} {old new : Disk} → NamesRun s tail after lbn count old new → StaysFor false s s new
-named-stays names = record { home = refl; lies = λ _. names.is_for.lies; sound = names.is_for.sound; keeps = λ _. names.is_for.keeps }
+use Rattle.f11_files.proofs.Extending.Zeroed.{free-mid, now-for, now-last, now-given}
+use Rattle.f11_index.specs.Kept.{room}
+use Rattle.f11_files.proofs.Extending.AppendRun.{at-most-one}
+use Rattle.f11_files.specs.Extending.Slots.{GetsBlocks, MayCome}
+use Rattle.f11_store.proofs.GrowsLemmas.{named-as}
 
 -- no run takes two pointers
 pub at-most-one : (b : Bool) → cond b 0 1 ≤ 1
 at-most-one true = omega arith
 at-most-one false = omega arith
 
-module _ (s : Structure) (tail : Tail) (lbn count : ℕ) (old : Disk) (for : IsStructureFor s old) (last : HoldsLast s tail old) (own : 4 ≤ tail.file.number) (within : lbn + count ≤ (bitmap_in s).size) (some : 0 < count)
-    (few : count ≤ 256) (unreferenced : IsTrue old.honest → AreUnreferenced (volume_of old.image (home_of s)) lbn count)
-    (may : IsTrue old.honest → MayExtend (with_more_free (store_on s old) count) tail.file.number count) where
+module _ (s : Structure) (tail : Tail) (lbn count : ℕ) (old : Disk) (for : IsStructureFor s old) (last : HoldsLast s tail old) (within : lbn + count ≤ (bitmap_in s).size) (some : 0 < count)
+    (few : count ≤ 256) (unreferenced : IsTrue old.honest → AreUnreferenced (volume_of old.image (home_of s)) lbn count) (reserved : IsTrue (tail.file.number == 1) → count ≤ room s.index)
+    (may : IsTrue old.honest → MayGrowAs (with_more_free (store_on s old) count) tail.file.number count) where
   abbrev home : HomeFields
   home = home_of s
-
-  abbrev k : ℕ
-  k = tail.file.number
 
   abbrev st : Store
   st = store_on s old
 
   abbrev free : Store
   free = with_more_free st count
+
+  abbrev k : ℕ
+  k = tail.file.number
 
   abbrev P : Image → Type 0
   P = AppendingRun s tail count old
@@ -89,83 +87,115 @@ module _ (s : Structure) (tail : Tail) (lbn count : ℕ) (old : Disk) (for : IsS
     same : IsTrue old.honest → store_on s mid ≡ st
     same honest = (zeroed.keeps honest).store
 
-    pub mid-may : IsTrue mid.honest → MayExtend (with_more_free (store_on s mid) count) k count
-    mid-may honest = let before = was-honest honest in subst (λ (x : Store). MayExtend (with_more_free x count) k count) (sym (same before)) (may before)
+    mid-may : IsTrue mid.honest → MayGrowAs (with_more_free (store_on s mid) count) k count
+    mid-may honest = let before = was-honest honest in subst (λ (x : Store). MayGrowAs (with_more_free x count) k count) (sym (same before)) (may before)
+
+    pub mid-come : MayCome s k count mid
+    mid-come = record { reserved = reserved; limit = λ honest. (mid-may honest).within }
 
     -- images that stand meanwhile
     into : (image : Image) → GrowingInto home (store_on s mid) (with_more_free (store_on s mid) count) k count mid image → P image
     into = into-same home st (store_on s mid) k count old mid zeroed.went.honest same
 
     -- it has no place for them, and nothing was done
-    module _ (now : Disk) (after : Tail) (full : HasNoPlace tail after lbn count mid now) where
-      pub now-own : 4 ≤ after.file.number
-      now-own = subst (λ (x : Tail). 4 ≤ x.file.number) (sym full.tail_is) own
+    module _ (now : Disk) (after : Tail) (full : HasNoPlace tail after lbn count mid now) (u : Structure) (same_is : u ≡ s) where
+      pub then-for : IsStructureFor u now
+      then-for = subst (λ (x : Structure). IsStructureFor x now) (sym same_is) (now-for s tail lbn count old mid for last within some few unreferenced zeroed now after full)
 
-      pub now-may : IsTrue now.honest → MayExtend (with_more_free (store_on s now) count) after.file.number count
-      now-may =
-          subst (λ (d : Disk). IsTrue d.honest → MayExtend (with_more_free (store_on s d) count) after.file.number count) (sym full.disk_is)
-          (subst (λ (x : Tail). IsTrue mid.honest → MayExtend (with_more_free (store_on s mid) count) x.file.number count) (sym full.tail_is) mid-may)
+      pub then-last : HoldsLast u after now
+      then-last = subst (λ (x : Structure). HoldsLast x after now) (sym same_is) (now-last s tail lbn count old mid for last within some few unreferenced zeroed now after full)
+
+      pub then-gets : GetsBlocks k → GetsBlocks after.file.number
+      then-gets gets = subst (λ (x : Tail). GetsBlocks x.file.number) (sym full.tail_is) gets
+
+      pub then-given : MayBeGiven (home_of u) lbn count now
+      then-given = subst (λ (x : Structure). MayBeGiven (home_of x) lbn count now) (sym same_is) (now-given s tail lbn count old mid for last within some few unreferenced zeroed now after full)
+
+      pub then-within : lbn + count ≤ (bitmap_in u).size
+      then-within = subst (λ (x : Structure). lbn + count ≤ (bitmap_in x).size) (sym same_is) within
+
+      pub then-reserved : IsTrue (after.file.number == 1) → count ≤ room u.index
+      then-reserved =
+          subst (λ (x : Structure). IsTrue (after.file.number == 1) → count ≤ room x.index) (sym same_is)
+          (subst (λ (x : Tail). IsTrue (x.file.number == 1) → count ≤ room s.index) (sym full.tail_is) reserved)
+
+      pub then-may : IsTrue now.honest → MayGrowAs (with_more_free (store_on u now) count) after.file.number count
+      then-may =
+          subst (λ (x : Structure). IsTrue now.honest → MayGrowAs (with_more_free (store_on x now) count) after.file.number count) (sym same_is)
+          (subst (λ (d : Disk). IsTrue d.honest → MayGrowAs (with_more_free (store_on s d) count) after.file.number count) (sym full.disk_is)
+          (subst (λ (x : Tail). IsTrue mid.honest → MayGrowAs (with_more_free (store_on s mid) count) x.file.number count) (sym full.tail_is) mid-may))
 
       -- a new header names them
-      pub appends-header : (t : Structure) (later : Tail) (new : Disk) → AppendsRun s t after later lbn count 1 now new → AppendsRun s t tail later lbn count (count + 1) old new
-      appends-header t later new given = record {
-        file = given.file ∙ ap whose full.tail_is;
-        last = given.last;
-        bitmap = given.bitmap;
-        free = λ honest. given.free (ap (λ (d : Disk). d.honest) full.disk_is ∙ zeroed.went.honest ∙ honest) ∙ ap (λ (d : Disk). (volume_of d.image home).free) full.disk_is ∙ zeros-free honest;
-        names = λ honest.
-            subst (λ (x : Tail). NamesMore x.file.number (ownership_of x) (range_with_len lbn count) (table_of old.image home) (table_of new.image home))
-            full.tail_is
-            (subst (λ (t : Table). NamesMore after.file.number (ownership_of after) (range_with_len lbn count) t (table_of new.image home))
-            (ap (λ (d : Disk). table_of d.image home) full.disk_is ∙ zeros-table honest)
-            (given.names (ap (λ (d : Disk). d.honest) full.disk_is ∙ zeroed.went.honest ∙ honest)));
-        grew = grew-behind into (λ honest. ap (λ (x : Store). with_more_free x count) (same honest)) zeros-written
-            (subst (λ (x : Tail). Grew (AppendingRun s x count mid) home (with_more_free (store_on s mid) count) x.file.number count 1 mid new) full.tail_is
-            (subst (λ (d : Disk). Grew (AppendingRun s after count d) home (with_more_free (store_on s d) count) after.file.number count 1 d new) full.disk_is given.grew));
-      }
+      pub appends-header : (t : Structure) (later : Tail) (new : Disk) → AppendsRun u t after later lbn count 1 now new → AppendsRun s t tail later lbn count (count + 1) old new
+      appends-header t later new appends =
+          let given = subst (λ (x : Structure). AppendsRun x t after later lbn count 1 now new) same_is appends in
+          record {
+            file = given.file ∙ ap whose full.tail_is;
+            last = given.last;
+            bitmap = given.bitmap;
+            left = given.left;
+            free = λ honest. given.free (ap (λ (d : Disk). d.honest) full.disk_is ∙ zeroed.went.honest ∙ honest) ∙ ap (λ (d : Disk). (volume_of d.image home).free) full.disk_is ∙ zeros-free honest;
+            names = λ honest.
+                subst (λ (t : Table). NamesMore k (ownership_of tail) (range_with_len lbn count) t (table_of new.image home))
+                (ap (λ (d : Disk). table_of d.image home) full.disk_is ∙ zeros-table honest)
+                (subst (λ (x : Tail). NamesMore x.file.number (ownership_of x) (range_with_len lbn count) (table_of now.image home) (table_of new.image home)) full.tail_is
+                (given.names (ap (λ (d : Disk). d.honest) full.disk_is ∙ zeroed.went.honest ∙ honest)));
+            slots = λ honest.
+                subst (λ (t : Table). AddsZeroSlots t (table_of new.image home)) (ap (λ (d : Disk). table_of d.image home) full.disk_is ∙ zeros-table honest)
+                (given.slots (ap (λ (d : Disk). d.honest) full.disk_is ∙ zeroed.went.honest ∙ honest));
+            grew = grew-behind into (λ honest. ap (λ (x : Store). with_more_free x count) (same honest)) zeros-written
+                (subst (λ (x : Tail). Grew (AppendingRun s x count mid) home (with_more_free (store_on s mid) count) x.file.number count 1 mid new) full.tail_is
+                (subst (λ (d : Disk). Grew (AppendingRun s after count d) home (with_more_free (store_on s d) count) after.file.number count 1 d new) full.disk_is given.grew));
+          }
 
-      pub fails-header : (new : Disk) (r : Refusal) → Breaks (AppendingRun s after count now) 4 r now new → Breaks P (count + 4) r old new
+      pub fails-header : (new : Disk) (r : Refusal) → Breaks (AppendingRun u after count now) 4 r now new → Breaks P (count + 4) r old new
       fails-header new r breaks =
           breaks-behind into zeros-written
-          (subst (λ (x : Tail). Breaks (AppendingRun s x count mid) 4 r mid new) full.tail_is (subst (λ (d : Disk). Breaks (AppendingRun s after count d) 4 r d new) full.disk_is breaks))
+          (subst (λ (x : Tail). Breaks (AppendingRun s x count mid) 4 r mid new) full.tail_is
+          (subst (λ (d : Disk). Breaks (AppendingRun s after count d) 4 r d new) full.disk_is (subst (λ (x : Structure). Breaks (AppendingRun x after count now) 4 r now new) same_is breaks)))
+
+      pub then-stays : {failed : Bool} {t : Structure} {disk : Disk} → StaysFor failed u t disk → StaysFor failed s t disk
+      then-stays {failed = failed} {t = t} {disk = disk} stays = subst (λ (x : Structure). StaysFor failed x t disk) same_is stays
 
     -- the last header names them
     abbrev more : ℕ
     more = pointers_more tail.block lbn count
 
-    named : IsTrue old.honest → more ≤ room_in tail.block → (e : Extends free k count (with_zeros_more k more count st)) × (e.added ≡ 0)
+    named : IsTrue old.honest → more ≤ room_in tail.block → (e : GrowsAs free k count (with_blocks_named k more count st)) × (e.grows.added ≡ 0)
     named honest fits =
-        let room = room-here s tail old for last honest in
-        named-extends st k count more (may honest) some (at-most-one (joins_last (runs_of (map_area tail.block)) lbn count)) (omega (arith, room, fits))
+        let left = room-here s tail old for last honest in
+        named-as st k count more (may honest) some (at-most-one (joins_last (runs_of (map_area tail.block)) lbn count)) (omega (arith, left, fits))
 
     naming-moment : more ≤ room_in tail.block → (image : Image) → Naming s tail lbn count mid image → P image
     naming-moment fits image is honest =
         let here = is (zeroed.went.honest ∙ honest) in
-        record { sound = here.sound; stage = inr (subst (Extends free k count) (sym (here.store ∙ ap (with_zeros_more k more count) (same honest))) (named honest fits).0) }
+        record { sound = here.sound; stage = inr (subst (GrowsAs free k count) (sym (here.store ∙ ap (with_blocks_named k more count) (same honest))) (named honest fits).0) }
 
     pub fails-named : (new : Disk) → FailsToName s tail lbn count mid new → Breaks P (count + 4) DeviceFault old new
     fails-named new fails =
         breaks-within (λ _. omega arith)
         (breaks-behind (λ image is. is) zeros-written (breaks-fault (went-writes (went_weaker (Naming s tail lbn count mid) P (naming-moment fails.fits) fails.went))))
 
-    pub appends-named : (after : Tail) (new : Disk) → NamesRun s tail after lbn count mid new → AppendsRun s s tail after lbn count (count + 1) old new
-    appends-named after new names = record {
+    pub appends-named : (t : Structure) (after : Tail) (new : Disk) → NamesRun s t tail after lbn count mid new → AppendsRun s t tail after lbn count (count + 1) old new
+    appends-named t after new names = record {
       file = names.file_is;
       last = names.holds;
-      bitmap = refl;
+      bitmap = names.bitmap;
+      left = names.left;
       free = λ honest. names.free (zeroed.went.honest ∙ honest) ∙ zeros-free honest;
       names = λ honest.
           subst (λ (t : Table). NamesMore k (ownership_of tail) (range_with_len lbn count) t (table_of new.image home)) (zeros-table honest)
           (names.names (zeroed.went.honest ∙ honest));
+      slots = λ honest. subst (λ (t : Table). AddsZeroSlots t (table_of new.image home)) (zeros-table honest) (names.slots (zeroed.went.honest ∙ honest));
       grew = record {
-        extends = λ honest. (at honest).0;
+        grows = λ honest. (at honest).0;
         transfers = zeros-written.transfers + 1;
         went = went_more P zeros-written.went (went_weaker (Naming s tail lbn count mid) P (naming-moment names.fits) names.went);
         few = λ honest. let zeros = zeros-written.few honest in omega (arith, zeros);
       };
     }
       where
-        at : IsTrue old.honest → (e : Extends free k count (store_of new.image home)) × (e.added ≡ 0)
+        at : IsTrue old.honest → (e : GrowsAs free k count (store_of new.image home)) × (e.grows.added ≡ 0)
         at honest =
             let here = names.store (zeroed.went.honest ∙ honest) in
-            subst (λ (x : Store). (e : Extends free k count x) × (e.added ≡ 0)) (sym (here.store ∙ ap (with_zeros_more k more count) (same honest))) (named honest names.fits)
+            subst (λ (x : Store). (e : GrowsAs free k count x) × (e.grows.added ≡ 0)) (sym (here.store ∙ ap (with_blocks_named k more count) (same honest))) (named honest names.fits)

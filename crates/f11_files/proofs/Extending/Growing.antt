@@ -8,7 +8,6 @@ use Rattle.f11_home.specs.Home.{HomeFields}
 use Rattle.f11_map.specs.HeaderBlock.{segment_number}
 use Rattle.f11_index.specs.Table.{Table, table_of}
 use Rattle.f11_index.proofs.ChainLemmas.{file_of-header}
-use Rattle.f11_store.specs.Changes.{Extends}
 use Rattle.f11_store.specs.File.{File, no_file, need}
 use Rattle.f11_store.specs.Refusal.{refusal_number}
 use Rattle.f11_store.specs.Store.{Store}
@@ -18,7 +17,7 @@ use Rattle.f11_store.proofs.Frees.{same_limits}
 use Rattle.f11_volume.specs.Sound.{HasSoundVolume}
 use Rattle.f11_writes.specs.Kept.{file_in}
 use Rattle.f11_files.specs.Answers.{WritesAtMost, Breaks}
-use Rattle.f11_store.specs.Pieces.{with_more_free, file_numbered, TakesSome}
+use Rattle.f11_store.specs.Pieces.{with_more_free, file_numbered, GrowsAs, TakesSome}
 use Rattle.f11_image_store.specs.FileLaws.{room_in}
 use Rattle.f11_files.specs.Extending.Growing.{Taking, IsGrowing, Grew, GrowingInto}
 use Rattle.f11_image_store.specs.StoreOf.{as_seen, store_of}
@@ -89,19 +88,19 @@ module _ (s : Structure) (tail : Tail) (disk : Disk) (for : IsStructureFor s dis
 pub into-same : (home : HomeFields) (s t : Store) (k n : ℕ) (a b : Disk) → b.honest ≡ a.honest → (IsTrue a.honest → t ≡ s) → (image : Image) → GrowingInto home t (with_more_free t n) k n b image
     → GrowingInto home s (with_more_free s n) k n a image
 into-same home s t k n a b same store image is honest =
-    subst (λ (x : Store). IsGrowing home 0 (need (file_numbered x k).room n) (Extends (with_more_free x n) k n) x image) (store honest) (is (same ∙ honest))
+    subst (λ (x : Store). IsGrowing home 0 (need (file_numbered x k).room n) (GrowsAs (with_more_free x n) k n) x image) (store honest) (is (same ∙ honest))
 
 -- a file that grew after more was done
 module _ {P Q : Image → Type 0} {home : HomeFields} {s t : Store} {k n m most : ℕ} {a b c : Disk} (weaker : (image : Image) → Q image → P image) (store : IsTrue a.honest → t ≡ s) (one : WritesAtMost P m a b 0)
     (grew : Grew Q home t k n most b c) where
-  moved : IsTrue a.honest → (e : Extends s k n (store_of c.image home)) × (grew.transfers ≤ most + 3 * e.added)
+  moved : IsTrue a.honest → (e : GrowsAs s k n (store_of c.image home)) × (grew.transfers ≤ most + 3 * e.grows.added)
   moved honest =
       let there = one.went.honest ∙ honest in
-      subst (λ (x : Store). (e : Extends x k n (store_of c.image home)) × (grew.transfers ≤ most + 3 * e.added)) (store honest) (grew.extends there, grew.few there)
+      subst (λ (x : Store). (e : GrowsAs x k n (store_of c.image home)) × (grew.transfers ≤ most + 3 * e.grows.added)) (store honest) (grew.grows there, grew.few there)
 
   pub grew-behind : Grew P home s k n (m + most) a c
   grew-behind = record {
-    extends = λ honest. (moved honest).0;
+    grows = λ honest. (moved honest).0;
     transfers = one.transfers + grew.transfers;
     went = went_more P one.went (went_weaker Q P weaker grew.went);
     few = λ honest. let here = (moved honest).1 in let first = one.few honest in omega (arith, here, first);
@@ -110,7 +109,7 @@ module _ {P Q : Image → Type 0} {home : HomeFields} {s t : Store} {k n m most 
 -- in no more transfers
 pub grew-within : {P : Image → Type 0} {home : HomeFields} {s : Store} {k n most more : ℕ} {a b : Disk} → (IsTrue a.honest → most ≤ more) → Grew P home s k n most a b → Grew P home s k n more a b
 grew-within fewer grew = record {
-  extends = grew.extends;
+  grows = grew.grows;
   transfers = grew.transfers;
   went = grew.went;
   few = λ honest. let here = grew.few honest in let few = fewer honest in omega (arith, here, few);

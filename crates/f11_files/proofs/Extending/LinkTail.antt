@@ -1,7 +1,7 @@
 -- A file's last header that links on.
-use Rattle.std.proofs.Common.{◌≡◌, ◌⊎◌, ◌+◌, ◌-◌, ◌/◌, ◌<◌, ◌≤◌, ℕ, true, false, IsTrue, List, length, min, get_or, sym, ap, subst, ◌∙◌, arith}
+use Rattle.std.proofs.Common.{Bool, ◌++◌, ◌==◌, [], ◌≡◌, ◌⊎◌, ◌+◌, ◌-◌, ◌/◌, ◌<◌, ◌≤◌, ℕ, true, false, IsTrue, List, length, min, get_or, sym, ap, subst, ◌∙◌, arith, inl, inr, map, refl}
 use Rattle.std.proofs.Math.ListN.{set}
-use Rattle.std.proofs.lemmas.List.{get_or-drop}
+use Rattle.std.proofs.lemmas.List.{get_or-drop, append-nil}
 use Rattle.f11_dev.specs.Disk.{Disk, with_transfer, with_block_at}
 use Rattle.f11_dev.specs.Image.{Image}
 use Rattle.f11_dev.specs.Went.{Went}
@@ -15,31 +15,42 @@ use Rattle.f11_map.specs.MapArea.{blocks_in}
 use Rattle.f11_index.specs.Growth.{with_header, IsGoodFor}
 use Rattle.f11_map.specs.HeaderBlock.{segment_number, link_of, blocks_named}
 use Rattle.f11_index.specs.Headers.{IsLastOf}
-use Rattle.f11_index.specs.IndexFile.{Index, header_lbn}
+use Rattle.f11_index.specs.IndexFile.{Index, header_lbn, is_in_use}
 use Rattle.f11_index.specs.Table.{Table, table_of, IsLive, IsNext}
 use Rattle.f11_index.proofs.ChainLemmas.{live_of-header}
-use Rattle.f11_store.specs.Changes.{with_change}
+use Rattle.f11_store.specs.Changes.{with_change, with_more_slots}
 use Rattle.f11_store.specs.declared.files.FileId.{FileId}
-use Rattle.f11_volume.specs.Sound.{HasSoundVolume}
 use Rattle.f11_volume.specs.Volume.{Volume, volume_of}
-use Rattle.f11_writes.specs.Kept.{WritesHeader}
 use Rattle.f11_writes.specs.Volumes.{MayName, MayBecome, links_anew}
 use Rattle.f11_writes.proofs.HeaderLemmas.{file-rewrite-keeps}
 use Rattle.f11_writes.proofs.NameLemmas.{own-names}
-use Rattle.f11_image_store.specs.Allocation.{LinksFileless}
-use Rattle.f11_image_store.specs.FileLaws.{SaysAlike, HasPointersMore, LinksOnTo, with_header_more}
+use Rattle.f11_image_store.specs.Allocation.{LinksFileless, AddsZeroSlots}
+use Rattle.f11_image_store.specs.FileLaws.{SaysAlike, HasPointersMore, LinksOnTo, with_header_more, HasSlotsMore, with_header_linked}
 use Rattle.f11_files.specs.Extending.Growing.{SameFree}
-use Rattle.f11_files.specs.Extending.Link.{MayFollow, Linking, LinksTail}
-use Rattle.f11_files.specs.Structure.{index_in, home_of, store_on, FitsOn, IsStructureOf, IsStructureFor}
+use Rattle.f11_files.specs.Extending.Link.{MayFollow, Linking, LinksTail, NamesThese, with_header_of, with_run_linked}
+use Rattle.f11_files.specs.Structure.{index_in, home_of, store_on, IsStructureFor, StaysFor, bitmap_in}
 use Rattle.f11_files.specs.Extending.Tail.{HoldsLast, HasStore}
 use Rattle.f11_files.specs.declared.structure.Structure.{Structure}
 use Rattle.f11_files.specs.declared.extend.tail.Tail.{Tail}
 use Rattle.f11_image_store.proofs.AllocationLemmas.{links-fileless}
-use Rattle.f11_files.proofs.Changing.Alter.{keeps-header}
-use Rattle.f11_image_store.proofs.FileLemmas.{as-header, file-linked, last-linked, m-stays, of-now}
+use Rattle.f11_image_store.proofs.FileLemmas.{file-linked, last-linked, m-stays, of-now, HasWritten}
 use Rattle.f11_files.proofs.Finding.First.{table-of}
 use Rattle.f11_image_store.proofs.InstanceLemmas.{file-stored}
-use Rattle.f11_files.proofs.Extending.NameRun.{valid-again, sequence-again, alike-again}
+use Rattle.f11_files.proofs.Extending.NameRun.{valid-again, sequence-again, alike-again, held-zeros}
+use Rattle.f11_files.specs.Extending.Slots.{GetsBlocks, MayCome, index_behind}
+use Rattle.f11_files.specs.Extending.Zeros.{HoldsZeros}
+use Rattle.f11_index.specs.declared.index_file.IndexFile.{IndexFile}
+use Rattle.f11_store.specs.Store.{Store}
+use Rattle.f11_files.proofs.Extending.Written.{WroteAs, are-none, are-slots, for-stays, has-written, image-is, in_use-behind, behind-for}
+use Rattle.f11_volume.specs.Contents.{block_or_zeros}
+use Rattle.f11_image_store.proofs.GrowthLemmas.{index-linked}
+use Rattle.f11_index.specs.Kept.{index_kept, room}
+use Rattle.f11_writes.proofs.GrowLemmas.{links-keep}
+use Rattle.f11_store.specs.Pieces.{new_blocks, with_slots_if}
+use Rattle.f11_store.specs.File.{File, zero_blocks}
+use Rattle.f11_files.proofs.GrowingIndex.SlotGrowth.{slots-more, slots-zero}
+use Rattle.f11_image_store.specs.StoreOf.{store_of}
+use Rattle.f11_files.proofs.GrowingIndex.ZeroSlots.{zero-grown, zero-header}
 
 -- a header that has another link
 module _ (was block : List ℕ) (id : FileId) (sets : SetsLink was block id) where
@@ -147,62 +158,115 @@ module _ (s : Structure) (tail : Tail) (block : List ℕ) (id : FileId) (old : D
       blocks = blocks-are;
     }
 
-  -- of a file that requests reach
-  module _ (own : 4 ≤ tail.file.number) where
+  module _ (gets : GetsBlocks tail.file.number) (lbn count : ℕ) (named : NamesThese s id lbn count old) (within : lbn + count ≤ (bitmap_in s).size)
+      (zeros : IsTrue old.honest → HoldsZeros old.image lbn count) (come : MayCome s tail.file.number count old) where
+    abbrev then : Store
+    then = with_run_linked s f id count old
+
+    on-device : lbn + count ≤ length old.image
+    on-device = let whole = for.lies.volume in omega (arith, within, whole)
+
     module _ (honest : IsTrue old.honest) where
-      pub wrote-link : WritesHeader n block home old.image next
-      wrote-link = file-rewrite-keeps old.image home (for.sound honest) n block f own (last.is_last honest).of (becomes honest)
+      live : IsLive t n
+      live = live_of-header (last.is_last honest).of
 
-      last-now : IsLastOf (table_of next home) f id.number
-      last-now = last-linked old.image next home f n id.number block (as-header n block home old.image next wrote-link) (links honest)
+      last-one : f ≡ 1 → IsLastOf t 1 n
+      last-one one = subst (λ (j : ℕ). IsLastOf t j n) one (last.is_last honest)
 
-      header-stays : (table_of next home).header id.number ≡ t.header id.number
-      header-stays = m-stays old.image next home f n id.number block (as-header n block home old.image next wrote-link) (links honest)
+      links-one : f ≡ 1 → LinksOnTo t 1 n id.number block
+      links-one one = subst (λ (j : ℕ). LinksOnTo t j n id.number block) one (links honest)
 
-      pub store-linked : HasStore home (with_change (store_on s old) f (with_header_more old.image t id.number)) next
-      store-linked =
-          let late : 2 ≤ f = omega (arith, own) in
-          record {
-            sound = wrote-link.slot.sound;
-            store = file-stored old.image next home n block wrote-link (good honest).sequence f (with_header_more old.image t id.number) own (last.is_last honest).of
-                (of-now old.image next home f n block (as-header n block home old.image next wrote-link) (links honest).stands)
-                (file-linked old.image next home f n id.number block late wrote-link (links honest));
-          }
+      wrote : (kind : GetsBlocks f) → WroteAs kind n block lbn count home old.image next
+      wrote (inl one) =
+          let one-links = links-one one in
+          links-keep old.image home n id.number block lbn count (for.sound honest)
+          (record {
+            last = last-one one;
+            few = one-links.early;
+            good = one-links.stands.good;
+            blocks = one-links.blocks;
+            number = one-links.number;
+            sequence = one-links.sequence;
+            to = one-links.to;
+            next_segment = one-links.next_segment;
+            no_link = one-links.no_link;
+            next_blocks = named honest;
+          })
+          on-device (becomes honest)
+      wrote (inr late) = file-rewrite-keeps old.image home (for.sound honest) n block f late (last.is_last honest).of (becomes honest)
+
+      written : HasWritten n block home old.image next
+      written = has-written gets n block lbn count home old.image next live (wrote gets)
+
+      -- as slots
+      index-slots : (one : f ≡ 1) → HasSlotsMore count t (table_of next home)
+      index-slots one = slots-more old.image home n block lbn count (for.sound honest) (last-one one).of (wrote (inl one)) on-device (zeros honest) (come.limit honest (are-slots one))
+
+      zero-slots : (kind : GetsBlocks f) → AddsZeroSlots t (table_of next home)
+      zero-slots (inl one) =
+          zero-grown old.image next home n block lbn count (wrote (inl one)) live.in_use (index-slots one).slots
+          (slots-zero old.image home n block lbn count (for.sound honest) (last-one one).of (wrote (inl one)) on-device (zeros honest) (come.limit honest (are-slots one)))
+      zero-slots (inr late) = zero-header old.image next home n block (wrote (inr late)) live.in_use
+
+      -- what the file has more
+      none-more : with_header_linked t id.number ≡ with_header_of t id.number []
+      none-more = λ i. λ g. record (with_header_linked t id.number g) { blocks = sym (append-nil g.blocks) i }
+
+      zeros-more : with_header_more old.image t id.number ≡ with_header_of t id.number (zero_blocks count)
+      zeros-more =
+          let hold = ap (map (block_or_zeros old.image)) (named honest) ∙ held-zeros old.image lbn count (zeros honest) in
+          λ i. λ g. record (with_header_linked t id.number g) { blocks = g.blocks ++ hold i }
+
+      store : (kind : GetsBlocks f) → store_of next home ≡ then
+      store (inl one) =
+          subst (λ (j : ℕ). store_of next home ≡ with_run_linked s j id count old) (sym one)
+          (index-linked old.image next home n id.number block lbn count (wrote (inl one)) (index-slots one) (links-one one)
+          ∙ ap (λ (change : File → File). with_more_slots (with_change (store_on s old) 1 change) count) none-more)
+      store (inr late) =
+          file-stored old.image next home n block (wrote (inr late)) (good honest).sequence f (with_header_more old.image t id.number) late (last.is_last honest).of
+          (of-now old.image next home f n block written (links honest).stands)
+          (file-linked old.image next home f n id.number block (omega (arith, late)) (wrote (inr late)) (links honest))
+          ∙ ap (with_change (store_on s old) f) zeros-more
+          ∙ ap (λ (slots : Bool). with_slots_if slots count (with_change (store_on s old) f (with_header_of t id.number (new_blocks slots count)))) (sym (are-none late))
+
+      has-store : HasStore home then next
+      has-store = record { sound = written.slot.sound; store = store gets }
 
     -- it is written
     module _ (place : ℕ) (new : Disk) (at : place ≡ header_lbn (index_in s) n) where
-      written-is : IsTrue old.honest → set old.image place block ≡ next
-      written-is honest = ap (λ (l : ℕ). set old.image l block) (at ∙ ap (λ (x : Index). header_lbn x n) (for.keeps honest).index_is)
+      moment : Linking s tail id count old (set old.image place block)
+      moment honest =
+          subst (HasStore home then) (ap (λ (x : Index). set old.image (header_lbn x n) block) (sym (for.keeps honest).index_is) ∙ ap (λ (l : ℕ). set old.image l block) (sym at))
+          (has-store honest)
 
-      moment : Linking s tail id old (set old.image place block)
-      moment honest = subst (HasStore home (with_change (store_on s old) f (with_header_more old.image t id.number))) (sym (written-is honest)) (store-linked honest)
+      pub fails-link : (new ≡ with_transfer false old) ⊎ (new ≡ with_transfer false (with_block_at place block old)) → Went (Linking s tail id count old) old new 1 1
+      fails-link is = went_failed_write (Linking s tail id count old) old new place block is moment
 
-      pub fails-link : (new ≡ with_transfer false old) ⊎ (new ≡ with_transfer false (with_block_at place block old)) → Went (Linking s tail id old) old new 1 1
-      fails-link is = went_failed_write (Linking s tail id old) old new place block is moment
-
-      module _ (is : new ≡ with_transfer true (with_block_at place block old)) where
-        went : Went (Linking s tail id old) old new 1 0
-        went = went_write (Linking s tail id old) old new place block is moment
+      module _ (after : IndexFile) (behind : index_kept after ≡ index_behind (tail.file.number == 1) (index_in s) lbn count) (left : room s.index ≤ room after + count)
+          (is : new ≡ with_transfer true (with_block_at place block old)) where
+        abbrev e : Structure
+        e = record s { index = after }
 
         image : IsTrue old.honest → new.image ≡ next
-        image honest = ap (λ (d : Disk). d.image) is ∙ written-is honest
+        image = image-is s after n block lbn count old new for within place at is
 
-        was-honest : IsTrue new.honest → IsTrue old.honest
-        was-honest honest = sym went.honest ∙ honest
+        pub links-stays : StaysFor false s e new
+        links-stays = for-stays refl (behind-for s after n block lbn count old new for within place at is gets behind (λ honest. wrote honest gets))
 
-        pub links-tail : LinksTail s tail id old new
+        pub links-tail : LinksTail s e tail id count old new
         links-tail = record {
-          is_for = record {
-            lies = subst (λ (k : ℕ). FitsOn s k) (sym went.size) for.lies;
-            sound = λ honest. let before = was-honest honest in subst (λ (i : Image). HasSoundVolume i home) (sym (image before)) (store-linked before).sound;
-            keeps = λ honest. let before = was-honest honest in subst (IsStructureOf s) (sym (image before)) (keeps-header s n block old.image next (wrote-link before) (for.keeps before));
-          };
-          is_last = λ honest. subst (λ (i : Image). IsLastOf (table_of i home) f id.number) (sym (image honest)) (last-now honest);
-          header_stays = λ honest. ap (λ (i : Image). (table_of i home).header id.number) (image honest) ∙ header-stays honest;
-          store = λ honest. subst (HasStore home (with_change (store_on s old) f (with_header_more old.image t id.number))) (sym (image honest)) (store-linked honest);
+          is_last = λ honest.
+              subst (λ (i : Image). IsLastOf (table_of i home) f id.number) (sym (image honest)) (last-linked old.image next home f n id.number block (written honest) (links honest));
+          header_stays = λ honest.
+              ap (λ (i : Image). (table_of i home).header id.number) (image honest) ∙ m-stays old.image next home f n id.number block (written honest) (links honest);
+          in_use = λ m used. subst (λ (x : Index). is_in_use x m ≡ true) (sym behind) (in_use-behind (f == 1) (index_in s) lbn count m s refl used);
+          bitmap = refl;
+          left = left;
           links = λ honest.
               subst (λ (i : Image). LinksFileless f id.number t (table_of i home)) (sym (image honest))
-              (links-fileless old.image next home f n id.number block (as-header n block home old.image next (wrote-link honest)) (links honest));
-          free = λ honest. subst (SameFree home old.image) (sym (image honest)) (ap (λ (v : Volume). v.free) (wrote-link honest).slot.volume);
-          went = went;
+              (links-fileless old.image next home f n id.number block (written honest) (links honest));
+          slots = λ honest. subst (λ (i : Image). AddsZeroSlots t (table_of i home)) (sym (image honest)) (zero-slots honest gets);
+          store = λ honest. subst (HasStore home then) (sym (image honest)) (has-store honest);
+          free = λ honest. subst (SameFree home old.image) (sym (image honest)) (ap (λ (v : Volume). v.free) (written honest).slot.volume);
+          went = went_write (Linking s tail id count old) old new place block is moment;
         }

@@ -1,5 +1,5 @@
 -- Blocks of zeros that a file's last header names.
-use Rattle.std.proofs.Common.{◌≡◌, ◌⊎◌, ◌+◌, ◌-◌, ◌/◌, ◌≤◌, ℕ, zero, suc, Bool, true, false, cond, IsTrue, List, [], ◌∷◌, ◌++◌, length, min, option_map, refl, sym, ap, subst, ◌∙◌, arith}
+use Rattle.std.proofs.Common.{[], ◌≡◌, ◌⊎◌, ◌+◌, ◌-◌, ◌/◌, ◌≤◌, ◌==◌, ℕ, zero, suc, Bool, true, false, cond, IsTrue, List, inl, inr, ◌∷◌, ◌++◌, length, min, option_map, refl, sym, ap, subst, ◌∙◌, arith}
 use Rattle.std.specs.List.{range_with_len}
 use Rattle.std.proofs.Math.ListN.{set}
 use Rattle.f11_dev.specs.Disk.{Disk, with_transfer, with_block_at}
@@ -16,34 +16,41 @@ use Rattle.f11_map.specs.MapArea.{runs_of}
 use Rattle.f11_map.specs.MapWriting.{joins, joins_last, with_blocks}
 use Rattle.f11_map.proofs.MapLemmas.{length-runs_of-le}
 use Rattle.f11_index.specs.Growth.{with_header, IsGoodFor}
+use Rattle.f11_index.specs.Kept.{index_kept, room}
+use Rattle.f11_index.specs.declared.index_file.IndexFile.{IndexFile}
 use Rattle.f11_map.specs.HeaderBlock.{segment_number, link_of, blocks_named}
 use Rattle.f11_index.specs.Headers.{IsLastOf}
-use Rattle.f11_index.specs.IndexFile.{Index, header_lbn}
-use Rattle.f11_index.specs.Table.{Table, table_of}
+use Rattle.f11_index.specs.IndexFile.{Index, header_lbn, is_in_use}
+use Rattle.f11_index.specs.Table.{Table, table_of, IsLive}
 use Rattle.f11_index.proofs.ChainLemmas.{live_of-header}
 use Rattle.f11_store.specs.Changes.{with_change}
 use Rattle.f11_store.specs.File.{zero_blocks}
-use Rattle.f11_volume.specs.Sound.{HasSoundVolume}
+use Rattle.f11_store.specs.Store.{Store}
 use Rattle.f11_volume.specs.Volume.{Volume, volume_of}
-use Rattle.f11_writes.specs.Kept.{WritesHeader}
 use Rattle.f11_writes.specs.Volumes.{MayName, MayBecome, links_to_none}
+use Rattle.f11_writes.proofs.GrowLemmas.{names-keep}
 use Rattle.f11_writes.proofs.HeaderLemmas.{file-rewrite-keeps}
 use Rattle.f11_writes.proofs.NameLemmas.{more-names}
-use Rattle.f11_image_store.specs.Allocation.{NamesMore}
-use Rattle.f11_image_store.specs.FileLaws.{SaysAlike, HasPointersMore, NamesMoreOf, held_from, room_in}
-use Rattle.f11_store.specs.Pieces.{with_more_blocks, with_zeros_more}
+use Rattle.f11_image_store.specs.Allocation.{AddsZeroSlots, NamesMore}
+use Rattle.f11_image_store.specs.FileLaws.{SaysAlike, HasPointersMore, HasSlotsMore, NamesMoreOf, held_from, room_in}
+use Rattle.f11_store.specs.Pieces.{new_blocks, with_blocks_named, with_more_blocks, with_slots_if}
 use Rattle.f11_files.specs.Extending.Growing.{SameFree}
-use Rattle.f11_files.specs.Structure.{index_in, home_of, store_on, FitsOn, IsStructureOf, IsStructureFor}
+use Rattle.f11_files.specs.Extending.Slots.{GetsBlocks, MayCome, index_behind}
+use Rattle.f11_files.specs.Structure.{index_in, bitmap_in, home_of, store_on, IsStructureFor, StaysFor}
 use Rattle.f11_files.specs.Extending.Tail.{HoldsLast, MayBeGiven, HasStore, pointers_more, Naming, NamesRun, FailsToName, ownership_of}
+use Rattle.f11_image_store.specs.StoreOf.{store_of}
 use Rattle.f11_files.specs.Extending.Zeros.{HoldsZeros}
 use Rattle.f11_files.specs.declared.structure.Structure.{Structure}
 use Rattle.f11_files.specs.declared.extend.tail.Tail.{Tail}
 use Rattle.f11_image_store.proofs.AllocationLemmas.{names-more}
-use Rattle.f11_files.proofs.Changing.Alter.{keeps-header}
 use Rattle.f11_image_store.proofs.FieldLemmas.{held-from}
-use Rattle.f11_image_store.proofs.FileLemmas.{as-header, of-now}
+use Rattle.f11_image_store.proofs.FileLemmas.{HasWritten, of-now}
+use Rattle.f11_image_store.proofs.GrowthLemmas.{index-more}
 use Rattle.f11_image_store.proofs.StepLemmas.{file-grows}
 use Rattle.f11_files.proofs.Finding.First.{table-of}
+use Rattle.f11_files.proofs.GrowingIndex.SlotGrowth.{slots-more, slots-zero}
+use Rattle.f11_files.proofs.GrowingIndex.ZeroSlots.{zero-grown, zero-header}
+use Rattle.f11_files.proofs.Extending.Written.{WroteAs, are-none, are-slots, for-stays, has-written, image-is, in_use-behind, behind-for}
 
 -- how many pointers there are with these blocks
 runs-more : (runs : List (ℕ × ℕ)) (lbn count : ℕ) → length (with_blocks runs lbn count) ≡ length runs + cond (joins_last runs lbn count) 0 1
@@ -183,78 +190,112 @@ module _ (s : Structure) (tail : Tail) (block : List ℕ) (lbn count : ℕ) (old
       blocks = blocks-are;
     }
 
-  -- of a file that requests reach
-  module _ (own : 4 ≤ tail.file.number) where
+  module _ (gets : GetsBlocks tail.file.number) (within : lbn + count ≤ (bitmap_in s).size) (come : MayCome s tail.file.number count old) where
+    abbrev then : Store
+    then = with_blocks_named f more count (store_on s old)
+
+    on-device : lbn + count ≤ length old.image
+    on-device = let whole = for.lies.volume in omega (arith, within, whole)
+
     module _ (honest : IsTrue old.honest) where
-      pub wrote-tail : WritesHeader n block home old.image next
-      wrote-tail = file-rewrite-keeps old.image home (for.sound honest) n block f own (last.is_last honest).of (becomes honest)
+      live : IsLive t n
+      live = live_of-header (last.is_last honest).of
 
-      pub store-named : HasStore home (with_zeros_more f more count (store_on s old)) next
-      store-named = record {
-        sound = wrote-tail.slot.sound;
-        store = file-grows old.image next home f n block more lbn count own wrote-tail (names honest)
-            ∙ ap (λ (bs : List (List ℕ)). with_change (store_on s old) f (with_more_blocks more bs)) (held-zeros old.image lbn count (given.zeros honest));
-      }
+      wrote : (kind : GetsBlocks f) → WroteAs kind n block lbn count home old.image next
+      wrote (inl one) =
+          let few = (names honest).stands.few in
+          let may : NamesMoreOf t 1 n block more lbn count = subst (λ (j : ℕ). NamesMoreOf t j n block more lbn count) one (names honest) in
+          names-keep old.image home n block lbn count (for.sound honest)
+          (record { last = subst (λ (j : ℕ). IsLastOf t j n) one (last.is_last honest); few = few; good = may.stands.good; no_link = may.no_link; blocks = may.blocks }) on-device (becomes honest)
+      wrote (inr late) = file-rewrite-keeps old.image home (for.sound honest) n block f late (last.is_last honest).of (becomes honest)
 
-      pub last-named : IsLastOf (table_of next home) f n
+      written : HasWritten n block home old.image next
+      written = has-written gets n block lbn count home old.image next live (wrote gets)
+
+      -- as slots
+      index-slots : (one : f ≡ 1) → HasSlotsMore count t (table_of next home)
+      index-slots one =
+          slots-more old.image home n block lbn count (for.sound honest) (subst (λ (j : ℕ). IsLastOf t j n) one (last.is_last honest)).of (wrote (inl one)) on-device
+          (given.zeros honest) (come.limit honest (are-slots one))
+
+      zero-slots : (kind : GetsBlocks f) → AddsZeroSlots t (table_of next home)
+      zero-slots (inl one) =
+          zero-grown old.image next home n block lbn count (wrote (inl one)) live.in_use (index-slots one).slots
+          (slots-zero old.image home n block lbn count (for.sound honest) (subst (λ (j : ℕ). IsLastOf t j n) one (last.is_last honest)).of (wrote (inl one)) on-device (given.zeros honest) (come.limit honest (are-slots one)))
+      zero-slots (inr late) = zero-header old.image next home n block (wrote (inr late)) live.in_use
+
+      store : (kind : GetsBlocks f) → store_of next home ≡ then
+      store (inl one) =
+          subst (λ (j : ℕ). store_of next home ≡ with_blocks_named j more count (store_on s old)) (sym one)
+          (index-more old.image next home n block more lbn count (wrote (inl one)) (index-slots one) (subst (λ (j : ℕ). NamesMoreOf t j n block more lbn count) one (names honest)))
+      store (inr late) =
+          file-grows old.image next home f n block more lbn count late (wrote (inr late)) (names honest)
+          ∙ ap (λ (bs : List (List ℕ)). with_change (store_on s old) f (with_more_blocks more bs)) (held-zeros old.image lbn count (given.zeros honest))
+          ∙ ap (λ (slots : Bool). with_slots_if slots count (with_change (store_on s old) f (with_more_blocks more (new_blocks slots count)))) (sym (are-none late))
+
+      has-store : HasStore home then next
+      has-store = record { sound = written.slot.sound; store = store gets }
+
+      last-named : IsLastOf (table_of next home) f n
       last-named = record {
-        of = of-now old.image next home f n block (as-header n block home old.image next wrote-tail) (names honest).stands;
-        no_link = ap (λ (b : List ℕ). (link_of b).number) wrote-tail.index_file.header ∙ no-link honest;
+        of = of-now old.image next home f n block written (names honest).stands;
+        no_link = ap (λ (b : List ℕ). (link_of b).number) written.header ∙ no-link honest;
       }
 
     -- it is written
     module _ (place : ℕ) (new : Disk) (at : place ≡ header_lbn (index_in s) n) where
-      written-is : IsTrue old.honest → set old.image place block ≡ next
-      written-is honest = ap (λ (l : ℕ). set old.image l block) (at ∙ ap (λ (x : Index). header_lbn x n) (for.keeps honest).index_is)
-
-      pub moment : Naming s tail lbn count old (set old.image place block)
-      moment honest = subst (HasStore home (with_zeros_more f more count (store_on s old))) (sym (written-is honest)) (store-named honest)
+      moment : Naming s tail lbn count old (set old.image place block)
+      moment honest =
+          subst (HasStore home then) (ap (λ (x : Index). set old.image (header_lbn x n) block) (sym (for.keeps honest).index_is) ∙ ap (λ (l : ℕ). set old.image l block) (sym at))
+          (has-store honest)
 
       pub fails-name : (new ≡ with_transfer false old) ⊎ (new ≡ with_transfer false (with_block_at place block old)) → FailsToName s tail lbn count old new
       fails-name is = record { fits = pointers-fit tail.block block lbn count appends; went = went_failed_write (Naming s tail lbn count old) old new place block is moment }
 
-      module _ (is : new ≡ with_transfer true (with_block_at place block old)) where
+      module _ (after : IndexFile) (behind : index_kept after ≡ index_behind (tail.file.number == 1) (index_in s) lbn count) (left : room s.index ≤ room after + count)
+          (is : new ≡ with_transfer true (with_block_at place block old)) where
+        abbrev e : Structure
+        e = record s { index = after }
+
         went : Went (Naming s tail lbn count old) old new 1 0
         went = went_write (Naming s tail lbn count old) old new place block is moment
 
         image : IsTrue old.honest → new.image ≡ next
-        image honest = ap (λ (d : Disk). d.image) is ∙ written-is honest
+        image = image-is s after n block lbn count old new for within place at is
 
         was-honest : IsTrue new.honest → IsTrue old.honest
         was-honest honest = sym went.honest ∙ honest
 
-        for-new : IsStructureFor s new
-        for-new = record {
-          lies = subst (λ (k : ℕ). FitsOn s k) (sym went.size) for.lies;
-          sound = λ honest. let before = was-honest honest in subst (λ (i : Image). HasSoundVolume i home) (sym (image before)) (store-named before).sound;
-          keeps = λ honest. let before = was-honest honest in subst (IsStructureOf s) (sym (image before)) (keeps-header s n block old.image next (wrote-tail before) (for.keeps before));
-        }
+        for-new : IsStructureFor e new
+        for-new = behind-for s after n block lbn count old new for within place at is gets behind (λ honest. wrote honest gets)
 
-        pub names-run : NamesRun s tail (record tail { block = block }) lbn count old new
+        pub names-stays : StaysFor false s e new
+        names-stays = for-stays refl for-new
+
+        pub names-run : NamesRun s e tail (record tail { block = block }) lbn count old new
         names-run = record {
           file_is = refl;
-          number_is = refl;
-          pointers = pointers-more tail.block block lbn count appends;
           fits = pointers-fit tail.block block lbn count appends;
           holds = record {
             header = record {
-              in_use = last.header.in_use;
+              in_use = subst (λ (x : Index). is_in_use x n ≡ true) (sym behind) (in_use-behind (f == 1) (index_in s) lbn count n s refl last.header.in_use);
               valid = valid;
               block_is = λ honest.
                   let before = was-honest honest in
-                  sym (wrote-tail before).index_file.header ∙ ap (λ (i : Image). (table_of i home).header n) (sym (image before))
-                  ∙ ap (λ (u : Table). u.header n) (sym (table-of s new for-new honest));
+                  sym (written before).header ∙ ap (λ (i : Image). (table_of i home).header n) (sym (image before))
+                  ∙ ap (λ (u : Table). u.header n) (sym (table-of e new for-new honest));
             };
             no_link = ap (λ l. l.number) (link-more tail.block block lbn count appends) ∙ last.no_link;
             few = let same = segment-more tail.block block lbn count appends in omega (arith, same, last.few);
             is_last = λ honest. let before = was-honest honest in subst (λ (i : Image). IsLastOf (table_of i home) f n) (sym (image before)) (last-named before);
           };
-          is_for = for-new;
-          store = λ honest. subst (HasStore home (with_zeros_more f more count (store_on s old))) (sym (image honest)) (store-named honest);
+          bitmap = refl;
+          left = left;
           names = λ honest.
               subst (λ (i : Image). NamesMore f (ownership_of tail) (range_with_len lbn count) t (table_of i home)) (sym (image honest))
-              (names-more old.image next home f n block more lbn count (as-header n block home old.image next (wrote-tail honest)) (names honest)
-              (ownership_of tail));
-          free = λ honest. subst (SameFree home old.image) (sym (image honest)) (ap (λ (v : Volume). v.free) (wrote-tail honest).slot.volume);
+              (names-more old.image next home f n block more lbn count (written honest) (names honest) (ownership_of tail));
+          slots = λ honest. subst (λ (i : Image). AddsZeroSlots t (table_of i home)) (sym (image honest)) (zero-slots honest gets);
+          store = λ honest. subst (HasStore home then) (sym (image honest)) (has-store honest);
+          free = λ honest. subst (SameFree home old.image) (sym (image honest)) (ap (λ (v : Volume). v.free) (written honest).slot.volume);
           went = went;
         }

@@ -1,5 +1,5 @@
--- A header more for a file, or for the index file, whose last one is full: what is so before it is linked to.
-use Rattle.std.proofs.Common.{◌≡◌, ◌+◌, ◌<◌, ◌≤◌, ℕ, IsTrue, length, inl, refl, subst, arith, ◌∙◌}
+-- A header more for a file whose last one is full: what is so before it is linked to.
+use Rattle.std.proofs.Common.{◌≡◌, ◌+◌, ◌<◌, ◌≤◌, ℕ, IsTrue, length, inl, refl, arith, ◌∙◌}
 use Rattle.f11_dev.specs.Disk.{Disk}
 use Rattle.f11_dev.specs.Image.{Image}
 use Rattle.f11_home.specs.Home.{HomeFields}
@@ -9,9 +9,10 @@ use Rattle.f11_store.specs.Store.{Store, free_headers, free_slots}
 use Rattle.f11_store.specs.declared.refusals.Refusal.{Refusal}
 use Rattle.f11_store.specs.declared.refusals.Refusal.TheVariants.{Damaged}
 use Rattle.f11_files.specs.Answers.{Breaks}
-use Rattle.f11_store.specs.Pieces.{with_more_free, file_numbered, MayExtend}
+use Rattle.f11_store.specs.Pieces.{with_more_free, file_numbered, MayGrowAs}
 use Rattle.f11_image_store.specs.FileLaws.{room_in}
-use Rattle.f11_files.specs.Extending.Growing.{Taking, Growing}
+use Rattle.f11_files.specs.Extending.Growing.{Taking}
+use Rattle.f11_files.specs.Extending.Header.{AppendingRun}
 use Rattle.f11_image_store.specs.StoreOf.{store_of}
 use Rattle.f11_files.specs.Structure.{home_of, store_on, IsStructureFor}
 use Rattle.f11_files.specs.Extending.Tail.{HoldsLast, MayBeGiven}
@@ -26,8 +27,8 @@ same-headers : (s : Store) (count : ℕ) → free_headers (with_more_free s coun
 unfolding free_slots
 same-headers s count = refl
 
-module _ (End : Store → Type 0) (s : Structure) (tail : Tail) (k lbn count : ℕ) (old : Disk) (for : IsStructureFor s old) (last : HoldsLast s tail old) (number : tail.file.number ≡ k) (given : MayBeGiven (home_of s) lbn count old)
-    (full : room_in tail.block ≡ 0) (may : IsTrue old.honest → MayExtend (with_more_free (store_on s old) count) k count) where
+module _ (s : Structure) (tail : Tail) (lbn count : ℕ) (old : Disk) (for : IsStructureFor s old) (last : HoldsLast s tail old) (given : MayBeGiven (home_of s) lbn count old)
+    (full : room_in tail.block ≡ 0) (may : IsTrue old.honest → MayGrowAs (with_more_free (store_on s old) count) tail.file.number count) where
   abbrev home : HomeFields
   home = home_of s
 
@@ -35,20 +36,20 @@ module _ (End : Store → Type 0) (s : Structure) (tail : Tail) (k lbn count : �
   st = store_on s old
 
   abbrev file : File
-  file = file_numbered st k
+  file = file_numbered st tail.file.number
 
   abbrev P : Image → Type 0
-  P = Growing home 0 (need file.room count) End st old
+  P = AppendingRun s tail count old
 
   module _ (honest : IsTrue old.honest) where
     pub no-room : file.room ≡ 0
-    no-room = subst (λ (j : ℕ). (file_numbered st j).room ≡ room_in tail.block) number (room-here s tail old for last honest) ∙ full
+    no-room = room-here s tail old for last honest ∙ full
 
     headers : length file.held ≡ segment_number tail.block + 1
-    headers = subst (λ (j : ℕ). length (file_numbered st j).held ≡ segment_number tail.block + 1) number (headers-here s tail old for last honest)
+    headers = headers-here s tail old for last honest
 
     has : HasRoom (with_more_free st count) file count
-    has = has-room (with_more_free st count) file count (may honest).no_cause
+    has = has-room (with_more_free st count) file count (may honest).file.no_cause
 
     needed : 1 ≤ need file.room count
     needed = omega (arith, no-room, given.some)

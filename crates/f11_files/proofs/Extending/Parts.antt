@@ -22,7 +22,7 @@ use Rattle.f11_files.specs.Extending.Mark.{ClearsMark}
 use Rattle.f11_image_store.specs.Confines.{no_header, only_header, new_header, either}
 use Rattle.f11_files.specs.Extending.Runs.{IsTailOf}
 use Rattle.f11_files.specs.Extending.Header.{TakesSlot}
-use Rattle.f11_files.specs.GrowingIndex.Slots.{HasSlotsBehind}
+use Rattle.f11_files.specs.Extending.Slots.{StaysBehind}
 use Rattle.f11_files.specs.Extending.Room.{FindsRoom}
 use Rattle.f11_files.specs.Structure.{index_in, home_of, ConfinesTo, IsStructureFor, WritesParts, StandsAlike, StandsWithin}
 use Rattle.f11_files.specs.Extending.Tail.{growth_headers, GrowsWithin, WritesGrowth}
@@ -31,7 +31,7 @@ use Rattle.f11_files.specs.declared.structure.Structure.{Structure}
 use Rattle.f11_files.specs.declared.extend.tail.Tail.{Tail}
 use Rattle.f11_files.proofs.Finding.First.{table-of}
 use Rattle.f11_files.proofs.Removing.Gone.{first-listed}
-use Rattle.f11_files.proofs.Confining.Parts.{at-in, bit-alike, fewer-free, grows-within, in-one, in-other, of-either, of-none, of-only, out-front, parts-looked, parts-then, reserved-alike, stands-along, stands-same, stands-within, to-parts, to-then, to-wider}
+use Rattle.f11_files.proofs.Confining.Parts.{at-in, bit-alike, fewer-free, in-one, in-other, of-either, of-none, of-only, out-front, parts-looked, parts-then, reserved-alike, stands-along, stands-same, stands-within, to-parts, to-then, to-wider}
 
 -- slots that aren't in use once one is taken weren't before
 number-new : (before after : Index) (n m : ℕ) → 0 < m → SetsBit true n before after → new_header after m ≡ true → new_header before m ≡ true
@@ -68,7 +68,7 @@ grows-linked s t tail n others taken one two =
     (to-parts s (growth_headers s tail) (new_header (index_in s)) others (of-new s tail) one) two
 
 -- then it is the last one
-pub grows-taken : (s t : Structure) (tail : Tail) (n : ℕ) (others : List ℕ) → TakesSlot s t n → StandsWithin s (growth_headers s tail) others t (either (only_header n) (new_header (index_in t)))
+grows-taken : (s t : Structure) (tail : Tail) (n : ℕ) (others : List ℕ) → TakesSlot s t n → StandsWithin s (growth_headers s tail) others t (either (only_header n) (new_header (index_in t)))
 grows-taken s t tail n others taken = stands-within s t (growth_headers s tail) (either (only_header n) (new_header (index_in t))) others (taken-headers s t tail n taken) (taken-alike s t n taken)
 
 -- the same headers
@@ -76,19 +76,23 @@ pub same-headers : (s after : Structure) (tail later : Tail) → later.number �
 same-headers s after tail later number bits n is =
     ap (λ (k : ℕ). (n == k) || not (bit_of_slot (index_in s).bitmap n)) (sym number) ∙ ap (λ (b : List (List ℕ)). (n == later.number) || not (bit_of_slot b n)) (sym bits) ∙ is
 
--- and the index file's, whose blocks are slots
-pub grows-behind : (s after : Structure) (tail later : Tail) (lbn count : ℕ) → later.number ≡ tail.number → HasSlotsBehind s after lbn count → GrowsWithin s tail (range_with_len lbn count) after later
-grows-behind s after tail later lbn count same behind = grows-within s after (growth_headers s tail) (growth_headers after later) lbn count (same-headers s after tail later same (ap (λ (x : Index). x.bitmap) behind.index)) behind.index behind.bitmap
+-- fewer headers, where each is where it was or is one of these blocks
+fewer-behind : (s after : Structure) (headers fewer : ℕ → Bool) (lbn count : ℕ) → StaysBehind s after lbn count → ((n : ℕ) → fewer n ≡ true → headers n ≡ true) → StandsWithin s headers (range_with_len lbn count) after fewer
+fewer-behind s after headers fewer lbn count behind may =
+    stands-along s after after headers headers fewer (range_with_len lbn count) [] (λ l _. refl) (behind.within headers) (stands-within after after headers fewer [] may (stands-same after))
 
--- a slot is taken, and then the blocks become slots
-pub grows-taken-behind : (s t u : Structure) (tail : Tail) (n lbn count : ℕ) → TakesSlot s t n → HasSlotsBehind t u lbn count
+pub grows-behind : (s after : Structure) (tail later : Tail) (lbn count : ℕ) → later.number ≡ tail.number → StaysBehind s after lbn count → GrowsWithin s tail (range_with_len lbn count) after later
+grows-behind s after tail later lbn count same behind = fewer-behind s after (growth_headers s tail) (growth_headers after later) lbn count behind (same-headers s after tail later same behind.bits)
+
+-- a slot is taken, and then the last header links to its
+pub grows-taken-behind : (s t u : Structure) (tail : Tail) (n lbn count : ℕ) → TakesSlot s t n → StaysBehind t u lbn count
     → StandsWithin s (growth_headers s tail) (range_with_len lbn count) u (either (only_header n) (new_header (index_in u)))
 grows-taken-behind s t u tail n lbn count taken behind =
     let run = range_with_len lbn count in
     let before = either (only_header n) (new_header (index_in t)) in
     let after = either (only_header n) (new_header (index_in u)) in
-    let same : (m : ℕ) → after m ≡ true → before m ≡ true = λ m is. ap (λ (x : Index). (m == n) || not (bit_of_slot x.bitmap m)) (sym behind.index) ∙ is in
-    stands-along s t u (growth_headers s tail) before after run run (λ l out. out) (grows-taken s t tail n run taken) (grows-within t u before after lbn count same behind.index behind.bitmap)
+    let same : (m : ℕ) → after m ≡ true → before m ≡ true = λ m is. ap (λ (b : List (List ℕ)). (m == n) || not (bit_of_slot b m)) (sym behind.bits) ∙ is in
+    stands-along s t u (growth_headers s tail) before after run run (λ l out. out) (grows-taken s t tail n run taken) (fewer-behind t u before after lbn count behind same)
 
 -- nothing is done
 pub grows-same : (s t : Structure) (tail later : Tail) (others : List ℕ) → t ≡ s → later.number ≡ tail.number → GrowsWithin s tail others t later

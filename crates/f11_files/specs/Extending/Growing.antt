@@ -5,9 +5,8 @@ use Rattle.f11_dev.specs.Disk.{Disk}
 use Rattle.f11_dev.specs.Image.{Image}
 use Rattle.f11_dev.specs.Went.{Went}
 use Rattle.f11_home.specs.Home.{HomeFields}
-use Rattle.f11_store.specs.Changes.{Extends}
 use Rattle.f11_store.specs.File.{need}
-use Rattle.f11_store.specs.Pieces.{TakesSome, ExtendsSome, file_numbered}
+use Rattle.f11_store.specs.Pieces.{TakesSome, GrowsAs, GrowsSome, file_numbered}
 use Rattle.f11_store.specs.Store.{Store}
 use Rattle.f11_volume.specs.Sound.{HasSoundVolume}
 use Rattle.f11_volume.specs.Volume.{volume_of}
@@ -31,20 +30,21 @@ pub record IsGrowing (home : HomeFields) (blocks headers : ℕ) (End : Store →
 abbrev pub Growing : HomeFields → ℕ → ℕ → (Store → Type 0) → Store → Disk → Image → Type 0
 Growing home blocks headers End s old image = IsTrue old.honest → IsGrowing home blocks headers End s image
 
--- File k of this store has n blocks of zeros more, after so many transfers at most and three for each header added.
+-- File k of this store has n blocks of zeros more, as slots where it is the index file, after so many transfers at most and three for
+-- each header added.
 pub record Grew (P : Image → Type 0) (home : HomeFields) (s : Store) (k n most : ℕ) (old new : Disk) : Type 0 where
-  pub extends : IsTrue old.honest → Extends s k n (store_of new.image home)
+  pub grows : IsTrue old.honest → GrowsAs s k n (store_of new.image home)
   pub transfers : ℕ
   pub went : Went P old new transfers 0
-  pub few : (honest : IsTrue old.honest) → transfers ≤ most + 3 * (extends honest).added
+  pub few : (honest : IsTrue old.honest) → transfers ≤ most + 3 * (grows honest).grows.added
 
 -- what stands while file k grows by n blocks or fewer of them
 abbrev pub GrowingBy : HomeFields → Store → ℕ → ℕ → Disk → Image → Type 0
-GrowingBy home s k n old = Growing home n (need (file_numbered s k).room n) (ExtendsSome s k n) s old
+GrowingBy home s k n old = Growing home n (need (file_numbered s k).room n) (GrowsSome s k n) s old
 
 -- and where the blocks were marked used before: of the store with them free
 abbrev pub GrowingInto : HomeFields → Store → Store → ℕ → ℕ → Disk → Image → Type 0
-GrowingInto home s free k n old = Growing home 0 (need (file_numbered s k).room n) (Extends free k n) s old
+GrowingInto home s free k n old = Growing home 0 (need (file_numbered s k).room n) (GrowsAs free k n) s old
 
 -- the blocks that are free in an image are those of another
 abbrev pub SameFree : HomeFields → Image → Image → Type 0

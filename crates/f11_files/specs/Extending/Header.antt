@@ -1,6 +1,6 @@
 -- A new last header of a file, and what is done with a run of blocks: the last header names them, or links to a new one that does (Files-11
 -- On-Disk Structure Level 1, "File Header" and "Map Area"; profile: what a header that is added says).
-use Rattle.std.specs.Prelude.{◌≡◌, ℕ, ◌+◌, true, IsTrue, List, [], ◌∷◌, replicate}
+use Rattle.std.specs.Prelude.{◌≡◌, [], ℕ, ◌+◌, ◌≤◌, true, IsTrue, List, ◌∷◌, replicate}
 use Rattle.std.specs.List.{range_with_len}
 use Rattle.f11_chain.specs.Calls.{HoldsHeader}
 use Rattle.f11_dev.specs.Disk.{Disk}
@@ -77,9 +77,11 @@ pub record AppendsRun (s after : Structure) (tail later : Tail) (lbn count most 
   pub file : whose later ≡ whose tail
   pub last : HoldsLast after later new
   pub bitmap : bitmap_in after ≡ bitmap_in s
+  pub left : room s.index ≤ room after.index + count
   pub free : IsTrue old.honest → SameFree (home_of s) old.image new.image
   pub names :
       IsTrue old.honest →
       NamesMore tail.file.number (ownership_of tail) (range_with_len lbn count) (table_of old.image (home_of s))
       (table_of new.image (home_of s))
+  pub slots : IsTrue old.honest → AddsZeroSlots (table_of old.image (home_of s)) (table_of new.image (home_of s))
   pub grew : Grew (AppendingRun s tail count old) (home_of s) (with_more_free (store_on s old) count) tail.file.number count most old new

@@ -4,6 +4,8 @@ use Rattle.f11_dev.specs.Disk.{Disk}
 use Rattle.f11_dev.specs.Image.{Image}
 use Rattle.f11_header.specs.Fields.{owner, protection}
 use Rattle.f11_home.specs.Home.{HomeFields}
+use Rattle.f11_index.specs.Kept.{room}
+use Rattle.f11_index.specs.Table.{table_of}
 use Rattle.f11_map.specs.HeaderBlock.{link_of, LinksToNone}
 use Rattle.f11_store.specs.Changes.{Extends}
 use Rattle.f11_store.specs.Cost.{growth_cost}
@@ -14,11 +16,11 @@ use Rattle.f11_store.specs.declared.callers.Uic.{Uic}
 use Rattle.f11_store.specs.declared.files.FileId.{FileId}
 use Rattle.f11_store.specs.declared.refusals.Refusal.{Refusal}
 use Rattle.f11_volume.specs.Volume.{volume_of}
-use Rattle.f11_image_store.specs.Allocation.{GainsBlocks, GainsBlocksAs}
+use Rattle.f11_image_store.specs.Allocation.{AddsZeroSlots, GainsBlocks, GainsBlocksAs}
 use Rattle.f11_files.specs.Answers.{Meanwhile, Does, FailsToWrite}
 use Rattle.f11_files.specs.Extending.Growing.{Grew, GrowingBy}
 use Rattle.f11_files.specs.Operations.{extend_causes}
-use Rattle.f11_store.specs.Pieces.{file_numbered}
+use Rattle.f11_store.specs.Pieces.{file_numbered, grow_work_of}
 use Rattle.f11_image_store.specs.StoreOf.{store_of}
 use Rattle.f11_files.specs.Structure.{bitmap_in, home_of, store_on}
 use Rattle.f11_files.specs.Extending.Tail.{HoldsLast, ownership_of, whose}
@@ -39,6 +41,7 @@ pub record AddsRun (s after : Structure) (tail later : Tail) (from most end coun
   pub file : whose later ≡ whose tail
   pub last : HoldsLast after later new
   pub bitmap : bitmap_in after ≡ bitmap_in s
+  pub left : room s.index ≤ room after.index + count
   pub some : 0 < count
   pub asked : count ≤ most
   pub above : from + count ≤ end
@@ -47,18 +50,20 @@ pub record AddsRun (s after : Structure) (tail later : Tail) (from most end coun
   pub gains :
       IsTrue old.honest → GainsBlocksAs tail.file.number (ownership_of tail) count (volume_of old.image (home_of s))
       (volume_of new.image (home_of s))
+  pub slots : IsTrue old.honest → AddsZeroSlots (table_of old.image (home_of s)) (table_of new.image (home_of s))
   pub grew :
       Grew (GrowingBy (home_of s) (store_on s old) tail.file.number most old) (home_of s) (store_on s old) tail.file.number count
       (end / 4096 - from / 4096 + 5 * count) old new
 
--- what stands while file k is extended by n blocks
-abbrev pub ExtendingBy : Structure → ℕ → ℕ → Disk → Image → Type 0
-ExtendingBy s k n old = Meanwhile (extend_work k (file_numbered (store_on s old) k).room n) (home_of s) old
+-- what stands while file k grows by n blocks
+abbrev pub GrowingByRuns : Structure → ℕ → ℕ → Disk → Image → Type 0
+GrowingByRuns s k n old = Meanwhile (grow_work_of k (file_numbered (store_on s old) k).room n) (home_of s) old
 
--- It was extended by them: headers that were added say this ownership.
-pub record ExtendsBy (s : Structure) (k : ℕ) (ownership : Uic × ℕ) (n : ℕ) (old new : Disk) : Type 0 where
+-- It has grown by them: headers that were added say this ownership.
+pub record GrowsByRuns (s : Structure) (k : ℕ) (ownership : Uic × ℕ) (n : ℕ) (old new : Disk) : Type 0 where
   pub gains : IsTrue old.honest → GainsBlocksAs k ownership n (volume_of old.image (home_of s)) (volume_of new.image (home_of s))
-  pub grew : Grew (ExtendingBy s k n old) (home_of s) (store_on s old) k n ((bitmap_in s).size / 4096 + 5 * n) old new
+  pub slots : IsTrue old.honest → AddsZeroSlots (table_of old.image (home_of s)) (table_of new.image (home_of s))
+  pub grew : Grew (GrowingByRuns s k n old) (home_of s) (store_on s old) k n ((bitmap_in s).size / 4096 + 5 * n) old new
 
 -- A file was extended by n blocks of zeros, the lowest free ones: one transfer less than the cost, which counts a look at its
 -- right. A header that was added says the owner and the protection of the file's first one.

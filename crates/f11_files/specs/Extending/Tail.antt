@@ -1,5 +1,5 @@
 -- A file's last header in hand, and the blocks that it is to name (Files-11 On-Disk Structure Level 1, "File Header" and "Map Area").
-use Rattle.std.specs.Prelude.{◌≡◌, ℕ, ◌^◌, ◌<◌, ◌≤◌, Bool, false, IsTrue, List, if◌then◌else◌}
+use Rattle.std.specs.Prelude.{◌≡◌, ℕ, ◌^◌, ◌+◌, ◌<◌, ◌≤◌, Bool, false, IsTrue, List, if◌then◌else◌}
 use Rattle.std.specs.List.{range_with_len}
 use Rattle.f11_dev.specs.Disk.{Disk}
 use Rattle.f11_dev.specs.Image.{Image}
@@ -18,13 +18,14 @@ use Rattle.f11_store.specs.declared.files.FileId.{FileId}
 use Rattle.f11_volume.specs.Sound.{HasSoundVolume}
 use Rattle.f11_volume.specs.Volume.{volume_of}
 use Rattle.f11_writes.specs.NameLaws.{AreUnreferenced}
-use Rattle.f11_image_store.specs.Allocation.{NamesMore}
-use Rattle.f11_image_store.specs.FileLaws.{HasPointersMore, room_in}
-use Rattle.f11_store.specs.Pieces.{with_zeros_more}
+use Rattle.f11_image_store.specs.Allocation.{AddsZeroSlots, NamesMore}
+use Rattle.f11_image_store.specs.FileLaws.{room_in}
+use Rattle.f11_index.specs.Kept.{room}
+use Rattle.f11_store.specs.Pieces.{with_blocks_named}
 use Rattle.f11_files.specs.Extending.Growing.{SameFree}
 use Rattle.f11_image_store.specs.StoreOf.{store_of}
 use Rattle.f11_image_store.specs.Confines.{only_header, new_header, either}
-use Rattle.f11_files.specs.Structure.{index_in, home_of, store_on, ConfinesTo, IsStructureFor, StandsWithin}
+use Rattle.f11_files.specs.Structure.{index_in, bitmap_in, home_of, store_on, ConfinesTo, StandsWithin}
 use Rattle.f11_files.specs.Extending.Zeros.{HoldsZeros}
 use Rattle.f11_files.specs.declared.structure.Structure.{Structure}
 use Rattle.f11_files.specs.declared.extend.tail.Tail.{Tail}
@@ -76,20 +77,20 @@ pointers_more block lbn count = if joins_last (runs_of (map_area block)) lbn cou
 abbrev pub Naming : Structure → Tail → ℕ → ℕ → Disk → Image → Type 0
 Naming s tail lbn count old image =
     IsTrue old.honest → HasStore (home_of s)
-    (with_zeros_more tail.file.number (pointers_more tail.block lbn count) count (store_on s old)) image
+    (with_blocks_named tail.file.number (pointers_more tail.block lbn count) count (store_on s old)) image
 
 -- The header names these blocks too, and was written.
-pub record NamesRun (s : Structure) (tail after : Tail) (lbn count : ℕ) (old new : Disk) : Type 0 where
-  pub file_is : whose after ≡ whose tail
-  pub number_is : after.number ≡ tail.number
-  pub pointers : HasPointersMore (pointers_more tail.block lbn count) tail.block after.block
+pub record NamesRun (s after : Structure) (tail later : Tail) (lbn count : ℕ) (old new : Disk) : Type 0 where
+  pub file_is : whose later ≡ whose tail
   pub fits : pointers_more tail.block lbn count ≤ room_in tail.block
-  pub holds : HoldsLast s after new
-  pub is_for : IsStructureFor s new
+  pub holds : HoldsLast after later new
+  pub bitmap : bitmap_in after ≡ bitmap_in s
+  pub left : room s.index ≤ room after.index + count
   pub names :
       IsTrue old.honest →
       NamesMore tail.file.number (ownership_of tail) (range_with_len lbn count) (table_of old.image (home_of s))
       (table_of new.image (home_of s))
+  pub slots : IsTrue old.honest → AddsZeroSlots (table_of old.image (home_of s)) (table_of new.image (home_of s))
   pub store : Naming s tail lbn count old new.image
   pub free : IsTrue old.honest → SameFree (home_of s) old.image new.image
   pub went : Went (Naming s tail lbn count old) old new 1 0

@@ -1,12 +1,15 @@
 //! A new last header of a file.
-ghost use Rattle.std.specs.Prelude.{◌≡◌, ◌<◌, ◌≤◌, ◌^◌, IfErr, IfOk, IsTrue, OnOk, []};
+ghost use Rattle.std.specs.Prelude.{◌≡◌, ◌+◌, ◌<◌, ◌≤◌, ◌==◌, ◌^◌, IfErr, IfOk, IsTrue, OnOk};
+ghost use Rattle.std.specs.List.{range_with_len};
 ghost use Rattle.f11_files.specs.Answers.{is_fatal, is_refused, Breaks};
 ghost use Rattle.f11_image_store.specs.Confines.{new_header};
-ghost use Rattle.f11_store.specs.Pieces.{with_more_free, MayExtend};
+ghost use Rattle.f11_store.specs.Pieces.{with_more_free, MayGrowAs};
 ghost use Rattle.f11_files.specs.Extending.Header.{AppendingRun, AppendsRun, EntersHeader, IsExtension, TakesSlot};
 ghost use Rattle.f11_image_store.specs.FileLaws.{room_in};
 ghost use Rattle.f11_files.specs.Extending.Growing.{Taking};
-ghost use Rattle.f11_files.specs.Structure.{home_of, index_in, store_on, IsStructureFor, StaysFor, WritesParts};
+ghost use Rattle.f11_files.specs.Extending.Slots.{GetsBlocks};
+ghost use Rattle.f11_index.specs.Kept.{room};
+ghost use Rattle.f11_files.specs.Structure.{bitmap_in, home_of, index_in, store_on, IsStructureFor, StaysFor, WritesParts};
 ghost use Rattle.f11_files.specs.Extending.Tail.{GrowsWithin, HoldsLast, MayBeGiven, WritesGrowth};
 ghost use Rattle.f11_header.specs.Header.{holds_header};
 ghost use Rattle.f11_map.specs.HeaderBlock.{segment_number};
@@ -22,7 +25,7 @@ use f11_map::in_hand;
 use f11_store::{FileId, Refusal};
 
 /// The segment number that the last header of a file has at most (profile: 256 headers).
-pub(crate) const LAST_SEGMENT: u8 = 255;
+const LAST_SEGMENT: u8 = 255;
 
 /// Makes a block the header of a file behind its last one, with these blocks alone.
 fn fill_extension(block: &mut Block, id: FileId, tail: &Tail, lbn: u32, count: u32)
@@ -99,8 +102,8 @@ impl Structure {
     }
 
     /// Gives a file a header more, behind its last one, which has no place left, with `count` blocks of zeros from `lbn` on, which no
-    /// header names: the header is written, its slot's bit, and then the link to it. It is the last one then. One read and three
-    /// writes.
+    /// header names: the header is written, its slot's bit, and then the link to it. It is the last one then, and where the file is
+    /// the index file, the blocks are slots. One read and three writes.
     ///
     /// # Errors
     ///
@@ -114,11 +117,13 @@ impl Structure {
     ) -> Result<(), Refusal>
         requires is_for { IsStructureFor self.old (D.disk device.old) }
         requires last { HoldsLast self.old tail.old (D.disk device.old) }
-        requires own { 4 ≤ tail.old.file.number }
+        requires gets { GetsBlocks tail.old.file.number }
         requires given { MayBeGiven (home_of self.old) lbn count (D.disk device.old) }
+        requires within { lbn + count ≤ (bitmap_in self.old).size }
         requires full { room_in tail.old.block ≡ 0 }
+        requires reserved { IsTrue (tail.old.file.number == 1) → count ≤ room self.old.index }
         requires may { let free = with_more_free (store_on self.old (D.disk device.old)) count in
-            IsTrue (D.disk device.old).honest → MayExtend free tail.old.file.number count }
+            IsTrue (D.disk device.old).honest → MayGrowAs free tail.old.file.number count }
         ensures appended { OnOk result (AppendsRun self.old self.new tail.old tail.new lbn count 1
             (D.disk device.old) (D.disk device.new)) }
         ensures refused { IfErr result (λ refusal. Breaks
@@ -126,16 +131,17 @@ impl Structure {
             (D.disk device.old) (D.disk device.new)) }
         ensures stays { StaysFor (is_refused is_fatal result) self.old self.new
             (D.disk device.new) }
-        ensures confined { WritesGrowth self.old tail.old [] (D.disk device.old)
-            (D.disk device.new) }
-        ensures places { OnOk result (GrowsWithin self.old tail.old [] self.new tail.new) }
+        ensures confined { WritesGrowth self.old tail.old (range_with_len lbn count)
+            (D.disk device.old) (D.disk device.new) }
+        ensures places { OnOk result
+            (GrowsWithin self.old tail.old (range_with_len lbn count) self.new tail.new) }
     {
         if in_hand::map(&tail.block).segment() == LAST_SEGMENT {
             return Err(Refusal::Damaged);
         }
         let mut block = [0; BLOCK_SIZE];
         let id = self.enter_header(device, tail, lbn, count, &mut block)?;
-        match self.link_tail(device, tail, id) {
+        match self.link_tail(device, tail, id, lbn, count) {
             Ok(()) => {}
             Err(_) => return Err(Refusal::DeviceFault),
         }

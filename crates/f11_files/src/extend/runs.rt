@@ -1,14 +1,16 @@
-//! A file that is extended: it gets more blocks, run by run, which are zeros.
-ghost use Rattle.std.specs.Prelude.{◌≡◌, ◌+◌, ◌-◌, ◌*◌, ◌/◌, ◌<◌, ◌≤◌, false, IfErr, IfOk, IsTrue, OnOk, [], true};
+//! A file that grows: it gets more blocks, run by run, which are zeros.
+ghost use Rattle.std.specs.Prelude.{◌≡◌, ◌+◌, ◌-◌, ◌*◌, ◌/◌, ◌<◌, ◌≤◌, ◌==◌, false, IfErr, IfOk, IsTrue, OnOk, true};
 ghost use Rattle.f11_bits.specs.Transfers.{blocks_from};
 ghost use Rattle.std.specs.List.{range_with_len};
 ghost use Rattle.f11_image_store.specs.Allocation.{free_list};
 ghost use Rattle.f11_files.specs.Answers.{is_fatal, is_clean, is_refused, Breaks, WritesMoreOf};
 ghost use Rattle.f11_image_store.specs.Confines.{either, new_header};
-ghost use Rattle.f11_store.specs.Pieces.{with_more_free, file_numbered, MayExtend};
-ghost use Rattle.f11_files.specs.Extending.Runs.{AddsRun, ExtendingBy, ExtendsBy, ExtendsFile, FailsToExtend, IsLengthAfter, IsTailOf};
+ghost use Rattle.f11_store.specs.Pieces.{with_more_free, file_numbered, MayGrowAs};
+ghost use Rattle.f11_files.specs.Extending.Runs.{AddsRun, ExtendsFile, FailsToExtend, GrowingByRuns, GrowsByRuns, IsLengthAfter, IsTailOf};
 ghost use Rattle.f11_files.specs.Extending.Header.{AppendingRun, AppendsRun};
 ghost use Rattle.f11_files.specs.Extending.Growing.{GrowingBy};
+ghost use Rattle.f11_files.specs.Extending.Slots.{GetsBlocks};
+ghost use Rattle.f11_index.specs.Kept.{room};
 ghost use Rattle.f11_files.specs.Structure.{counts_of, bitmap_in, home_of, store_on, index_in, IsStructureFor, StaysFor, ConfinesTo};
 ghost use Rattle.f11_files.specs.Extending.Tail.{GrowsWithin, HoldsLast, WritesGrowth, ownership_of};
 ghost use Rattle.f11_files.specs.Extending.Take.{NoneBelow};
@@ -48,7 +50,7 @@ pub(crate) fn tail_of(file: FileId, first: &Block, number: u16, last: &Block) ->
 
 impl Structure {
     /// Gives a file `count` blocks from `lbn` on, which are in use and named by no header: they are made zeros, and its last header names
-    /// them, or a new one that it links to then.
+    /// them, or a new one that it links to then. Where it is the index file they are slots.
     ///
     /// # Errors
     ///
@@ -62,13 +64,14 @@ impl Structure {
     ) -> Result<(), Refusal>
         requires is_for { IsStructureFor self.old (D.disk device.old) }
         requires last { HoldsLast self.old tail.old (D.disk device.old) }
-        requires own { 4 ≤ tail.old.file.number }
+        requires gets { GetsBlocks tail.old.file.number }
         requires within { lbn + count ≤ (bitmap_in self.old).size }
         requires few { (0 < count) × (count ≤ 256) }
         requires unreferenced { IsTrue (D.disk device.old).honest
             → AreUnreferenced (volume_of (D.disk device.old).image (home_of self.old)) lbn count }
+        requires reserved { IsTrue (tail.old.file.number == 1) → count ≤ room self.old.index }
         requires may { let free = with_more_free (store_on self.old (D.disk device.old)) count in
-            IsTrue (D.disk device.old).honest → MayExtend free tail.old.file.number count }
+            IsTrue (D.disk device.old).honest → MayGrowAs free tail.old.file.number count }
         ensures appended { OnOk result (AppendsRun self.old self.new tail.old tail.new lbn count
             (count + 1) (D.disk device.old) (D.disk device.new)) }
         ensures refused { IfErr result (λ refusal. Breaks
@@ -78,7 +81,8 @@ impl Structure {
             (D.disk device.new) }
         ensures confined { WritesGrowth self.old tail.old (range_with_len lbn count)
             (D.disk device.old) (D.disk device.new) }
-        ensures places { OnOk result (GrowsWithin self.old tail.old [] self.new tail.new) }
+        ensures places { OnOk result
+            (GrowsWithin self.old tail.old (range_with_len lbn count) self.new tail.new) }
     {
         match self.zero_run(device, lbn, count) {
             Ok(()) => {}
@@ -109,10 +113,11 @@ impl Structure {
     ) -> Result<(u32, u32), Refusal>
         requires is_for { IsStructureFor self.old (D.disk device.old) }
         requires last { HoldsLast self.old tail.old (D.disk device.old) }
-        requires own { 4 ≤ tail.old.file.number }
+        requires gets { GetsBlocks tail.old.file.number }
         requires some { 0 < most }
+        requires reserved { IsTrue (tail.old.file.number == 1) → most ≤ room self.old.index }
         requires may { IsTrue (D.disk device.old).honest
-            → MayExtend (store_on self.old (D.disk device.old)) tail.old.file.number most }
+            → MayGrowAs (store_on self.old (D.disk device.old)) tail.old.file.number most }
         requires none_below { IsTrue (D.disk device.old).honest
             → NoneBelow (D.disk device.old).image (bitmap_in self.old) from }
         ensures added { IfOk result (λ run. AddsRun self.old self.new tail.old tail.new from most
@@ -127,19 +132,23 @@ impl Structure {
         ensures confined { IsTrue (D.disk device.old).honest → WritesGrowth self.old tail.old
             (free_list (volume_of (D.disk device.old).image (home_of self.old)))
             (D.disk device.old) (D.disk device.new) }
-        ensures places { OnOk result (GrowsWithin self.old tail.old [] self.new tail.new) }
+        ensures places { let free = free_list (volume_of (D.disk device.old).image
+            (home_of self.old)) in
+            OnOk result (IsTrue (D.disk device.old).honest
+            → GrowsWithin self.old tail.old free self.new tail.new) }
     {
         let (lbn, count) = self.take_run(device, from, most)?;
         self.append_run(device, tail, lbn, count)?;
         Ok((lbn + count, count))
     }
 
-    /// Gives a file `n` blocks of zeros more, the lowest that are free, where there is room for them and it has no contiguous mark.
+    /// Gives a file `n` blocks of zeros more, the lowest that are free, where there is room for them and it has no contiguous mark: as slots
+    /// where it is the index file.
     ///
     /// # Errors
     ///
     /// Those of [`Structure::add_run`].
-    fn extend_by<D: Device>(
+    pub(crate) fn grow_by<D: Device>(
         &mut self,
         device: &mut D,
         tail: &mut Tail,
@@ -147,16 +156,16 @@ impl Structure {
     ) -> Result<(), Refusal>
         requires is_for { IsStructureFor self.old (D.disk device.old) }
         requires last { HoldsLast self.old tail.old (D.disk device.old) }
-        requires own { 4 ≤ tail.old.file.number }
+        requires gets { GetsBlocks tail.old.file.number }
+        requires reserved { IsTrue (tail.old.file.number == 1) → n ≤ room self.old.index }
         requires may { IsTrue (D.disk device.old).honest
-            → MayExtend (store_on self.old (D.disk device.old)) tail.old.file.number n }
-        ensures extended { OnOk result
-            (ExtendsBy self.old tail.old.file.number (ownership_of tail.old) n (D.disk device.old)
-            (D.disk device.new)) }
+            → MayGrowAs (store_on self.old (D.disk device.old)) tail.old.file.number n }
+        ensures grown { OnOk result (GrowsByRuns self.old tail.old.file.number
+            (ownership_of tail.old) n (D.disk device.old) (D.disk device.new)) }
         ensures refused { let s = store_on self.old (D.disk device.old) in
             let k = tail.old.file.number in
             IfErr result (λ refusal. Breaks
-            (ExtendingBy self.old k n (D.disk device.old))
+            (GrowingByRuns self.old k n (D.disk device.old))
             (s.bitmap_blocks + 5 * n + 3 * need (file_numbered s k).room n + 3) refusal
             (D.disk device.old) (D.disk device.new)) }
         ensures stays { StaysFor (is_refused is_fatal result) self.old self.new
@@ -179,7 +188,7 @@ impl Structure {
     ///
     /// # Errors
     ///
-    /// Those of [`Structure::find_room`], and those of [`Structure::extend_by`].
+    /// Those of [`Structure::find_room`], and those of [`Structure::grow_by`].
     pub(crate) fn extend<D: Device>(
         &mut self,
         device: &mut D,
@@ -211,7 +220,7 @@ impl Structure {
             Err(_) => return Err(Refusal::DeviceFault),
         }
         let mut tail = tail_of(f, &first, end.number, &last);
-        self.extend_by(device, &mut tail, n)?;
+        self.grow_by(device, &mut tail, n)?;
         Ok(end.blocks + n)
     }
 }

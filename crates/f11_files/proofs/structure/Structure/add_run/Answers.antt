@@ -2,8 +2,7 @@ use Rattle.f11_files.proofs.Extending.AddRun.{fails-take, run-may, fails-append,
 use Rattle.f11_store.proofs.PieceLemmas.{may-free}
 use Rattle.f11_files.proofs.Extending.TakenRun.{run-last}
 use Rattle.f11_files.proofs.AnswerLemmas.{handed}
-use Rattle.f11_files.proofs.Extending.Parts.{grows-marked, grows-then, growth-run, growth-marked}
-use Rattle.std.proofs.Common.{[]}
+use Rattle.f11_files.proofs.Extending.Parts.{grows-marked, grows-then, growth-run, run-free, growth-marked}
 use Rattle.f11_files.proofs.Removing.Freeing.{handed-stays, stays-then}
 use Rattle.f11_files.proofs.structure.Structure.add_run.Goals as goal
 
@@ -12,7 +11,7 @@ returns-in_err-lbn-clause-refused g c =
     handed _ c.from_residual.result _ c.from_residual.ensures.1 (fails-take c.args.self.now c.args.tail.now c.args.from c.args.most _ _ _ c.in_err-lbn.ensures.refused)
 
 pub append_run-requires-clause-last : goal.append_run-requires-clause-last
-append_run-requires-clause-last g c = run-last c.args.self.now _ c.args.tail.now c.args.from c.args.most _ _ _ _ c.requires.is_for c.requires.last (λ honest. may-free _ _ _ (c.requires.may honest)) c.in_ok-lbn.ensures.taken (rw c.in_ok-lbn.was at c.take_run.ensures.stays)
+append_run-requires-clause-last g c = run-last c.args.self.now _ c.args.tail.now c.args.from c.args.most _ _ _ _ c.requires.is_for c.requires.last (λ honest. may-free _ _ _ (c.requires.may honest).file) c.in_ok-lbn.ensures.taken (rw c.in_ok-lbn.was at c.take_run.ensures.stays)
 
 pub append_run-requires-clause-may : goal.append_run-requires-clause-may
 append_run-requires-clause-may g c = run-may c.args.self.now _ c.args.tail.now c.args.from c.args.most _ _ _ _ c.requires.is_for c.requires.last c.requires.may c.in_ok-lbn.ensures.taken (rw c.in_ok-lbn.was at c.take_run.ensures.stays)
@@ -37,11 +36,11 @@ pub returns-clause-confined : goal.returns-clause-confined
 returns-clause-confined g c = λ honest. growth-run c.args.self.now c.take_run.new.self c.args.tail.now _ _ _ _ _ _ _ honest c.in_ok-lbn.ensures.taken c.take_run.ensures.places c.take_run.ensures.confined c.append_run.ensures.confined
 
 pub returns-clause-places : goal.returns-clause-places
-returns-clause-places g c =
+returns-clause-places g c = λ honest.
     let s = c.args.self.now in
-    let t = c.take_run.new.self in
-    let marked = grows-marked s t c.args.tail.now [] c.in_ok-lbn.ensures.taken.index c.take_run.ensures.places in
-    grows-then s t c.append_run.new.self c.args.tail.now c.args.tail.now c.append_run.new.tail [] [] (λ l out. out) marked c.in_ok-append_run.ensures.places
+    let taken = c.in_ok-lbn.ensures.taken in
+    let marked = grows-marked s c.take_run.new.self c.args.tail.now _ taken.index c.take_run.ensures.places in
+    grows-then s c.take_run.new.self c.append_run.new.self c.args.tail.now c.args.tail.now c.append_run.new.tail _ _ (run-free s c.take_run.new.self _ _ _ _ _ _ honest taken) marked c.in_ok-append_run.ensures.places
 
 pub returns-in_err-append_run-clause-stays : goal.returns-in_err-append_run-clause-stays
 returns-in_err-append_run-clause-stays g c =

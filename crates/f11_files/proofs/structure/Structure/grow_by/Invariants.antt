@@ -3,10 +3,10 @@ use Rattle.f11_volume.specs.Volume.{volume_of}
 use Rattle.f11_image_store.specs.Allocation.{free_list}
 use Rattle.f11_files.specs.Structure.{home_of}
 use Rattle.f11_files.specs.Extending.Tail.{GrowsWithin, WritesGrowth}
-use Rattle.f11_files.proofs.GrowingIndex.GrowBy.{GrowingOn}
+use Rattle.f11_files.proofs.Extending.GrowBy.{GrowingOn}
 use Rattle.f11_files.proofs.structure.Structure.grow_by.Given as goal
 
--- the runs so far are slots
+-- the runs so far are the file's
 abbrev pub invariant-loop-left : goal.invariant-loop-left
 invariant-loop-left g l = record {
   growing : GrowingOn l.fn.self l.self l.fn.tail l.tail l.n l.from l.left (g.D.Device.disk l.fn.device) (g.D.Device.disk l.device);
