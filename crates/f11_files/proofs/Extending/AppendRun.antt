@@ -32,7 +32,6 @@ use Rattle.f11_files.proofs.Removing.Freeing.{breaks-behind, breaks-within}
 use Rattle.f11_files.proofs.Extending.Growing.{breaks-fault, went-writes, takes-none, room-here, into-same, grew-behind}
 use Rattle.f11_files.proofs.Extending.Zeroed.{free-mid, now-for, now-last, now-given}
 use Rattle.f11_index.specs.Kept.{room}
-use Rattle.f11_files.proofs.Extending.AppendRun.{at-most-one}
 use Rattle.f11_files.specs.Extending.Slots.{GetsBlocks, MayCome}
 use Rattle.f11_store.proofs.GrowsLemmas.{named-as}
 

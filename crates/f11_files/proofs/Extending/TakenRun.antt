@@ -119,8 +119,7 @@ module _ (s t : Structure) (tail : Tail) (from most lbn count : ℕ) (old mid : 
 
   -- and the slots that came are those since it was taken
   pub slots-gained : (new : Disk) → (IsTrue mid.honest → AddsZeroSlots (table_of mid.image (home_of t)) (table_of new.image (home_of t)))
-      → IsTrue old.honest → AddsZeroSlots (volume_of old.image home).table (volume_of new.image home).table
-  unfolding volume_of
+      → IsTrue old.honest → AddsZeroSlots (table_of old.image home) (table_of new.image home)
   slots-gained new slots honest =
       subst (λ (x : Table). AddsZeroSlots x (table_of new.image home)) (tables honest)
       (subst (λ (h : HomeFields). AddsZeroSlots (table_of mid.image h) (table_of new.image h)) stays.home (slots (takes.writes.went.honest ∙ honest)))
