@@ -19,4 +19,5 @@ pub mod TakenRun
 pub mod AddRun
 pub mod GrowBy
 pub mod Cleared
+pub mod ClearAndGrow
 pub mod Extend

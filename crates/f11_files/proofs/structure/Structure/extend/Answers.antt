@@ -1,7 +1,9 @@
 use Rattle.f11_files.proofs.AnswerLemmas.{handed}
 use Rattle.f11_files.proofs.Extending.Cleared.{holds-last}
 use Rattle.f11_files.proofs.Extending.Extend.{fails-clearing, stays-clearing, may-extend, fails-growing, extends-file, length-after}
-use Rattle.std.proofs.Common.{refl}
+use Rattle.std.proofs.Common.{◌∙◌, inr, refl, sym}
+use Rattle.std.proofs.lemmas.Bool.{false≢true}
+use Rattle.f11_files.proofs.Extending.Written.{are-none}
 use Rattle.f11_files.proofs.Extending.Parts.{clearing-confined, growing-confined}
 use Rattle.f11_files.proofs.structure.Structure.extend.Goals as goal
 
@@ -11,32 +13,38 @@ returns-in-Err-clause-refused g c = fails-clearing c.args.self.now c.args.f c.ar
 pub returns-in-Err-clause-stays : goal.returns-in-Err-clause-stays
 returns-in-Err-clause-stays g c = stays-clearing c.args.self.now c.args.f c.args.n _ _ _ _ _ c.requires.is_for c.requires.own c.in_ok-end.ensures.room _ c.in-Err.ensures.failed
 
-pub extend_by-requires-clause-last : goal.extend_by-requires-clause-last
-extend_by-requires-clause-last g c =
+pub grow_by-requires-clause-last : goal.grow_by-requires-clause-last
+grow_by-requires-clause-last g c =
     holds-last c.args.self.now c.args.f c.args.n _ _ _ _ _ c.requires.is_for c.in_ok-end.ensures.room _ _ c.in-Ok.ensures.clears _ c.tail_of-tail.ensures.tail
 
-pub extend_by-requires-clause-may : goal.extend_by-requires-clause-may
-extend_by-requires-clause-may g c =
+pub grow_by-requires-clause-gets : goal.grow_by-requires-clause-gets
+grow_by-requires-clause-gets g c = rw c.tail_of-tail.ensures.tail.file_is (inr c.requires.own)
+
+pub grow_by-requires-clause-reserved : goal.grow_by-requires-clause-reserved
+grow_by-requires-clause-reserved g c = rw c.tail_of-tail.ensures.tail.file_is (λ is. absurd (false≢true (sym (are-none c.requires.own) ∙ is)))
+
+pub grow_by-requires-clause-may : goal.grow_by-requires-clause-may
+grow_by-requires-clause-may g c =
     rw c.tail_of-tail.ensures.tail.file_is (may-extend c.args.self.now c.args.f c.args.n _ _ _ _ _ c.requires.is_for c.requires.own c.in_ok-end.ensures.room _ _ c.in-Ok.ensures.clears)
 
-pub returns-in_err-extend_by-clause-refused : goal.returns-in_err-extend_by-clause-refused
-returns-in_err-extend_by-clause-refused g c =
-    handed _ c.from_residual-in_err-extend_by.result _ c.from_residual-in_err-extend_by.ensures.1
-    (fails-growing c.args.self.now c.args.f c.args.n _ _ _ _ _ c.requires.is_for c.requires.own c.in_ok-end.ensures.room _ _ c.in-Ok.ensures.clears _ (g.D.Device.disk c.extend_by.new.device)
-    (rw c.tail_of-tail.ensures.tail.file_is at c.in_err-extend_by.ensures.refused))
+pub returns-in_err-grow_by-clause-refused : goal.returns-in_err-grow_by-clause-refused
+returns-in_err-grow_by-clause-refused g c =
+    handed _ c.from_residual-in_err-grow_by.result _ c.from_residual-in_err-grow_by.ensures.1
+    (fails-growing c.args.self.now c.args.f c.args.n _ _ _ _ _ c.requires.is_for c.requires.own c.in_ok-end.ensures.room _ _ c.in-Ok.ensures.clears _ (g.D.Device.disk c.grow_by.new.device)
+    (rw c.tail_of-tail.ensures.tail.file_is at c.in_err-grow_by.ensures.refused))
 
 pub returns-clause-extended : goal.returns-clause-extended
 returns-clause-extended g c = (
   length-after c.args.self.now c.args.f c.args.n _ _ _ _ _ c.requires.is_for c.requires.own c.in_ok-end.ensures.room,
   extends-file c.args.self.now c.args.f c.args.n _ _ _ _ _ c.requires.is_for c.requires.own c.in_ok-end.ensures.room _ _ c.in-Ok.ensures.clears
-      _ c.tail_of-tail.ensures.tail _ (rw c.tail_of-tail.ensures.tail.file_is at c.in_ok-extend_by.ensures.extended),
+      _ c.tail_of-tail.ensures.tail _ (rw c.tail_of-tail.ensures.tail.file_is at c.in_ok-grow_by.ensures.grown),
 )
 
 pub returns-in-Err-clause-confined : goal.returns-in-Err-clause-confined
 returns-in-Err-clause-confined g c = λ honest. clearing-confined c.args.self.now c.args.self.now.index c.args.f c.args.n _ _ _ _ _ c.requires.is_for c.in_ok-end.ensures.room refl honest c.clear_mark.ensures.confined
 
-pub returns-in_err-extend_by-clause-confined : goal.returns-in_err-extend_by-clause-confined
-returns-in_err-extend_by-clause-confined g c = λ honest. growing-confined c.args.self.now c.args.self.now.index c.args.f c.args.n _ _ _ _ _ c.requires.is_for c.in_ok-end.ensures.room refl honest c.in-Ok.ensures.clears c.tail_of-tail.ensures.tail c.clear_mark.ensures.confined c.extend_by.ensures.confined
+pub returns-in_err-grow_by-clause-confined : goal.returns-in_err-grow_by-clause-confined
+returns-in_err-grow_by-clause-confined g c = λ honest. growing-confined c.args.self.now c.args.self.now.index c.args.f c.args.n _ _ _ _ _ c.requires.is_for c.in_ok-end.ensures.room refl honest c.in-Ok.ensures.clears c.tail_of-tail.ensures.tail c.clear_mark.ensures.confined c.grow_by.ensures.confined
 
 pub returns-clause-confined : goal.returns-clause-confined
-returns-clause-confined g c = λ honest. growing-confined c.args.self.now c.args.self.now.index c.args.f c.args.n _ _ _ _ _ c.requires.is_for c.in_ok-end.ensures.room refl honest c.in-Ok.ensures.clears c.tail_of-tail.ensures.tail c.clear_mark.ensures.confined c.extend_by.ensures.confined
+returns-clause-confined g c = λ honest. growing-confined c.args.self.now c.args.self.now.index c.args.f c.args.n _ _ _ _ _ c.requires.is_for c.in_ok-end.ensures.room refl honest c.in-Ok.ensures.clears c.tail_of-tail.ensures.tail c.clear_mark.ensures.confined c.grow_by.ensures.confined

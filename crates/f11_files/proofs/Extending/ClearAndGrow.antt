@@ -1,0 +1,188 @@
+-- A file that grows, the index file or another, once its contiguous mark is cleared, and what stands meanwhile.
+use Rattle.std.proofs.Common.{◌≡◌, ◌+◌, ◌-◌, ◌*◌, ◌/◌, ◌≤◌, ◌==◌, ℕ, Bool, true, false, cond, IsTrue, List, Option, Some, None, option_map, unwrap_or, refl, sym, ap, subst, ◌∙◌, eqb, arith}
+use Rattle.f11_dev.specs.Disk.{Disk}
+use Rattle.f11_dev.specs.Image.{Image}
+use Rattle.f11_dev.specs.Went.{Went}
+use Rattle.f11_dev.proofs.WentLemmas.{went_more, went_weaker}
+use Rattle.f11_home.specs.Home.{HomeFields}
+use Rattle.f11_index.specs.Table.{table_of}
+use Rattle.f11_chain.specs.declared.blocks.FileEnd.{FileEnd}
+use Rattle.f11_store.specs.Causes.{first_of, growth_causes}
+use Rattle.f11_store.specs.Changes.{with_change}
+use Rattle.f11_store.specs.Cost.{growth_cost, header_count}
+use Rattle.f11_store.specs.File.{File, no_file, need}
+use Rattle.f11_store.specs.Lags.{Work, LagsBy, with_no_mark}
+use Rattle.f11_store.specs.Pieces.{GrowsAs, MayGrowAs, file_numbered, grow_work_of}
+use Rattle.f11_store.specs.Store.{Store}
+use Rattle.f11_store.specs.declared.callers.Uic.{Uic}
+use Rattle.f11_store.specs.declared.files.FileId.{FileId}
+use Rattle.f11_store.specs.declared.refusals.Refusal.{Refusal}
+use Rattle.f11_store.proofs.GrowsLagLemmas.{cleared-as-lags}
+use Rattle.f11_store.proofs.GrowsLemmas.{cleared-grows-as, cleared-may-as}
+use Rattle.f11_store.proofs.LagLaws.{lags_itself}
+use Rattle.f11_volume.specs.Volume.{volume_of}
+use Rattle.f11_image_store.specs.Allocation.{AddsZeroSlots, GainsBlocks, GainsBlocksAs, ownership_in}
+use Rattle.f11_image_store.specs.StoreOf.{store_of}
+use Rattle.f11_image_store.proofs.AllocationLemmas.{gains-add}
+use Rattle.f11_files.specs.Answers.{Breaks, Meanwhile, ReadsAtMost, WritesAtMost, faults_of}
+use Rattle.f11_files.specs.Extending.Mark.{Clearing, ClearsMark}
+use Rattle.f11_files.specs.Extending.Room.{FindsRoom}
+use Rattle.f11_files.specs.Extending.Runs.{GrowingByRuns, GrowsByRuns, IsTailOf}
+use Rattle.f11_files.specs.Extending.Tail.{ownership_of}
+use Rattle.f11_files.specs.Structure.{home_of, store_on, IsStructureFor}
+use Rattle.f11_files.specs.declared.extend.tail.Tail.{Tail}
+use Rattle.f11_files.specs.declared.structure.Structure.{Structure}
+use Rattle.f11_files.proofs.Extending.Cleared.{enough, fewer-needed, covered, image-read, honest-read, honest-cleared, tail-ownership}
+use Rattle.f11_files.proofs.GrowingIndex.ZeroSlots.{zero-then}
+use Rattle.f11_files.proofs.WriteLemmas.{writes-behind}
+
+-- a file has the room that it had where its mark is cleared
+cleared-room : (s : Store) (k : ℕ) → (file_numbered (with_change s k with_no_mark) k).room ≡ (file_numbered s k).room
+cleared-room s k = go (eqb k k) (s.file k)
+  where
+    go : (here : Bool) (o : Option File) → (unwrap_or (cond here (option_map with_no_mark o) o) no_file).room ≡ (unwrap_or o no_file).room
+    go true None = refl
+    go true (Some f) = refl
+    go false o = refl
+
+-- clearing the mark is within the cost
+pub clear-cost : (s : Store) (f : File) (n : ℕ) → header_count f + 1 ≤ growth_cost s f n - 1
+clear-cost s f n = let many = enough s.index_bitmap_blocks ((n + 101) / 102) in omega (arith, many)
+
+-- there is room for more blocks, and no cause against them
+module _ (s : Structure) (f : FileId) (n : ℕ) (end : FileEnd) (was last : List ℕ) (old read : Disk) (for : IsStructureFor s old) (finds : FindsRoom s f n end was last old read) (file : File)
+    (is_file : IsTrue old.honest → (store_on s old).file f.number ≡ Some file) (no_cause : IsTrue old.honest → first_of (growth_causes (store_on s old) file n) ≡ None)
+    (within : IsTrue old.honest → IsTrue (f.number == 1) → (store_on s old).slots + n ≤ (store_on s old).limit) (reads : ReadsAtMost (header_count file) old read 0) where
+  abbrev home : HomeFields
+  home = home_of s
+
+  abbrev st : Store
+  st = store_on s old
+
+  abbrev k : ℕ
+  k = f.number
+
+  abbrev work : Work
+  work = grow_work_of k file.room n
+
+  abbrev P : Image → Type 0
+  P = Meanwhile work home old
+
+  abbrev cleared_store : Store
+  cleared_store = with_change st k with_no_mark
+
+  honest-then : read.honest ≡ old.honest
+  honest-then = honest-read s f n end was last old read for finds
+
+  image-then : read.image ≡ old.image
+  image-then = image-read s f n end was last old read for finds
+
+  module _ (honest : IsTrue old.honest) where
+    numbered : file_numbered st k ≡ file
+    numbered = ap (λ (o : Option File). unwrap_or o no_file) (is_file honest)
+
+    is-numbered : st.file k ≡ Some (file_numbered st k)
+    is-numbered = is_file honest ∙ ap Some (sym numbered)
+
+  -- the mark is cleared
+  clear-moment : (image : Image) → Clearing s f read image → P image
+  clear-moment image is honest =
+      let there = is (honest-then ∙ honest) in
+      record {
+        sound = there.sound;
+        lags = subst (λ (x : Store). LagsBy work x st) (sym (there.store ∙ ap (λ (i : Image). with_change (store_of i home) k with_no_mark) image-then))
+            (cleared-as-lags st cleared_store k file.room n (lags_itself work cleared_store));
+      }
+
+  writes-clearing : {faults : ℕ} {new : Disk} → Went (Clearing s f read) read new 1 faults → WritesAtMost P (header_count file + 1) old new faults
+  writes-clearing went = writes-behind reads (went_weaker (Clearing s f read) P clear-moment went)
+
+  pub breaks-clearing : {new : Disk} → Went (Clearing s f read) read new 1 1 → WritesAtMost P (growth_cost st file n - 1) old new 1
+  breaks-clearing went =
+      let writes = writes-clearing went in
+      record { transfers = writes.transfers; went = writes.went; few = λ honest. let few = writes.few honest in let cost = clear-cost st file n in omega (arith, few, cost) }
+
+  module _ (block : List ℕ) (cleared : Disk) (clears : ClearsMark s f was block read cleared) where
+    still-honest : cleared.honest ≡ old.honest
+    still-honest = honest-cleared s f n end was last old read for finds block cleared clears
+
+    abbrev after : Store
+    after = store_on s cleared
+
+    store-cleared : IsTrue old.honest → after ≡ cleared_store
+    store-cleared honest = (clears.store (honest-then ∙ honest)).store ∙ ap (λ (i : Image). with_change (store_of i home) k with_no_mark) image-then
+
+    room-cleared : IsTrue old.honest → (file_numbered after k).room ≡ file.room
+    room-cleared honest = ap (λ (x : Store). (file_numbered x k).room) (store-cleared honest) ∙ cleared-room st k ∙ ap (λ (g : File). g.room) (numbered honest)
+
+    writes-cleared : WritesAtMost P (header_count file + 1) old cleared 0
+    writes-cleared = writes-clearing clears.went
+
+    pub may-grow : IsTrue cleared.honest → MayGrowAs after k n
+    may-grow there =
+        let honest = sym still-honest ∙ there in
+        subst (λ (x : Store). MayGrowAs x k n) (sym (store-cleared honest))
+        (cleared-may-as st k n (is-numbered honest) (ap (λ (g : File). first_of (growth_causes st g n)) (numbered honest) ∙ no_cause honest) (within honest))
+
+    -- the images that stand while the file grows
+    grown-moment : (image : Image) → GrowingByRuns s k n cleared image → P image
+    grown-moment image is honest =
+        let there = is (still-honest ∙ honest) in
+        let lags = subst (λ (x : Store). LagsBy (grow_work_of k (file_numbered after k).room n) (store_of image home) x) (store-cleared honest) there.lags in
+        record {
+          sound = there.sound;
+          lags = cleared-as-lags st (store_of image home) k file.room n (subst (λ (room : ℕ). LagsBy (grow_work_of k room n) (store_of image home) cleared_store) (room-cleared honest) lags);
+        }
+
+    pub breaks-growing : {r : Refusal} {new : Disk} → Breaks (GrowingByRuns s k n cleared) (after.bitmap_blocks + 5 * n + 3 * need (file_numbered after k).room n + 3) r cleared new
+        → WritesAtMost P (growth_cost st file n - 1) old new (faults_of r)
+    breaks-growing breaks = record {
+      transfers = writes-cleared.transfers + breaks.writes.transfers;
+      went = went_more P writes-cleared.went (went_weaker (GrowingByRuns s k n cleared) P grown-moment breaks.writes.went);
+      few = λ honest.
+          let first = writes-cleared.few honest in
+          let then = breaks.writes.few (still-honest ∙ honest) in
+          let blocks = ap (λ (x : Store). x.bitmap_blocks) (store-cleared honest) in
+          let many = enough st.index_bitmap_blocks ((n + 101) / 102) in
+          let headers : need (file_numbered after k).room n ≤ (n + 101) / 102 = fewer-needed (file_numbered after k).room n in
+          omega (arith, first, then, blocks, many, headers);
+    }
+
+    module _ (tail : Tail) (of : IsTailOf f block end.number last tail) (new : Disk) (grows : GrowsByRuns s k (ownership_of tail) n cleared new) where
+      pub has-grown : IsTrue old.honest → GrowsAs st k n (store_of new.image home)
+      has-grown honest =
+          (cleared-grows-as st (store_of new.image home) k n (is-numbered honest)
+          (subst (λ (x : Store). GrowsAs x k n (store_of new.image home)) (store-cleared honest) (grows.grew.grows (still-honest ∙ honest)))).0
+
+      -- it has the lowest free blocks more
+      abbrev ownership : Uic × ℕ
+      ownership = ownership_in ((volume_of old.image home).table.header k)
+
+      pub gains-all : IsTrue old.honest → GainsBlocks k n (volume_of old.image home) (volume_of new.image home)
+      gains-all honest =
+          let none : 0 + n ≡ n = omega arith in
+          let first = subst (λ (i : Image). GainsBlocks k 0 (volume_of i home) (volume_of cleared.image home)) image-then (clears.gains (honest-then ∙ honest)) in
+          subst (λ (m : ℕ). GainsBlocks k m (volume_of old.image home) (volume_of new.image home)) none
+          (gains-add k ownership 0 n (volume_of old.image home) (volume_of cleared.image home) (volume_of new.image home) first
+          (subst (λ (r : Uic × ℕ). GainsBlocksAs k r n (volume_of cleared.image home) (volume_of new.image home))
+          (tail-ownership s f n end was last old read for finds block cleared clears tail of honest) (grows.gains (still-honest ∙ honest))))
+
+      -- and slots that came are zeros
+      pub zeros-all : IsTrue old.honest → AddsZeroSlots (table_of old.image home) (table_of new.image home)
+      zeros-all honest =
+          zero-then (table_of old.image home) (table_of cleared.image home) (table_of new.image home)
+          (subst (λ (i : Image). AddsZeroSlots (table_of i home) (table_of cleared.image home)) image-then (clears.zeros (honest-then ∙ honest))) (grows.slots (still-honest ∙ honest))
+
+      pub writes-grown : WritesAtMost P (growth_cost st file n - 1) old new 0
+      writes-grown = let grew = grows.grew in record {
+        transfers = writes-cleared.transfers + grew.transfers;
+        went = went_more P writes-cleared.went (went_weaker (GrowingByRuns s k n cleared) P grown-moment grew.went);
+        few = λ honest.
+            let first = writes-cleared.few honest in
+            let then = grew.few (still-honest ∙ honest) in
+            let size = covered s old for honest in
+            let added = (grew.grows (still-honest ∙ honest)).grows.may_grow.headers in
+            let headers = fewer-needed (grew.grows (still-honest ∙ honest)).grows.before.room n in
+            let many = enough st.index_bitmap_blocks ((n + 101) / 102) in
+            omega (arith, first, then, size, added, headers, many);
+      }
