@@ -1,13 +1,10 @@
 -- A file of the plain store that grows piece by piece, whether its blocks are slots or not.
 use Rattle.std.proofs.Common.{◌≡◌, ℕ, ◌+◌, ◌-◌, ◌<◌, ◌≤◌, ◌==◌, ◌++◌, ◌∷◌, Bool, true, false, IsTrue, List, [], refl, sym, ◌∙◌, ap, subst, arith}
-use Rattle.std.proofs.lemmas.Bool.Decides.{nat_tests}
 use Rattle.f11_store.specs.Changes.{with_change, with_grown_file, with_more_slots, with_slots, Extends, Grows}
-use Rattle.f11_store.specs.File.{File, zero_blocks}
-use Rattle.f11_store.specs.Lags.{with_no_mark}
 use Rattle.f11_store.specs.Store.{Store, free_headers, least_free}
-use Rattle.f11_store.specs.Pieces.{file_numbered, new_blocks, with_blocks_named, with_more_blocks, with_more_free, with_slots_if, GrowsAs, GrowsIf, MayExtend, MayGrowAs, MayGrowIf}
-use Rattle.f11_store.specs.Pieces.{ClearedGrowsAs, ClearedMayGrowAs, FewerMayGrowAs, GrowsAsExtends, GrowsAsIndex, GrowsTwice, NoneGrows, OthersMayGrowAs}
-use Rattle.f11_store.proofs.IndexPieceLemmas.{grown-then-slots, headers-left, may-more, no-slots, slots-twice}
+use Rattle.f11_store.specs.Pieces.{file_numbered, new_blocks, with_blocks_named, with_more_blocks, with_more_free, with_slots_if, GrowsAs, GrowsIf, HasPlaces, MayGrowAs}
+use Rattle.f11_store.specs.Pieces.{ClearedGrows, ClearedMayGrow, FewerMayGrow, GrowsAsExtends, GrowsAsIndex, GrowsTwice, NoneGrows, OthersMayGrow}
+use Rattle.f11_store.proofs.AddedSlotLemmas.{grown-then-slots, headers-left, may-more, no-slots, slots-twice}
 use Rattle.f11_store.proofs.PieceLemmas.{cleared-may, cleared-then, fewer-may, grows-add, linked-grows, named-grows, none-extended, none-grows, others-may-grow, with_linked, zeros-add}
 use Rattle.f11_store.proofs.StoreLemmas.{other_number}
 
@@ -33,11 +30,11 @@ pub none-grow : NoneGrows
 none-grow s k n may = by_kind (k == 1)
   where
     by_kind : (slots : Bool) → GrowsIf slots s k 0 s
-    by_kind true = record { grown = s; grows = none-grows s k n may.file; store_is = no-slots s }
-    by_kind false = record { grown = s; grows = none-extended s k n may.file; store_is = refl }
+    by_kind true = record { grown = s; grows = none-grows s k n may.places; store_is = no-slots s }
+    by_kind false = record { grown = s; grows = none-extended s k n may.places; store_is = refl }
 
 -- slots may as well be added at the end
-grown-twice : (slots : Bool) (s t u : Store) (k n a b : ℕ) → MayExtend s k n → a + b ≤ n → (one : GrowsIf slots s k a t) (two : GrowsIf slots t k b u)
+grown-twice : (slots : Bool) (s t u : Store) (k n a b : ℕ) → HasPlaces s k n → a + b ≤ n → (one : GrowsIf slots s k a t) (two : GrowsIf slots t k b u)
     → (whole : GrowsIf slots s k (a + b) u) × (whole.grows.added ≡ one.grows.added + two.grows.added)
 grown-twice slots s t u k n a b may few one two =
     let both =
@@ -76,14 +73,14 @@ grown-twice slots s t u k n a b may few one two =
     swapped false = refl
 
 pub grows-twice : GrowsTwice
-grows-twice s t u k n a b may few one two = grown-twice (k == 1) s t u k n a b may.file few one two
+grows-twice s t u k n a b may few one two = grown-twice (k == 1) s t u k n a b may.places few one two
 
-pub fewer-may-as : FewerMayGrowAs
-fewer-may-as s k n m may few = record { file = fewer-may s k n m may.file few; within = λ is. omega (arith, may.within is, few) }
+pub fewer-may-grow : FewerMayGrow
+fewer-may-grow s k n m may few = record { places = fewer-may s k n m may.places few; within = λ is. omega (arith, may.within is, few) }
 
-pub others-may-as : OthersMayGrowAs
-others-may-as s t k n a may one few = record {
-  file = subst (λ (x : Store). MayExtend x k (n - a)) (sym one.store_is) (by_kind (k == 1));
+pub others-may : OthersMayGrow
+others-may s t k n a may one few = record {
+  places = subst (λ (x : Store). HasPlaces x k (n - a)) (sym one.store_is) (by_kind (k == 1));
   within = λ is.
       let there : t.slots ≡ one.grown.slots + a = ap (λ (x : Store). x.slots) one.store_is ∙ slots-then (k == 1) a one.grown is in
       let most : t.limit ≡ one.grown.limit = ap (λ (x : Store). x.limit) one.store_is ∙ limit-kept (k == 1) a one.grown in
@@ -92,18 +89,18 @@ others-may-as s t k n a may one few = record {
       omega (arith, there, most, slots, limit, may.within is, few);
 }
   where
-    rest : MayExtend one.grown k (n - a)
-    rest = others-may-grow s one.grown k n a (new_blocks (k == 1) a) may.file one.grows few
+    rest : HasPlaces one.grown k (n - a)
+    rest = others-may-grow s one.grown k n a (new_blocks (k == 1) a) may.places one.grows few
 
-    by_kind : (slots : Bool) → MayExtend (with_slots_if slots a one.grown) k (n - a)
+    by_kind : (slots : Bool) → HasPlaces (with_slots_if slots a one.grown) k (n - a)
     by_kind true = may-more one.grown k (n - a) a rest
     by_kind false = rest
 
-pub cleared-may-as : ClearedMayGrowAs
-cleared-may-as s k n was none within = record { file = cleared-may s k n was none; within = within }
+pub cleared-may-grow : ClearedMayGrow
+cleared-may-grow s k n was none within = record { places = cleared-may s k n was none; within = within }
 
-pub cleared-grows-as : ClearedGrowsAs
-cleared-grows-as s t k n was one =
+pub cleared-grows : ClearedGrows
+cleared-grows s t k n was one =
     let whole = cleared-then s one.grown k n (new_blocks (k == 1) n) was one.grows in
     (record { grown = one.grown; grows = whole.0; store_is = one.store_is }, whole.1)
 
@@ -123,23 +120,23 @@ as-extends false s t k n none one = (
 )
 
 pub grows-as-extends : GrowsAsExtends
-grows-as-extends s t k n own one = as-extends (k == 1) s t k n (other_number k 1 (λ is. omega (arith, own, is))) one
+grows-as-extends s t k n apart one = as-extends (k == 1) s t k n (other_number k 1 apart) one
 
 pub grows-as-index : GrowsAsIndex
 grows-as-index s t n one = record { grown = one.grown; grows = one.grows; store_is = one.store_is }
 
 -- a file whose last header names n blocks more has grown
-pub named-as :
+pub named-grown :
     (s : Store) (k count more : ℕ) → MayGrowAs (with_more_free s count) k count → 0 < count → more ≤ 1 → more ≤ (file_numbered s k).room →
     (e : GrowsAs (with_more_free s count) k count (with_blocks_named k more count s)) × (e.grows.added ≡ 0)
-named-as s k count more may some one fits =
-    let named = named-grows s k count more (new_blocks (k == 1) count) may.file some one fits in
+named-grown s k count more may some one fits =
+    let named = named-grows s k count more (new_blocks (k == 1) count) may.places some one fits in
     (record { grown = with_change s k (with_more_blocks more (new_blocks (k == 1) count)); grows = named.0; store_is = refl }, named.1)
 
 -- and so has one that has header m more, which names them by one pointer
-pub linked-as :
+pub linked-grown :
     (s : Store) (k count m : ℕ) → MayGrowAs (with_more_free s count) k count → 0 < count → (file_numbered s k).room ≡ 0 → m ≡ least_free s →
     (e : GrowsAs (with_more_free s count) k count (with_slots_if (k == 1) count (with_change (with_slots s (m ∷ [])) k (with_linked m (new_blocks (k == 1) count))))) × (e.grows.added ≡ 1)
-linked-as s k count m may some full least =
-    let linked = linked-grows s k count m (new_blocks (k == 1) count) may.file some full least in
+linked-grown s k count m may some full least =
+    let linked = linked-grows s k count m (new_blocks (k == 1) count) may.places some full least in
     (record { grown = with_change (with_slots s (m ∷ [])) k (with_linked m (new_blocks (k == 1) count)); grows = linked.0; store_is = refl }, linked.1)

@@ -4,13 +4,12 @@ use Rattle.std.proofs.lemmas.List.{append-nil, take-replicate}
 use Rattle.f11_store.proofs.Frees.{same_limits, same_limits_then}
 use Rattle.f11_store.proofs.Growth.{alike}
 use Rattle.f11_store.proofs.LagLaws.{last_after_growth, parts_of_growth}
-use Rattle.f11_store.specs.Changes.{grown_file, is_in, next_sequence, with_change, with_grown_file, with_more_slots, MayGrow}
+use Rattle.f11_store.specs.Changes.{GrowsIndex, grown_file, is_in, next_sequence, with_change, with_grown_file, with_more_slots, MayGrow}
 use Rattle.f11_store.specs.File.{File, need, no_file}
 use Rattle.f11_store.specs.Lags.{file_changes, grow_parts, grow_work, slot_appears, with_no_mark, with_parts, AreLike, LagsBy, Part}
 use Rattle.f11_store.specs.Store.{Store, free_headers, free_slots, index_file}
-use Rattle.f11_store.specs.IndexPieces.{ClearedGrowLags, GrownLags, TakenIndexLags}
 use Rattle.f11_store.specs.Pieces.{TakesSome}
-use Rattle.f11_store.proofs.PieceLagLemmas.{cleared-work, once, takes-none}
+use Rattle.f11_store.proofs.PieceLagLemmas.{cleared-work, once}
 use Rattle.f11_store.proofs.PieceLemmas.{headers-grown, needs-add}
 use Rattle.f11_store.proofs.TakenSlotLemmas.{more-headers}
 
@@ -69,8 +68,8 @@ module _ (s : Store) (n a b : ℕ) (f : File) (added pointers room : ℕ) (may :
         limits = same_limits_then s after u (same_limits refl refl refl) takes.limits;
       }
 
-pub taken-index-lags : TakenIndexLags
-taken-index-lags s t u n a b may e few takes =
+pub taken-index-lags : (s t u : Store) (n a b : ℕ) → GrowsIndex s a t → a + b ≤ n → TakesSome b (need (index_file t).room b) t u → LagsBy (grow_work (index_file s).room n) u s
+taken-index-lags s t u n a b e few takes =
     let same : f ≡ index_file s = sym (ap (λ (o : Option File). unwrap_or o no_file) e.grows.was) in
     let is : t ≡ with_more_slots (with_grown_file s 1 f a [] e.grows.added e.grows.pointers e.grows.room) a =
     e.store_is ∙ ap (λ (x : Store). with_more_slots x a) e.grows.store_is in
@@ -81,9 +80,6 @@ taken-index-lags s t u n a b may e few takes =
     f : File
     f = e.grows.before
 
-pub grown-lags : GrownLags
-grown-lags s t n a may e few = taken-index-lags s t t n a 0 may e (omega (arith, few)) (takes-none t (need (index_file t).room 0))
-
-pub cleared-grow-lags : ClearedGrowLags
+pub cleared-grow-lags : (s t : Store) (room n : ℕ) → LagsBy (grow_work room n) t (with_change s 1 with_no_mark) → LagsBy (grow_work room n) t s
 unfolding grow_parts
 cleared-grow-lags s t room n lags = cleared-work s t 1 (replicate n slot_appears) n (need room n) lags

@@ -21,7 +21,7 @@ pub mod RangeLemmas
 pub mod TakenSlotLemmas
 pub mod PieceLemmas
 pub mod PieceLagLemmas
-pub mod IndexPieceLemmas
+pub mod AddedSlotLemmas
 pub mod IndexPieceLagLemmas
 pub mod GrowsLemmas
 pub mod GrowsLagLemmas

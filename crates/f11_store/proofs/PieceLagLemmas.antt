@@ -5,11 +5,11 @@ use Rattle.f11_store.proofs.Frees.{same_limits, same_limits_then}
 use Rattle.f11_store.proofs.Growth.{extend_and_slots, grown_alike, StoresAlike}
 use Rattle.f11_store.proofs.LagLaws.{last_there, Takes}
 use Rattle.f11_store.proofs.StoreLemmas.{same_number, same-store}
-use Rattle.f11_store.specs.Changes.{grown_file, is_in, next_sequence, with_change, with_grown_file, MayGrow}
+use Rattle.f11_store.specs.Changes.{Extends, grown_file, is_in, next_sequence, with_change, with_grown_file, MayGrow}
 use Rattle.f11_store.specs.File.{File, need, no_file, zero_blocks}
 use Rattle.f11_store.specs.Lags.{extend_parts, extend_work, file_changes, last_of, with_no_mark, with_parts, with_zero_block, AreLike, LagsBy, Part, Work}
 use Rattle.f11_store.specs.Store.{Store, free_headers, free_slots}
-use Rattle.f11_store.specs.Pieces.{file_numbered, ClearedLags, ExtendedLags, TakenLags, TakesSome}
+use Rattle.f11_store.specs.Pieces.{file_numbered, TakesSome}
 use Rattle.f11_store.proofs.PieceLemmas.{cleared-twice, free-cleared, headers-grown, needs-add}
 
 -- the parts of growing by some of the blocks are the first ones of growing by all
@@ -72,8 +72,8 @@ module _ (s : Store) (k n a b : ℕ) (f : File) (added pointers room : ℕ) (may
       (λ m. subst (λ (o : Option File). AreLike o ((with_parts s (extend_parts k a)).file m)) (sym (takes.files m)) (grown_alike s k a f added pointers room was m))
       (piece-takes u takes)
 
-pub taken-lags : TakenLags
-taken-lags s t u k n a b may e few takes =
+pub taken-lags : (s t u : Store) (k n a b : ℕ) → Extends s k a t → a + b ≤ n → TakesSome b (need (file_numbered t k).room b) t u → LagsBy (extend_work k (file_numbered s k).room n) u s
+taken-lags s t u k n a b e few takes =
     let same : e.before ≡ file_numbered s k = sym (ap (λ (o : Option File). unwrap_or o no_file) e.was) in
     let now : TakesSome b (need (file_numbered g k).room b) g u = subst (λ (x : Store). TakesSome b (need (file_numbered x k).room b) x u) e.store_is takes in
     let there : (file_numbered g k).room ≡ e.room =
@@ -96,9 +96,6 @@ takes-none s h = record {
   slots = refl;
   limits = same_limits refl refl refl;
 }
-
-pub extended-lags : ExtendedLags
-extended-lags s t k n a may e few = taken-lags s t t k n a 0 may e (omega (arith, few)) (takes-none t (need (file_numbered t k).room 0))
 
 -- a mark that was cleared stays so
 cleared-once : (s : Store) (k : ℕ) → with_change (with_change s k with_no_mark) k with_no_mark ≡ with_change s k with_no_mark
@@ -149,6 +146,6 @@ cleared-work s t k parts blocks headers lags =
       limits = same_limits lags.limits.bitmap_blocks lags.limits.index_bitmap_blocks lags.limits.limit;
     }
 
-pub cleared-lags : ClearedLags
+pub cleared-lags : (s t : Store) (k room n : ℕ) → LagsBy (extend_work k room n) t (with_change s k with_no_mark) → LagsBy (extend_work k room n) t s
 unfolding extend_parts
 cleared-lags s t k room n lags = cleared-work s t k (replicate n (file_changes k with_zero_block)) n (need room n) lags

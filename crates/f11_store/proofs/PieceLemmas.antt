@@ -14,7 +14,7 @@ use Rattle.f11_store.specs.File.{File, need, no_file, without_contiguous, zero_b
 use Rattle.f11_store.specs.Lags.{with_no_mark}
 use Rattle.f11_store.specs.Store.{Store, free_headers, free_slots, least_free}
 use Rattle.f11_store.specs.declared.refusals.Refusal.TheVariants.{DeviceFull, NoHeader, TooManySegments}
-use Rattle.f11_store.specs.Pieces.{with_more_free, with_more_blocks, file_numbered, ClearedExtends, ClearedMayExtend, ExtensionsAdd, FewerMayExtend, MayExtend, NoneIsExtended, OthersMayExtend, TakingAdds, with_zeros_more}
+use Rattle.f11_store.specs.Pieces.{with_more_free, with_more_blocks, file_numbered, HasPlaces, TakingAdds}
 use Rattle.f11_store.proofs.TakenSlotLemmas.{both-in, free-left, used-none}
 
 -- the contiguous mark that was cleared is clear
@@ -147,7 +147,7 @@ grown-none s k f was clear =
         ∙ sym (ap (λ (b : Bool). if b then Some (grown_file s f [] 0 f.pointers f.room) else s.file n) (eq-eqb n k e))
     by_number n (inr e) = sym (ap (λ (b : Bool). if b then Some (grown_file s f [] 0 f.pointers f.room) else s.file n) (ne_eqb n k e))
 
-pub none-grows : (s : Store) (k n : ℕ) → MayExtend s k n → Grows s k 0 [] s
+pub none-grows : (s : Store) (k n : ℕ) → HasPlaces s k n → Grows s k 0 [] s
 none-grows s k n may = record {
   before = file_numbered s k;
   added = 0;
@@ -158,13 +158,13 @@ none-grows s k n may = record {
   store_is = grown-none s k (file_numbered s k) may.is_file may.no_mark;
 }
 
-pub none-extended : NoneIsExtended
+pub none-extended : (s : Store) (k n : ℕ) → HasPlaces s k n → Extends s k 0 s
 unfolding zero_blocks
 none-extended s k n may = none-grows s k n may
 
 -- a file that may grow is one without the mark and with room
-pub may-extend : (s : Store) (k n : ℕ) (f : File) → s.file k ≡ Some f → without_contiguous f.characteristics ≡ f.characteristics → HasRoom s f n → MayExtend s k n
-may-extend s k n f was clear has =
+pub has-places : (s : Store) (k n : ℕ) (f : File) → s.file k ≡ Some f → without_contiguous f.characteristics ≡ f.characteristics → HasRoom s f n → HasPlaces s k n
+has-places s k n f was clear has =
     let same : f ≡ file_numbered s k = sym (ap (λ (o : Option File). unwrap_or o no_file) was) in
     record {
       is_file = was ∙ ap Some same;
@@ -172,13 +172,13 @@ may-extend s k n f was clear has =
       no_cause = subst (λ (g : File). first_of (growth_causes s g n) ≡ None) same (no-cause s f n has);
     }
 
-pub may-free : (s : Store) (k n : ℕ) → MayExtend s k n → n ≤ s.free
+pub may-free : (s : Store) (k n : ℕ) → HasPlaces s k n → n ≤ s.free
 may-free s k n may = (has-room s (file_numbered s k) n may.no_cause).blocks
 
-pub fewer-may : FewerMayExtend
+pub fewer-may : (s : Store) (k n m : ℕ) → HasPlaces s k n → m ≤ n → HasPlaces s k m
 fewer-may s k n m may few =
     let has = has-room s (file_numbered s k) n may.no_cause in
-    may-extend s k m (file_numbered s k) may.is_file may.no_mark (record {
+    has-places s k m (file_numbered s k) may.is_file may.no_mark (record {
       segments = omega (arith, has.segments, few);
       blocks = omega (arith, has.blocks, few);
       headers = omega (arith, has.headers, few);
@@ -197,19 +197,16 @@ room-then s k n a f blocks added pointers room has may few =
     }
 
 pub others-may-grow :
-    (s t : Store) (k n a : ℕ) (blocks : List (List ℕ)) → MayExtend s k n → Grows s k a blocks t → a ≤ n → MayExtend t k (n - a)
+    (s t : Store) (k n a : ℕ) (blocks : List (List ℕ)) → HasPlaces s k n → Grows s k a blocks t → a ≤ n → HasPlaces t k (n - a)
 others-may-grow s t k n a blocks may e few =
     let same : file_numbered s k ≡ e.before = ap (λ (o : Option File). unwrap_or o no_file) e.was in
     let has : HasRoom s e.before n = subst (λ (g : File). HasRoom s g n) same (has-room s (file_numbered s k) n may.no_cause) in
-    subst (λ (x : Store). MayExtend x k (n - a)) (sym e.store_is)
-    (may-extend (with_grown_file s k e.before a blocks e.added e.pointers e.room) k (n - a)
+    subst (λ (x : Store). HasPlaces x k (n - a)) (sym e.store_is)
+    (has-places (with_grown_file s k e.before a blocks e.added e.pointers e.room) k (n - a)
     (grown_file s e.before blocks e.added e.pointers e.room)
     (ap (λ (b : Bool). if b then Some (grown_file s e.before blocks e.added e.pointers e.room) else s.file k) (same_number k))
     (cleared-twice e.before.characteristics)
     (room-then s k n a e.before blocks e.added e.pointers e.room has e.may_grow few))
-
-pub others-may : OthersMayExtend
-others-may s t k n a may e few = others-may-grow s t k n a (zero_blocks a) may e few
 
 -- two pieces are one
 may-twice :
@@ -276,11 +273,6 @@ pub zeros-add : (a b : ℕ) → zero_blocks a ++ zero_blocks b ≡ zero_blocks (
 unfolding zero_blocks
 zeros-add a b = replicate-append-replicate a b zero_block
 
-pub extensions-add : ExtensionsAdd
-extensions-add s t u k a b one two =
-    subst (λ (blocks : List (List ℕ)). (whole : Grows s k (a + b) blocks u) × (whole.added ≡ one.added + two.added)) (zeros-add a b)
-    (grows-add s t u k a b (zero_blocks a) (zero_blocks b) one two)
-
 -- what a store has whose file's mark is cleared
 pub free-cleared : (s : Store) (k : ℕ) → free_slots (with_change s k with_no_mark) ≡ free_slots s
 unfolding free_slots
@@ -290,12 +282,12 @@ changed-is : (s : Store) (k : ℕ) (change : File → File) (f : File) → s.fil
 changed-is s k change f was =
     ap (λ (b : Bool). if b then option_map change (s.file k) else s.file k) (same_number k) ∙ ap (option_map change) was
 
-pub cleared-may : ClearedMayExtend
+pub cleared-may : (s : Store) (k n : ℕ) → s.file k ≡ Some (file_numbered s k) → first_of (growth_causes s (file_numbered s k) n) ≡ None → HasPlaces (with_change s k with_no_mark) k n
 cleared-may s k n was h =
     let f = file_numbered s k in
     let has = has-room s f n h in
     let left : free_headers (with_change s k with_no_mark) ≡ free_headers s = ap length (free-cleared s k) in
-    may-extend (with_change s k with_no_mark) k n (with_no_mark f) (changed-is s k with_no_mark f was) (cleared-twice f.characteristics) (record {
+    has-places (with_change s k with_no_mark) k n (with_no_mark f) (changed-is s k with_no_mark f was) (cleared-twice f.characteristics) (record {
       segments = has.segments;
       blocks = has.blocks;
       headers = omega (arith, has.headers, left);
@@ -344,9 +336,6 @@ cleared-then s t k n blocks was one =
       refl,
     )
 
-pub cleared-extends : ClearedExtends
-cleared-extends s t k n was one = cleared-then s t k n (zero_blocks n) was one
-
 -- a change of a file that is there, seen where it is
 changed-as : (s : Store) (k m : ℕ) (change : File → File) (f g : File) → s.file k ≡ Some f → change f ≡ g
     → (if m == k then option_map change (s.file k) else s.file m) ≡ (if m == k then Some g else s.file m)
@@ -354,7 +343,7 @@ changed-as s k m change f g was is = ap (λ (o : Option File). if m == k then o 
 
 -- a file whose last header names n blocks more
 pub named-grows :
-    (s : Store) (k count more : ℕ) (blocks : List (List ℕ)) → MayExtend (with_more_free s count) k count → 0 < count → more ≤ 1 → more ≤ (file_numbered s k).room →
+    (s : Store) (k count more : ℕ) (blocks : List (List ℕ)) → HasPlaces (with_more_free s count) k count → 0 < count → more ≤ 1 → more ≤ (file_numbered s k).room →
     (e : Grows (with_more_free s count) k count blocks (with_change s k (with_more_blocks more blocks))) × (e.added ≡ 0)
 named-grows s k count more blocks may some one fits = (
   record {
@@ -378,11 +367,6 @@ named-grows s k count more blocks may some one fits = (
     same : with_more_blocks more blocks f ≡ grown_file (with_more_free s count) f blocks 0 (f.pointers + more) (f.room - more)
     same = λ i. record (with_more_blocks more blocks f) { characteristics = sym may.no_mark i; held = sym (append-nil f.held) i }
 
-pub named-extends :
-    (s : Store) (k count more : ℕ) → MayExtend (with_more_free s count) k count → 0 < count → more ≤ 1 → more ≤ (file_numbered s k).room →
-    (e : Extends (with_more_free s count) k count (with_zeros_more k more count s)) × (e.added ≡ 0)
-named-extends s k count more may some one fits = named-grows s k count more (zero_blocks count) may some one fits
-
 -- the first of some slots is the least
 first-is : (slots : List ℕ) → 1 ≤ length slots → take 1 slots ≡ slice_index slots 0 ∷ []
 first-is [] h = absurd (omega (arith, h))
@@ -393,7 +377,7 @@ abbrev pub with_linked : ℕ → List (List ℕ) → File → File
 with_linked m blocks f = record f { held = f.held ++ m ∷ []; pointers = f.pointers + 1; room = 101; blocks = f.blocks ++ blocks }
 
 pub linked-grows :
-    (s : Store) (k count m : ℕ) (blocks : List (List ℕ)) → MayExtend (with_more_free s count) k count → 0 < count → (file_numbered s k).room ≡ 0 → m ≡ least_free s →
+    (s : Store) (k count m : ℕ) (blocks : List (List ℕ)) → HasPlaces (with_more_free s count) k count → 0 < count → (file_numbered s k).room ≡ 0 → m ≡ least_free s →
     (e : Grows (with_more_free s count) k count blocks (with_change (with_slots s (m ∷ [])) k (with_linked m blocks))) × (e.added ≡ 1)
 unfolding free_slots
 linked-grows s k count m blocks may some full least = (
@@ -426,11 +410,6 @@ linked-grows s k count m blocks may some full least = (
 
     same : with_linked m blocks f ≡ grown_file (with_more_free s count) f blocks 1 (f.pointers + 1) 101
     same = λ i. record (with_linked m blocks f) { characteristics = sym may.no_mark i; held = f.held ++ sym taken i }
-
-pub linked-extends :
-    (s : Store) (k count m : ℕ) → MayExtend (with_more_free s count) k count → 0 < count → (file_numbered s k).room ≡ 0 → m ≡ least_free s →
-    (e : Extends (with_more_free s count) k count (with_change (with_slots s (m ∷ [])) k (with_linked m (zero_blocks count)))) × (e.added ≡ 1)
-linked-extends s k count m may some full least = linked-grows s k count m (zero_blocks count) may some full least
 
 pub taking-adds : TakingAdds
 taking-adds s t u a b h first second = record {

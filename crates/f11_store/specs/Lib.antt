@@ -18,4 +18,3 @@ pub mod Text
 pub mod Worked
 pub mod WorkedLags
 pub mod Pieces
-pub mod IndexPieces

@@ -2,7 +2,6 @@
 //! definitions say what is meant.
 
 ghost use Rattle.f11_store.specs.Laws as laws;
-ghost use Rattle.f11_store.specs.IndexPieces as index_pieces;
 ghost use Rattle.f11_store.specs.Pieces as pieces;
 
 /// What a store is: its values, and nothing else.
@@ -62,45 +61,30 @@ pub fn directories()
     ensures elsewhere { laws.RemovedThenFound }
 {}
 
-/// A file of the plain store that grows piece by piece.
+/// A file of the plain store that grows piece by piece, the index file or another.
 pub fn pieces()
-    ensures none { pieces.NoneIsExtended }
-    ensures add { pieces.ExtensionsAdd }
-    ensures fewer { pieces.FewerMayExtend }
-    ensures others { pieces.OthersMayExtend }
+    ensures none { pieces.NoneGrows }
+    ensures twice { pieces.GrowsTwice }
+    ensures fewer { pieces.FewerMayGrow }
+    ensures others { pieces.OthersMayGrow }
 {}
 
 /// What stands meanwhile lags the store before.
 pub fn pieces_under_way()
-    ensures extended { pieces.ExtendedLags }
+    ensures grown { pieces.GrownLags }
     ensures taken { pieces.TakenLags }
     ensures taking_adds { pieces.TakingAdds }
 {}
 
 /// A file whose contiguous mark is cleared before it grows.
 pub fn cleared_marks()
-    ensures may { pieces.ClearedMayExtend }
-    ensures extends { pieces.ClearedExtends }
+    ensures may { pieces.ClearedMayGrow }
+    ensures grows { pieces.ClearedGrows }
     ensures lags { pieces.ClearedLags }
 {}
 
-/// An index file of the plain store that grows piece by piece.
-pub fn index_pieces()
-    ensures none { index_pieces.NoneIsGrown }
-    ensures add { index_pieces.GrowthsAdd }
-    ensures fewer { index_pieces.FewerMayGrow }
-    ensures others { index_pieces.OthersMayGrow }
-{}
-
-/// What stands meanwhile lags the store before.
-pub fn index_pieces_under_way()
-    ensures grown { index_pieces.GrownLags }
-    ensures taken { index_pieces.TakenIndexLags }
-{}
-
-/// An index file whose contiguous mark is cleared before it grows.
-pub fn cleared_index_marks()
-    ensures may { index_pieces.ClearedMayGrow }
-    ensures grows { index_pieces.ClearedGrows }
-    ensures lags { index_pieces.ClearedGrowLags }
+/// What it is to grow, of a file that requests reach and of the index file.
+pub fn growth()
+    ensures extends { pieces.GrowsAsExtends }
+    ensures index { pieces.GrowsAsIndex }
 {}

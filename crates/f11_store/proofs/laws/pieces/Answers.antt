@@ -1,5 +1,5 @@
-use Rattle.f11_store.proofs.PieceLemmas.{none-extended, extensions-add, fewer-may, others-may}
+use Rattle.f11_store.proofs.GrowsLemmas.{fewer-may-grow, grows-twice, none-grow, others-may}
 use Rattle.f11_store.proofs.laws.pieces.Goals as goal
 
 pub returns : goal.returns
-returns c = record { none = none-extended; add = extensions-add; fewer = fewer-may; others = others-may }
+returns c = record { none = none-grow; twice = grows-twice; fewer = fewer-may-grow; others = others-may }
