@@ -38,7 +38,7 @@ use Rattle.f11_index.specs.Kept.{room}
 use Rattle.f11_files.specs.Extending.Link.{NamesThese}
 use Rattle.f11_files.proofs.GrowingIndex.ZeroSlots.{zero-then}
 use Rattle.f11_files.specs.Extending.Slots.{MayCome}
-use Rattle.f11_store.proofs.GrowsLemmas.{linked-as}
+use Rattle.f11_store.proofs.GrowsLemmas.{linked-grown}
 
 module _ (s : Structure) (tail : Tail) (lbn count : ℕ) (old : Disk) (for : IsStructureFor s old) (last : HoldsLast s tail old) (given : MayBeGiven (home_of s) lbn count old)
     (full : room_in tail.block ≡ 0) (reserved : IsTrue (tail.file.number == 1) → count ≤ room s.index) (may : IsTrue old.honest → MayGrowAs (with_more_free (store_on s old) count) tail.file.number count) where
@@ -114,7 +114,7 @@ module _ (s : Structure) (tail : Tail) (lbn count : ℕ) (old : Disk) (for : IsS
     grown : (image : Image) → Linking after tail id count mid image → IsTrue old.honest → (e : GrowsAs free k count (store_of image home)) × (e.grows.added ≡ 1)
     grown image links honest =
         subst (λ (x : Store). (e : GrowsAs free k count x) × (e.grows.added ≡ 1)) (sym (has-store image links honest).store)
-        (linked-as st k count id.number (may honest) given.some (no-room s tail lbn count old for last given full may honest) (enters.slot honest))
+        (linked-grown st k count id.number (may honest) given.some (no-room s tail lbn count old for last given full may honest) (enters.slot honest))
 
     linked-moment : (image : Image) → Linking after tail id count mid image → P image
     linked-moment image links honest = record { sound = (has-store image links honest).sound; stage = inr (grown image links honest).0 }

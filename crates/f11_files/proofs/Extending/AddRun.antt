@@ -8,7 +8,6 @@ use Rattle.f11_home.specs.Home.{HomeFields}
 use Rattle.f11_store.specs.File.{need}
 use Rattle.f11_store.specs.Store.{Store}
 use Rattle.f11_store.specs.declared.refusals.Refusal.{Refusal}
-use Rattle.f11_volume.specs.Sound.{HasSoundVolume}
 use Rattle.f11_files.specs.Answers.{WritesAtMost, Breaks}
 use Rattle.f11_store.specs.Pieces.{with_more_free, file_numbered, TakesSome, GrowsAs, MayGrowAs}
 use Rattle.f11_files.specs.Extending.Runs.{AddsRun}
@@ -26,7 +25,7 @@ use Rattle.f11_store.proofs.PieceLemmas.{may-free, taking-adds}
 use Rattle.f11_files.proofs.Extending.Take.{takes-blocks}
 use Rattle.f11_files.proofs.Extending.TakenRun.{run-cost, break-cost, store-mid, store-free, none-left, run-gained, slots-gained}
 use Rattle.f11_store.specs.Pieces.{GrowsSome}
-use Rattle.f11_store.proofs.GrowsLemmas.{fewer-may-as}
+use Rattle.f11_store.proofs.GrowsLemmas.{fewer-may-grow}
 
 -- what stands while a run is taken
 taking-grows : (s : Structure) (tail : Tail) (most : ℕ) (old : Disk) (image : Image) → Taking (home_of s) most 0 (store_on s old) old image → GrowingBy (home_of s) (store_on s old) tail.file.number most old image
@@ -68,17 +67,14 @@ module _ (s t : Structure) (tail : Tail) (from most lbn count : ℕ) (old mid : 
   few = takes.within.asked
 
   enough : IsTrue old.honest → most ≤ st.free
-  enough honest = may-free st k most (may honest).file
+  enough honest = may-free st k most (may honest).places
 
   pub run-may : IsTrue mid.honest → MayGrowAs (with_more_free now count) k count
-  run-may honest = let before = was-honest honest in subst (λ (x : Store). MayGrowAs x k count) (sym (store-free s t tail from most lbn count old mid for last enough takes stays before)) (fewer-may-as st k most count (may before) few)
+  run-may honest = let before = was-honest honest in subst (λ (x : Store). MayGrowAs x k count) (sym (store-free s t tail from most lbn count old mid for last enough takes stays before)) (fewer-may-grow st k most count (may before) few)
 
   -- images that stand meanwhile
   abbrev headers : ℕ
   headers = need (file_numbered st k).room most
-
-  pub sound-moment : (image : Image) → P image → IsTrue old.honest → HasSoundVolume image home
-  sound-moment image is honest = (is honest).sound
 
   taken : WritesAtMost P (blocks_to (bitmap_in s) from (lbn + count) + blocks_touched lbn count) old mid 0
   taken = record { transfers = takes.writes.transfers; went = went_weaker (Taking home most 0 st old) P (taking-grows s tail most old) takes.writes.went; few = takes.writes.few }

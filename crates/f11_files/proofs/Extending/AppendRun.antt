@@ -33,7 +33,7 @@ use Rattle.f11_files.proofs.Extending.Growing.{breaks-fault, went-writes, takes-
 use Rattle.f11_files.proofs.Extending.Zeroed.{free-mid, now-for, now-last, now-given}
 use Rattle.f11_index.specs.Kept.{room}
 use Rattle.f11_files.specs.Extending.Slots.{GetsBlocks, MayCome}
-use Rattle.f11_store.proofs.GrowsLemmas.{named-as}
+use Rattle.f11_store.proofs.GrowsLemmas.{named-grown}
 
 -- no run takes two pointers
 pub at-most-one : (b : Bool) → cond b 0 1 ≤ 1
@@ -163,7 +163,7 @@ module _ (s : Structure) (tail : Tail) (lbn count : ℕ) (old : Disk) (for : IsS
     named : IsTrue old.honest → more ≤ room_in tail.block → (e : GrowsAs free k count (with_blocks_named k more count st)) × (e.grows.added ≡ 0)
     named honest fits =
         let left = room-here s tail old for last honest in
-        named-as st k count more (may honest) some (at-most-one (joins_last (runs_of (map_area tail.block)) lbn count)) (omega (arith, left, fits))
+        named-grown st k count more (may honest) some (at-most-one (joins_last (runs_of (map_area tail.block)) lbn count)) (omega (arith, left, fits))
 
     naming-moment : more ≤ room_in tail.block → (image : Image) → Naming s tail lbn count mid image → P image
     naming-moment fits image is honest =

@@ -17,8 +17,8 @@ use Rattle.f11_store.specs.Store.{Store}
 use Rattle.f11_store.specs.declared.callers.Uic.{Uic}
 use Rattle.f11_store.specs.declared.files.FileId.{FileId}
 use Rattle.f11_store.specs.declared.refusals.Refusal.{Refusal}
-use Rattle.f11_store.proofs.GrowsLagLemmas.{cleared-as-lags}
-use Rattle.f11_store.proofs.GrowsLemmas.{cleared-grows-as, cleared-may-as}
+use Rattle.f11_store.proofs.GrowsLagLemmas.{growth-cleared-lags}
+use Rattle.f11_store.proofs.GrowsLemmas.{cleared-grows, cleared-may-grow}
 use Rattle.f11_store.proofs.LagLaws.{lags_itself}
 use Rattle.f11_volume.specs.Volume.{volume_of}
 use Rattle.f11_image_store.specs.Allocation.{AddsZeroSlots, GainsBlocks, GainsBlocksAs, ownership_in}
@@ -91,7 +91,7 @@ module _ (s : Structure) (f : FileId) (n : ℕ) (end : FileEnd) (was last : List
       record {
         sound = there.sound;
         lags = subst (λ (x : Store). LagsBy work x st) (sym (there.store ∙ ap (λ (i : Image). with_change (store_of i home) k with_no_mark) image-then))
-            (cleared-as-lags st cleared_store k file.room n (lags_itself work cleared_store));
+            (growth-cleared-lags st cleared_store k file.room n (lags_itself work cleared_store));
       }
 
   writes-clearing : {faults : ℕ} {new : Disk} → Went (Clearing s f read) read new 1 faults → WritesAtMost P (header_count file + 1) old new faults
@@ -122,7 +122,7 @@ module _ (s : Structure) (f : FileId) (n : ℕ) (end : FileEnd) (was last : List
     may-grow there =
         let honest = sym still-honest ∙ there in
         subst (λ (x : Store). MayGrowAs x k n) (sym (store-cleared honest))
-        (cleared-may-as st k n (is-numbered honest) (ap (λ (g : File). first_of (growth_causes st g n)) (numbered honest) ∙ no_cause honest) (within honest))
+        (cleared-may-grow st k n (is-numbered honest) (ap (λ (g : File). first_of (growth_causes st g n)) (numbered honest) ∙ no_cause honest) (within honest))
 
     -- the images that stand while the file grows
     grown-moment : (image : Image) → GrowingByRuns s k n cleared image → P image
@@ -131,7 +131,7 @@ module _ (s : Structure) (f : FileId) (n : ℕ) (end : FileEnd) (was last : List
         let lags = subst (λ (x : Store). LagsBy (grow_work_of k (file_numbered after k).room n) (store_of image home) x) (store-cleared honest) there.lags in
         record {
           sound = there.sound;
-          lags = cleared-as-lags st (store_of image home) k file.room n (subst (λ (room : ℕ). LagsBy (grow_work_of k room n) (store_of image home) cleared_store) (room-cleared honest) lags);
+          lags = growth-cleared-lags st (store_of image home) k file.room n (subst (λ (room : ℕ). LagsBy (grow_work_of k room n) (store_of image home) cleared_store) (room-cleared honest) lags);
         }
 
     pub breaks-growing : {r : Refusal} {new : Disk} → Breaks (GrowingByRuns s k n cleared) (after.bitmap_blocks + 5 * n + 3 * need (file_numbered after k).room n + 3) r cleared new
@@ -151,7 +151,7 @@ module _ (s : Structure) (f : FileId) (n : ℕ) (end : FileEnd) (was last : List
     module _ (tail : Tail) (of : IsTailOf f block end.number last tail) (new : Disk) (grows : GrowsByRuns s k (ownership_of tail) n cleared new) where
       pub has-grown : IsTrue old.honest → GrowsAs st k n (store_of new.image home)
       has-grown honest =
-          (cleared-grows-as st (store_of new.image home) k n (is-numbered honest)
+          (cleared-grows st (store_of new.image home) k n (is-numbered honest)
           (subst (λ (x : Store). GrowsAs x k n (store_of new.image home)) (store-cleared honest) (grows.grew.grows (still-honest ∙ honest)))).0
 
       -- it has the lowest free blocks more

@@ -1,5 +1,5 @@
 -- A file that is extended, once its contiguous mark is cleared.
-use Rattle.std.proofs.Common.{◌≡◌, ◌+◌, ◌-◌, ◌*◌, ◌≤◌, ◌==◌, ℕ, Bool, true, false, cond, IsTrue, List, Some, None, refl, sym, ap, subst, ◌∙◌}
+use Rattle.std.proofs.Common.{arith, ◌≡◌, ◌+◌, ◌-◌, ◌*◌, ◌≤◌, ◌==◌, ℕ, Bool, true, false, cond, IsTrue, List, Some, None, refl, sym, ap, subst, ◌∙◌}
 use Rattle.f11_dev.specs.Disk.{Disk}
 use Rattle.f11_dev.specs.Went.{Went}
 use Rattle.f11_home.specs.Home.{HomeFields}
@@ -94,7 +94,7 @@ module _ (s : Structure) (f : FileId) (n : ℕ) (end : FileEnd) (was last : List
     extends-file tail of new grows = record {
       no_cause = finds.no_cause;
       makes = λ honest.
-          (grows-as-extends st (store_of new.image home) k n own (has-grown s f n end was last old read for finds named is-named no-growth-cause no-slots reads block cleared clears tail of new grows honest)).0;
+          (grows-as-extends st (store_of new.image home) k n (λ is. omega (arith, own, is)) (has-grown s f n end was last old read for finds named is-named no-growth-cause no-slots reads block cleared clears tail of new grows honest)).0;
       allots = gains-all s f n end was last old read for finds named is-named no-growth-cause no-slots reads block cleared clears tail of new grows;
       writes = as-extend (writes-grown s f n end was last old read for finds named is-named no-growth-cause no-slots reads block cleared clears tail of new grows);
     }

@@ -34,8 +34,8 @@ use Rattle.f11_index.specs.Kept.{room}
 use Rattle.f11_store.specs.Pieces.{GrowsSome}
 use Rattle.f11_index.specs.Table.{table_of}
 use Rattle.f11_files.specs.Extending.Slots.{GetsBlocks}
-use Rattle.f11_store.proofs.GrowsLagLemmas.{grown-as-lags, taken-as-lags}
-use Rattle.f11_store.proofs.GrowsLemmas.{grows-twice, none-grow, others-may-as}
+use Rattle.f11_store.proofs.GrowsLagLemmas.{growth-lags, growth-taken-lags}
+use Rattle.f11_store.proofs.GrowsLemmas.{grows-twice, none-grow, others-may}
 use Rattle.f11_files.proofs.GrowingIndex.ZeroSlots.{zero-same, zero-then}
 
 -- the work of growing, of a file whose last header is in hand
@@ -132,17 +132,17 @@ module _ (s : Structure) (tail : Tail) (n : ℕ) (old : Disk) (for : IsStructure
         let rest : n - so_far.done ≡ left = let sum = so_far.sum in omega (arith, sum) in
         let few : so_far.done ≤ n = let sum = so_far.sum in omega (arith, sum) in
         subst (λ (h : HomeFields). MayGrowAs (store_of now.image h) later.file.number left) (sym so_far.stays.home)
-        (subst (λ (j : ℕ). MayGrowAs tn j left) (sym number) (subst (MayGrowAs tn k) rest (others-may-as st tn k n so_far.done (may before) (has before) few)))
+        (subst (λ (j : ℕ). MayGrowAs tn j left) (sym number) (subst (MayGrowAs tn k) rest (others-may st tn k n so_far.done (may before) (has before) few)))
 
     pub next-below : IsTrue now.honest → NoneBelow now.image (bitmap_in t) from
     next-below honest = subst (λ (b : Bitmap). NoneBelow now.image b from) (sym so_far.bitmap) (so_far.none_below (was-honest honest))
 
     -- images that stand meanwhile
     lags : IsTrue old.honest → (u : Store) → TakesSome left (need (file_numbered tn k).room left) tn u ⊎ GrowsSome tn k left u → LagsBy (tail_work s tail n old) u st
-    lags honest u (inl takes) = let few : so_far.done + left ≤ n = let sum = so_far.sum in omega (arith, sum) in taken-as-lags st tn u k n so_far.done left (may honest) (has honest) few takes
+    lags honest u (inl takes) = let few : so_far.done + left ≤ n = let sum = so_far.sum in omega (arith, sum) in growth-taken-lags st tn u k n so_far.done left (has honest) few takes
     lags honest u (inr some) =
         let few : so_far.done + some.0 ≤ n = let sum = so_far.sum in let less = some.1 in omega (arith, sum, less) in
-        grown-as-lags st u k n (so_far.done + some.0) (may honest) (grows-twice st tn u k n so_far.done some.0 (may honest) few (has honest) some.2).0 few
+        growth-lags st u k n (so_far.done + some.0) (grows-twice st tn u k n so_far.done some.0 (may honest) few (has honest) some.2).0 few
 
     moment : (image : Image) → GrowingBy (home_of t) (store_on t now) later.file.number left now image → P image
     moment image is honest =

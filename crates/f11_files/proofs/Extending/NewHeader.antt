@@ -49,7 +49,7 @@ module _ (s : Structure) (tail : Tail) (lbn count : ℕ) (old : Disk) (for : IsS
     headers = headers-here s tail old for last honest
 
     has : HasRoom (with_more_free st count) file count
-    has = has-room (with_more_free st count) file count (may honest).file.no_cause
+    has = has-room (with_more_free st count) file count (may honest).places.no_cause
 
     needed : 1 ≤ need file.room count
     needed = omega (arith, no-room, given.some)

@@ -33,7 +33,7 @@ use Rattle.f11_files.proofs.AnswerLemmas.{right-fault, reads-within}
 use Rattle.f11_files.proofs.Extending.Cleared.{fatal-right, reads-found, honest-cleared}
 use Rattle.f11_files.proofs.GrowingIndex.IndexFile.{index-is}
 use Rattle.f11_files.proofs.Opening.Space.{slots-of}
-use Rattle.f11_files.proofs.WriteLemmas.{breaks-off, failed-stays, looked-stays}
+use Rattle.f11_files.proofs.WriteLemmas.{breaks-off, failed-stays}
 use Rattle.f11_files.specs.Extending.Runs.{IsTailOf}
 use Rattle.f11_files.specs.Extending.Tail.{ownership_of}
 use Rattle.f11_store.proofs.GrowsLemmas.{grows-as-index}
@@ -112,9 +112,6 @@ module _ (s : Structure) (n : ℕ) (end : FileEnd) (was last : List ℕ) (old re
     writes = record { transfers = reads-there.reads; went = went_looked (Meanwhile (work_if (first_of (grow_causes st n)) work) home old) reads-there.looked; few = λ honest. let few = reads-there.few honest in let cost = read-cost st file n in omega (arith, few, cost) };
     unchanged = λ _. reads-within (let cost = read-cost st file n in omega (arith, cost)) reads-there;
   }
-
-  pub wants-stays : StaysFor false s s read
-  wants-stays = looked-stays s false old read for reads-there.looked
 
   is-numbered : IsTrue old.honest → st.file 1 ≡ Some file
   is-numbered honest = (index-is s old for honest index_id refl refl).2

@@ -1,5 +1,5 @@
 -- Blocks of zeros that the index file has behind its others are slots.
-use Rattle.std.proofs.Common.{◌≡◌, ◌≢◌, ◌+◌, ◌-◌, ◌*◌, ◌<◌, ◌≤◌, ℕ, true, false, IsTrue, List, ◌++◌, length, min, get_or, Some, refl, sym, ap, subst, ◌∙◌, arith}
+use Rattle.std.proofs.Common.{◌≡◌, ◌≢◌, ◌+◌, ◌-◌, ◌*◌, ◌<◌, ◌≤◌, ℕ, true, IsTrue, List, ◌++◌, length, min, get_or, Some, refl, sym, ap, subst, ◌∙◌, arith}
 use Rattle.std.specs.List.{slice_get, range_with_len}
 use Rattle.std.proofs.Math.ListN.{set}
 use Rattle.std.proofs.lemmas.List.{length-append, length-take, length-set, get_or-take, get_or-append-add}
@@ -33,7 +33,7 @@ use Rattle.f11_writes.specs.Kept.{WritesGrowth}
 use Rattle.f11_writes.proofs.SlotLemmas.{header-placed-at}
 use Rattle.f11_image_store.specs.FileLaws.{HasSlotsMore}
 use Rattle.f11_image_store.specs.StoreOf.{store_of}
-use Rattle.f11_files.specs.Structure.{index_in, bitmap_in, home_of, IsStructureFor, StaysFor}
+use Rattle.f11_files.specs.Structure.{index_in, bitmap_in, home_of, IsStructureFor}
 use Rattle.f11_files.specs.Extending.Zeros.{HoldsZeros}
 use Rattle.f11_files.specs.declared.structure.Structure.{Structure}
 use Rattle.f11_files.proofs.WriteLemmas.{keeps-storage}
@@ -157,7 +157,7 @@ module _ (s : Structure) (after : IndexFile) (n : ℕ) (block : List ℕ) (lbn c
   was-honest : IsTrue new.honest → IsTrue old.honest
   was-honest honest = sym (ap (λ (d : Disk). d.honest) is) ∙ honest
 
-  pub grown-image : IsTrue old.honest → new.image ≡ with_header old.image home n block
+  grown-image : IsTrue old.honest → new.image ≡ with_header old.image home n block
   grown-image honest = ap (λ (d : Disk). d.image) new-is ∙ ap (λ (x : Index). set old.image (header_lbn x n) block) (for.keeps honest).index_is
 
   pub grown-for : IsStructureFor t new
@@ -179,6 +179,3 @@ module _ (s : Structure) (after : IndexFile) (n : ℕ) (block : List ℕ) (lbn c
           (keeps-storage s old.image (with_header old.image home n block) (wrote before).slot.bitmap_blocks (for.keeps before));
     };
   }
-
-  pub grown-stays : StaysFor false s t new
-  grown-stays = record { home = refl; lies = λ _. grown-for.lies; sound = grown-for.sound; keeps = λ _. grown-for.keeps }

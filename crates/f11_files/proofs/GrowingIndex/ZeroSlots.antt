@@ -5,13 +5,10 @@ use Rattle.f11_bytes.specs.Block.{zero_block}
 use Rattle.f11_dev.specs.Image.{Image}
 use Rattle.f11_home.specs.Home.{HomeFields}
 use Rattle.f11_index.specs.IndexFile.{Index, slots}
-use Rattle.f11_index.specs.Table.{Table, table_in, table_of, IsFile}
-use Rattle.f11_volume.specs.Volume.{Volume}
+use Rattle.f11_index.specs.Table.{Table, table_in, table_of}
 use Rattle.f11_writes.specs.Kept.{WritesHeader, WritesGrowth}
-use Rattle.f11_image_store.specs.Allocation.{AddsZeroSlots, GainsSlotsAs}
+use Rattle.f11_image_store.specs.Allocation.{AddsZeroSlots}
 use Rattle.f11_image_store.specs.ExtensionLaws.{EntersExtension}
-use Rattle.f11_image_store.proofs.AllocationLemmas.{gains-add, gains-nothing}
-use Rattle.f11_store.specs.declared.callers.Uic.{Uic}
 
 pub zero-same : (t : Table) → AddsZeroSlots t t
 zero-same t = record {
@@ -81,14 +78,4 @@ zero-grown old new home n block lbn count wrote used more zeros = record {
   unused = λ m some within unused. sym (wrote.index_file.in_use m within) ∙ unused;
   held = λ m some within unused.
       wrote.index_file.others m some within (λ here. both_ways _ unused (wrote.index_file.in_use m within ∙ ap (table_of old home).in_use here ∙ used));
-}
-
--- an index file that gains no slots, and one that gains some twice
-pub slots-nothing : (ownership : Uic × ℕ) (v : Volume) → IsFile v.table 1 → GainsSlotsAs ownership 0 v v
-slots-nothing ownership v file = record { blocks = gains-nothing 1 ownership v file; slots = zero-same v.table }
-
-pub slots-add : (ownership : Uic × ℕ) (a b : ℕ) (v w x : Volume) → GainsSlotsAs ownership a v w → GainsSlotsAs ownership b w x → GainsSlotsAs ownership (a + b) v x
-slots-add ownership a b v w x one two = record {
-  blocks = gains-add 1 ownership a b v w x one.blocks two.blocks;
-  slots = zero-then v.table w.table x.table one.slots two.slots;
 }

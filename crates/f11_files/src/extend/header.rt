@@ -1,5 +1,5 @@
 //! A new last header of a file.
-ghost use Rattle.std.specs.Prelude.{◌≡◌, ◌+◌, ◌<◌, ◌≤◌, ◌==◌, ◌^◌, IfErr, IfOk, IsTrue, OnOk};
+ghost use Rattle.std.specs.Prelude.{◌≡◌, ◌+◌, ◌<◌, ◌≤◌, ◌==◌, ◌^◌, IfErr, IfOk, IsTrue, OnOk, []};
 ghost use Rattle.std.specs.List.{range_with_len};
 ghost use Rattle.f11_files.specs.Answers.{is_fatal, is_refused, Breaks};
 ghost use Rattle.f11_image_store.specs.Confines.{new_header};
@@ -131,8 +131,8 @@ impl Structure {
             (D.disk device.old) (D.disk device.new)) }
         ensures stays { StaysFor (is_refused is_fatal result) self.old self.new
             (D.disk device.new) }
-        ensures confined { WritesGrowth self.old tail.old (range_with_len lbn count)
-            (D.disk device.old) (D.disk device.new) }
+        ensures confined { WritesGrowth self.old tail.old [] (D.disk device.old)
+            (D.disk device.new) }
         ensures places { OnOk result
             (GrowsWithin self.old tail.old (range_with_len lbn count) self.new tail.new) }
     {

@@ -1,10 +1,9 @@
-use Rattle.std.proofs.Common.{arith}
+use Rattle.std.proofs.Common.{[], arith}
 use Rattle.f11_files.proofs.Extending.AddHeader.{names-these, may-come, within-then, fails-link, failed-link-stays, appends-linked, linked-stays}
 use Rattle.f11_files.proofs.AnswerLemmas.{handed}
 use Rattle.f11_files.proofs.Extending.HeaderBlock.{segment-said}
 use Rattle.f11_files.proofs.Removing.Freeing.{stays-for}
 use Rattle.f11_files.proofs.Extending.NewHeader.{too-many, some-free, fails-enter}
-use Rattle.std.specs.List.{range_with_len}
 use Rattle.f11_files.proofs.Confining.Parts.{to-parts}
 use Rattle.f11_files.proofs.Extending.Parts.{grows-linked, grows-taken-behind, of-new}
 use Rattle.f11_image_store.specs.Confines.{new_header}
@@ -73,14 +72,14 @@ returns-clause-stays g c = linked-stays c.args.self.now c.args.tail.now c.args.l
     _ c.in_ok-id.id c.enter_header.new.block _ c.in_ok-id.ensures.entered c.in_ok-id.ensures.stays _ _ c.in-Ok.ensures.links c.in-Ok.ensures.stays
 
 pub returns-in-Err-clause-confined : goal.returns-in-Err-clause-confined
-returns-in-Err-clause-confined g c = grows-linked c.args.self.now c.enter_header.new.self c.args.tail.now c.in_ok-id.id.number (range_with_len c.args.lbn c.args.count) c.in_ok-id.ensures.places c.in_ok-id.ensures.confined c.link_tail.ensures.confined
+returns-in-Err-clause-confined g c = grows-linked c.args.self.now c.enter_header.new.self c.args.tail.now c.in_ok-id.id.number [] c.in_ok-id.ensures.places c.in_ok-id.ensures.confined c.link_tail.ensures.confined
 
 pub returns-clause-confined : goal.returns-clause-confined
-returns-clause-confined g c = grows-linked c.args.self.now c.enter_header.new.self c.args.tail.now c.in_ok-id.id.number (range_with_len c.args.lbn c.args.count) c.in_ok-id.ensures.places c.in_ok-id.ensures.confined c.link_tail.ensures.confined
+returns-clause-confined g c = grows-linked c.args.self.now c.enter_header.new.self c.args.tail.now c.in_ok-id.id.number [] c.in_ok-id.ensures.places c.in_ok-id.ensures.confined c.link_tail.ensures.confined
 
 pub returns-in_err-id-clause-confined : goal.returns-in_err-id-clause-confined
 returns-in_err-id-clause-confined g c =
-    to-parts c.args.self.now _ (new_header (index_in c.args.self.now)) (range_with_len c.args.lbn c.args.count) (of-new c.args.self.now c.args.tail.now) c.enter_header.ensures.confined
+    to-parts c.args.self.now _ (new_header (index_in c.args.self.now)) [] (of-new c.args.self.now c.args.tail.now) c.enter_header.ensures.confined
 
 pub returns-clause-places : goal.returns-clause-places
 returns-clause-places g c = grows-taken-behind c.args.self.now c.enter_header.new.self c.link_tail.new.self c.args.tail.now c.in_ok-id.id.number c.args.lbn c.args.count c.in_ok-id.ensures.places c.in-Ok.ensures.places

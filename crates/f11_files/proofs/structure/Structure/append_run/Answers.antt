@@ -1,4 +1,4 @@
-use Rattle.std.proofs.Common.{refl, ap}
+use Rattle.std.proofs.Common.{[], refl, ap}
 use Rattle.std.proofs.lemmas.Result.{IfErr-weaker, on_ok_weaker}
 use Rattle.f11_files.proofs.Extending.AppendRun.{sound-moment, fails-zeros, mid-come, then-for, then-last, then-gets, then-given, then-within, then-reserved, then-may, then-stays, appends-header, fails-header, fails-named, appends-named}
 use Rattle.f11_files.proofs.Extending.Growing.{breaks-stays}
@@ -106,7 +106,7 @@ returns-clause-confined g c =
     let run = range_with_len c.args.lbn c.args.count in
     let full = c.in-Ok-name_run.ensures.full c.if-named.false in
     let same = ap (λ (x : Tail). x.number) full.1.tail_is in
-    growth-then s t c.args.tail.now c.name_run.new.tail run run (grows-same s t c.args.tail.now c.name_run.new.tail run full.0 same) (λ l out. out)
+    growth-then s t c.args.tail.now c.name_run.new.tail run [] (grows-same s t c.args.tail.now c.name_run.new.tail run full.0 same) (λ l _. refl)
     (growth-named s c.args.tail.now run c.zero_run.ensures.confined c.name_run.ensures.confined) c.add_header.ensures.confined
 
 pub returns-clause-places : goal.returns-clause-places
