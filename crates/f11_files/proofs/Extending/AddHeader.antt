@@ -21,7 +21,7 @@ use Rattle.f11_store.specs.Pieces.{with_more_free, GrowsAs, MayGrowAs, new_block
 use Rattle.f11_files.specs.Extending.Header.{AppendingRun, AppendsRun, EntersHeader}
 use Rattle.f11_image_store.specs.FileLaws.{pointers_in, room_in}
 use Rattle.f11_files.specs.Extending.Growing.{Taking, Grew, SameFree}
-use Rattle.f11_files.specs.Extending.Link.{Linking, LinksTail, with_header_of}
+use Rattle.f11_files.specs.Extending.Link.{Linking, LinksTail, with_header_of, NamesThese}
 use Rattle.f11_image_store.specs.StoreOf.{store_of}
 use Rattle.f11_files.specs.Structure.{home_of, store_on, IsStructureFor, StaysFor, bitmap_in}
 use Rattle.f11_files.specs.Extending.Tail.{HasStore, HoldsLast, MayBeGiven, whose, ownership_of}
@@ -35,7 +35,6 @@ use Rattle.f11_files.proofs.Extending.NewHeader.{no-room, taken-moment}
 use Rattle.f11_store.proofs.PieceLemmas.{with_linked}
 use Rattle.f11_bits.specs.Bitmap.{Bitmap}
 use Rattle.f11_index.specs.Kept.{room}
-use Rattle.f11_files.specs.Extending.Link.{NamesThese}
 use Rattle.f11_files.proofs.GrowingIndex.ZeroSlots.{zero-then}
 use Rattle.f11_files.specs.Extending.Slots.{MayCome}
 use Rattle.f11_store.proofs.GrowsLemmas.{linked-grown}

@@ -9,7 +9,7 @@ use Rattle.f11_store.specs.File.{need}
 use Rattle.f11_store.specs.Store.{Store}
 use Rattle.f11_store.specs.declared.refusals.Refusal.{Refusal}
 use Rattle.f11_files.specs.Answers.{WritesAtMost, Breaks}
-use Rattle.f11_store.specs.Pieces.{with_more_free, file_numbered, TakesSome, GrowsAs, MayGrowAs}
+use Rattle.f11_store.specs.Pieces.{with_more_free, file_numbered, TakesSome, GrowsAs, MayGrowAs, GrowsSome}
 use Rattle.f11_files.specs.Extending.Runs.{AddsRun}
 use Rattle.f11_files.specs.Extending.Header.{AppendingRun, AppendsRun}
 use Rattle.f11_files.specs.Extending.Growing.{Taking, IsGrowing, GrowingBy, Grew}
@@ -24,7 +24,6 @@ use Rattle.f11_files.proofs.Extending.Growing.{takes-within, grew-behind, grew-w
 use Rattle.f11_store.proofs.PieceLemmas.{may-free, taking-adds}
 use Rattle.f11_files.proofs.Extending.Take.{takes-blocks}
 use Rattle.f11_files.proofs.Extending.TakenRun.{run-cost, break-cost, store-mid, store-free, none-left, run-gained, slots-gained}
-use Rattle.f11_store.specs.Pieces.{GrowsSome}
 use Rattle.f11_store.proofs.GrowsLemmas.{fewer-may-grow}
 
 -- what stands while a run is taken

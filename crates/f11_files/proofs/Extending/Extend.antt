@@ -16,7 +16,7 @@ use Rattle.f11_files.specs.Answers.{Breaks, Meanwhile, ReadsAtMost, WritesAtMost
 use Rattle.f11_files.specs.Extending.Mark.{Clearing, ClearsMark}
 use Rattle.f11_files.specs.Extending.Runs.{ExtendsFile, FailsToExtend, GrowingByRuns, GrowsByRuns, IsLengthAfter, IsTailOf}
 use Rattle.f11_files.specs.Operations.{extend_causes}
-use Rattle.f11_store.specs.Pieces.{file_numbered}
+use Rattle.f11_store.specs.Pieces.{file_numbered, MayGrowAs, grow_work_if, grow_work_of}
 use Rattle.f11_files.specs.Extending.Room.{FindsRoom}
 use Rattle.f11_image_store.specs.StoreOf.{store_of}
 use Rattle.f11_files.specs.Structure.{home_of, store_on, IsStructureFor, StaysFor}
@@ -30,7 +30,6 @@ use Rattle.f11_files.proofs.WriteLemmas.{breaks-off, failed-stays}
 use Rattle.f11_files.specs.Extending.Tail.{ownership_of}
 use Rattle.std.proofs.lemmas.Bool.{false≢true}
 use Rattle.f11_store.proofs.GrowsLemmas.{grows-as-extends}
-use Rattle.f11_store.specs.Pieces.{MayGrowAs, grow_work_if, grow_work_of}
 use Rattle.f11_files.proofs.Extending.Written.{are-none}
 use Rattle.f11_files.proofs.Extending.ClearAndGrow.{breaks-clearing, breaks-growing, gains-all, has-grown, may-grow, writes-grown}
 use Rattle.f11_files.specs.declared.extend.tail.Tail.{Tail}

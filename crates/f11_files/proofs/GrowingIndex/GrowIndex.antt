@@ -33,13 +33,11 @@ use Rattle.f11_files.proofs.AnswerLemmas.{right-fault, reads-within}
 use Rattle.f11_files.proofs.Extending.Cleared.{fatal-right, reads-found, honest-cleared}
 use Rattle.f11_files.proofs.GrowingIndex.IndexFile.{index-is}
 use Rattle.f11_files.proofs.Opening.Space.{slots-of}
-use Rattle.f11_files.proofs.WriteLemmas.{breaks-off, failed-stays}
-use Rattle.f11_files.specs.Extending.Runs.{IsTailOf}
+use Rattle.f11_files.proofs.WriteLemmas.{breaks-off, failed-stays, writes-within}
+use Rattle.f11_files.specs.Extending.Runs.{IsTailOf, GrowingByRuns, GrowsByRuns}
 use Rattle.f11_files.specs.Extending.Tail.{ownership_of}
 use Rattle.f11_store.proofs.GrowsLemmas.{grows-as-index}
 use Rattle.f11_store.specs.Pieces.{MayGrowAs}
-use Rattle.f11_files.specs.Extending.Runs.{GrowingByRuns, GrowsByRuns}
-use Rattle.f11_files.proofs.WriteLemmas.{writes-within}
 use Rattle.f11_files.proofs.Extending.ClearAndGrow.{breaks-clearing, breaks-growing, clear-cost, gains-all, has-grown, may-grow, writes-grown, zeros-all}
 use Rattle.f11_files.specs.declared.extend.tail.Tail.{Tail}
 
