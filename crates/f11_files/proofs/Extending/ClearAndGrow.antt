@@ -49,10 +49,15 @@ cleared-room s k = go (eqb k k) (s.file k)
 pub clear-cost : (s : Store) (f : File) (n : ℕ) → header_count f + 1 ≤ growth_cost s f n - 1
 clear-cost s f n = let many = enough s.index_bitmap_blocks ((n + 101) / 102) in omega (arith, many)
 
--- there is room for more blocks, and no cause against them
+-- File k, which is this one in the store, has room for n blocks more, and nothing is against them; its headers were read.
+pub record HasRoomFor (s : Structure) (k n : ℕ) (file : File) (old read : Disk) : Type 0 where
+  pub is_file : IsTrue old.honest → (store_on s old).file k ≡ Some file
+  pub no_cause : IsTrue old.honest → first_of (growth_causes (store_on s old) file n) ≡ None
+  pub within : IsTrue old.honest → IsTrue (k == 1) → (store_on s old).slots + n ≤ (store_on s old).limit
+  pub reads : ReadsAtMost (header_count file) old read 0
+
 module _ (s : Structure) (f : FileId) (n : ℕ) (end : FileEnd) (was last : List ℕ) (old read : Disk) (for : IsStructureFor s old) (finds : FindsRoom s f n end was last old read) (file : File)
-    (is_file : IsTrue old.honest → (store_on s old).file f.number ≡ Some file) (no_cause : IsTrue old.honest → first_of (growth_causes (store_on s old) file n) ≡ None)
-    (within : IsTrue old.honest → IsTrue (f.number == 1) → (store_on s old).slots + n ≤ (store_on s old).limit) (reads : ReadsAtMost (header_count file) old read 0) where
+    (has : HasRoomFor s f.number n file old read) where
   abbrev home : HomeFields
   home = home_of s
 
@@ -79,10 +84,10 @@ module _ (s : Structure) (f : FileId) (n : ℕ) (end : FileEnd) (was last : List
 
   module _ (honest : IsTrue old.honest) where
     numbered : file_numbered st k ≡ file
-    numbered = ap (λ (o : Option File). unwrap_or o no_file) (is_file honest)
+    numbered = ap (λ (o : Option File). unwrap_or o no_file) (has.is_file honest)
 
     is-numbered : st.file k ≡ Some (file_numbered st k)
-    is-numbered = is_file honest ∙ ap Some (sym numbered)
+    is-numbered = has.is_file honest ∙ ap Some (sym numbered)
 
   -- the mark is cleared
   clear-moment : (image : Image) → Clearing s f read image → P image
@@ -95,7 +100,7 @@ module _ (s : Structure) (f : FileId) (n : ℕ) (end : FileEnd) (was last : List
       }
 
   writes-clearing : {faults : ℕ} {new : Disk} → Went (Clearing s f read) read new 1 faults → WritesAtMost P (header_count file + 1) old new faults
-  writes-clearing went = writes-behind reads (went_weaker (Clearing s f read) P clear-moment went)
+  writes-clearing went = writes-behind has.reads (went_weaker (Clearing s f read) P clear-moment went)
 
   pub breaks-clearing : {new : Disk} → Went (Clearing s f read) read new 1 1 → WritesAtMost P (growth_cost st file n - 1) old new 1
   breaks-clearing went =
@@ -122,7 +127,7 @@ module _ (s : Structure) (f : FileId) (n : ℕ) (end : FileEnd) (was last : List
     may-grow there =
         let honest = sym still-honest ∙ there in
         subst (λ (x : Store). MayGrowAs x k n) (sym (store-cleared honest))
-        (cleared-may-grow st k n (is-numbered honest) (ap (λ (g : File). first_of (growth_causes st g n)) (numbered honest) ∙ no_cause honest) (within honest))
+        (cleared-may-grow st k n (is-numbered honest) (ap (λ (g : File). first_of (growth_causes st g n)) (numbered honest) ∙ has.no_cause honest) (has.within honest))
 
     -- the images that stand while the file grows
     grown-moment : (image : Image) → GrowingByRuns s k n cleared image → P image

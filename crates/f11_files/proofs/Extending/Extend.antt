@@ -5,14 +5,14 @@ use Rattle.f11_dev.specs.Went.{Went}
 use Rattle.f11_home.specs.Home.{HomeFields}
 use Rattle.f11_chain.specs.declared.blocks.FileEnd.{FileEnd}
 use Rattle.f11_store.specs.Causes.{first_of, growth_causes}
-use Rattle.f11_store.specs.Cost.{growth_cost, header_count}
+use Rattle.f11_store.specs.Cost.{growth_cost}
 use Rattle.f11_store.specs.File.{File, need}
 use Rattle.f11_store.specs.Lags.{Work, extend_work}
 use Rattle.f11_store.specs.Store.{Store, file_named}
 use Rattle.f11_store.specs.declared.files.FileId.{FileId}
 use Rattle.f11_store.specs.declared.refusals.Refusal.TheVariants.{NoSuchFile, DeviceFault}
 use Rattle.f11_store.specs.declared.refusals.Refusal.{Refusal}
-use Rattle.f11_files.specs.Answers.{Breaks, Meanwhile, ReadsAtMost, WritesAtMost}
+use Rattle.f11_files.specs.Answers.{Breaks, Meanwhile, WritesAtMost}
 use Rattle.f11_files.specs.Extending.Mark.{Clearing, ClearsMark}
 use Rattle.f11_files.specs.Extending.Runs.{ExtendsFile, FailsToExtend, GrowingByRuns, GrowsByRuns, IsLengthAfter, IsTailOf}
 use Rattle.f11_files.specs.Operations.{extend_causes}
@@ -31,7 +31,7 @@ use Rattle.f11_files.specs.Extending.Tail.{ownership_of}
 use Rattle.std.proofs.lemmas.Bool.{false≢true}
 use Rattle.f11_store.proofs.GrowsLemmas.{grows-as-extends}
 use Rattle.f11_files.proofs.Extending.Written.{are-none}
-use Rattle.f11_files.proofs.Extending.ClearAndGrow.{breaks-clearing, breaks-growing, gains-all, has-grown, may-grow, writes-grown}
+use Rattle.f11_files.proofs.Extending.ClearAndGrow.{HasRoomFor, breaks-clearing, breaks-growing, gains-all, has-grown, may-grow, writes-grown}
 use Rattle.f11_files.specs.declared.extend.tail.Tail.{Tail}
 
 module _ (s : Structure) (f : FileId) (n : ℕ) (end : FileEnd) (was last : List ℕ) (old read : Disk) (for : IsStructureFor s old) (own : 4 ≤ f.number) (finds : FindsRoom s f n end was last old read) where
@@ -65,20 +65,20 @@ module _ (s : Structure) (f : FileId) (n : ℕ) (end : FileEnd) (was last : List
       ap (λ (b : Bool). cond b (Some NoSuchFile) (first_of (growth_causes st named n))) (sym (found-named s f old for honest (is-file s f was old for finds.holds honest)).0)
       ∙ finds.no_cause honest
 
-  reads : ReadsAtMost (header_count named) old read 0
-  reads = reads-found s f n end was last old read for finds
+  has : HasRoomFor s k n named old read
+  has = record { is_file = is-named; no_cause = no-growth-cause; within = no-slots; reads = reads-found s f n end was last old read for finds }
 
   -- the mark is cleared
   pub fails-clearing : (new : Disk) → Went (Clearing s f read) read new 1 1 → FailsToExtend false home f n DeviceFault old new
   fails-clearing new went =
-      breaks-off finds.no_cause refl (right-fault _ _) (as-extend (breaks-clearing s f n end was last old read for finds named is-named no-growth-cause no-slots reads went))
+      breaks-off finds.no_cause refl (right-fault _ _) (as-extend (breaks-clearing s f n end was last old read for finds named has went))
 
   pub stays-clearing : (new : Disk) → Went (Clearing s f read) read new 1 1 → StaysFor true s s new
   stays-clearing new went = failed-stays s s _ old new for refl (fails-clearing new went).writes.went
 
   module _ (block : List ℕ) (cleared : Disk) (clears : ClearsMark s f was block read cleared) where
     pub may-extend : IsTrue cleared.honest → MayGrowAs (store_on s cleared) k n
-    may-extend = may-grow s f n end was last old read for finds named is-named no-growth-cause no-slots reads block cleared clears
+    may-extend = may-grow s f n end was last old read for finds named has block cleared clears
 
     pub fails-growing : (r : Refusal) (new : Disk)
         → Breaks (GrowingByRuns s k n cleared) ((store_on s cleared).bitmap_blocks + 5 * n + 3 * need (file_numbered (store_on s cleared) k).room n + 3) r cleared new
@@ -86,16 +86,16 @@ module _ (s : Structure) (f : FileId) (n : ℕ) (end : FileEnd) (was last : List
     fails-growing r new breaks =
         breaks-off finds.no_cause breaks.fatal
         (fatal-right (extend_causes st f n) r old.honest breaks.fatal (λ honest. breaks.undamaged (honest-cleared s f n end was last old read for finds block cleared clears ∙ honest)))
-        (as-extend (breaks-growing s f n end was last old read for finds named is-named no-growth-cause no-slots reads block cleared clears breaks))
+        (as-extend (breaks-growing s f n end was last old read for finds named has block cleared clears breaks))
 
     pub extends-file : (tail : Tail) → IsTailOf f block end.number last tail → (new : Disk) → GrowsByRuns s k (ownership_of tail) n cleared new
         → ExtendsFile home f n old new
     extends-file tail of new grows = record {
       no_cause = finds.no_cause;
       makes = λ honest.
-          (grows-as-extends st (store_of new.image home) k n (λ is. omega (arith, own, is)) (has-grown s f n end was last old read for finds named is-named no-growth-cause no-slots reads block cleared clears tail of new grows honest)).0;
-      allots = gains-all s f n end was last old read for finds named is-named no-growth-cause no-slots reads block cleared clears tail of new grows;
-      writes = as-extend (writes-grown s f n end was last old read for finds named is-named no-growth-cause no-slots reads block cleared clears tail of new grows);
+          (grows-as-extends st (store_of new.image home) k n (λ is. omega (arith, own, is)) (has-grown s f n end was last old read for finds named has block cleared clears tail of new grows honest)).0;
+      allots = gains-all s f n end was last old read for finds named has block cleared clears tail of new grows;
+      writes = as-extend (writes-grown s f n end was last old read for finds named has block cleared clears tail of new grows);
     }
 
   pub length-after : IsLengthAfter home f n old (end.blocks + n)

@@ -1,5 +1,5 @@
 -- More slots for the index file: its room, memory for them, its contiguous mark, and then run by run.
-use Rattle.std.proofs.Common.{◌-◌, ◌==◌, ◌≡◌, ◌≢◌, ◌+◌, ◌*◌, ◌≤◌, ◌&&◌, ◌||◌, ℕ, Bool, true, false, cond, IsTrue, List, Some, None, ltb, eqb, refl, sym, ap, subst, ◌∙◌, arith}
+use Rattle.std.proofs.Common.{◌-◌, ◌≡◌, ◌≢◌, ◌+◌, ◌*◌, ◌≤◌, ◌&&◌, ◌||◌, ℕ, Bool, true, false, cond, IsTrue, List, Some, None, ltb, eqb, refl, sym, ap, subst, ◌∙◌, arith}
 use Rattle.std.proofs.lemmas.Bool.{le-ltb}
 use Rattle.f11_dev.specs.Disk.{Disk}
 use Rattle.f11_dev.specs.Went.{Went}
@@ -38,7 +38,7 @@ use Rattle.f11_files.specs.Extending.Runs.{IsTailOf, GrowingByRuns, GrowsByRuns}
 use Rattle.f11_files.specs.Extending.Tail.{ownership_of}
 use Rattle.f11_store.proofs.GrowsLemmas.{grows-as-index}
 use Rattle.f11_store.specs.Pieces.{MayGrowAs}
-use Rattle.f11_files.proofs.Extending.ClearAndGrow.{breaks-clearing, breaks-growing, clear-cost, gains-all, has-grown, may-grow, writes-grown, zeros-all}
+use Rattle.f11_files.proofs.Extending.ClearAndGrow.{HasRoomFor, breaks-clearing, breaks-growing, clear-cost, gains-all, has-grown, may-grow, writes-grown, zeros-all}
 use Rattle.f11_files.specs.declared.extend.tail.Tail.{Tail}
 
 -- there is room for more slots
@@ -111,11 +111,8 @@ module _ (s : Structure) (n : ℕ) (end : FileEnd) (was last : List ℕ) (old re
     unchanged = λ _. reads-within (let cost = read-cost st file n in omega (arith, cost)) reads-there;
   }
 
-  is-numbered : IsTrue old.honest → st.file 1 ≡ Some file
-  is-numbered honest = (index-is s old for honest index_id refl refl).2
-
-  within : IsTrue old.honest → IsTrue (1 == 1) → st.slots + n ≤ st.limit
-  within honest _ = finds.within honest
+  has : HasRoomFor s 1 n file old read
+  has = record { is_file = λ honest. (index-is s old for honest index_id refl refl).2; no_cause = no-growth-cause; within = λ honest _. finds.within honest; reads = reads-there }
 
   -- in no more transfers than the cost
   as-whole : {new : Disk} {faults : ℕ} → WritesAtMost (Meanwhile work home old) (growth_cost st file n - 1) old new faults → WritesAtMost (Meanwhile work home old) (growth_cost st file n) old new faults
@@ -126,7 +123,7 @@ module _ (s : Structure) (n : ℕ) (end : FileEnd) (was last : List ℕ) (old re
   fails-clearing new went =
       as-grow (λ is. omega (arith, is))
       (breaks-off no-cause refl (right-fault _ _)
-      (as-whole (breaks-clearing s index_id n end was last old read for finds.room file is-numbered no-growth-cause within reads-there went)))
+      (as-whole (breaks-clearing s index_id n end was last old read for finds.room file has went)))
 
   pub stays-clearing : (new : Disk) → Went (Clearing s index_id read) read new 1 1 → StaysFor true s s new
   stays-clearing new went = failed-stays s s _ old new for refl (fails-clearing new went).writes.went
@@ -136,26 +133,26 @@ module _ (s : Structure) (n : ℕ) (end : FileEnd) (was last : List ℕ) (old re
     still-honest = honest-cleared s index_id n end was last old read for finds.room block cleared clears
 
     pub may-grow-index : IsTrue cleared.honest → MayGrowAs (store_on s cleared) 1 n
-    may-grow-index = may-grow s index_id n end was last old read for finds.room file is-numbered no-growth-cause within reads-there block cleared clears
+    may-grow-index = may-grow s index_id n end was last old read for finds.room file has block cleared clears
 
     pub fails-growing : (r : Refusal) (new : Disk)
         → Breaks (GrowingByRuns s 1 n cleared) ((store_on s cleared).bitmap_blocks + 5 * n + 3 * need (index_file (store_on s cleared)).room n + 3) r cleared new → FailsToGrow false home n r old new
     fails-growing r new breaks = as-grow (λ is. let no : true ≡ false = sym breaks.fatal ∙ ap (ltb 18) is in absurd cc)
         (breaks-off no-cause breaks.fatal (fatal-right (grow_causes st n) r old.honest breaks.fatal (λ honest. breaks.undamaged (still-honest ∙ honest)))
-        (as-whole (breaks-growing s index_id n end was last old read for finds.room file is-numbered no-growth-cause within reads-there block cleared clears breaks)))
+        (as-whole (breaks-growing s index_id n end was last old read for finds.room file has block cleared clears breaks)))
 
     module _ (tail : Tail) (of : IsTailOf index_id block end.number last tail) (new : Disk) (grows : GrowsByRuns s 1 (ownership_of tail) n cleared new) where
       grown : IsTrue old.honest → GrowsIndex st n (store_of new.image home)
       grown honest =
           grows-as-index st (store_of new.image home) n
-          (has-grown s index_id n end was last old read for finds.room file is-numbered no-growth-cause within reads-there block cleared clears tail of new grows honest)
+          (has-grown s index_id n end was last old read for finds.room file has block cleared clears tail of new grows honest)
 
       -- it has the lowest free blocks more, which hold zeros
       slots-gained : IsTrue old.honest → GainsSlots n (volume_of old.image home) (volume_of new.image home)
       unfolding volume_of
       slots-gained honest = record {
-        blocks = gains-all s index_id n end was last old read for finds.room file is-numbered no-growth-cause within reads-there block cleared clears tail of new grows honest;
-        slots = zeros-all s index_id n end was last old read for finds.room file is-numbered no-growth-cause within reads-there block cleared clears tail of new grows honest;
+        blocks = gains-all s index_id n end was last old read for finds.room file has block cleared clears tail of new grows honest;
+        slots = zeros-all s index_id n end was last old read for finds.room file has block cleared clears tail of new grows honest;
       }
 
       pub grows-file : GrowsIndexFile home n old new
@@ -163,7 +160,7 @@ module _ (s : Structure) (n : ℕ) (end : FileEnd) (was last : List ℕ) (old re
         no_cause = no-cause;
         makes = grown;
         allots = slots-gained;
-        writes = as-whole (writes-grown s index_id n end was last old read for finds.room file is-numbered no-growth-cause within reads-there block cleared clears tail of new grows);
+        writes = as-whole (writes-grown s index_id n end was last old read for finds.room file has block cleared clears tail of new grows);
       }
 
       pub slots-after : (t : Structure) (count : ℕ) → StaysFor false s t new → count ≡ slots (index_in t) → IsSlotsAfter home n old count
