@@ -157,7 +157,7 @@ impl Case {
     }
 
     /// The first write that isn't as it should be, of those that change a block.
-    pub fn first_disordered(&self, alloc: Global) -> Result<Option<usize>, Fail> {
+    fn first_disordered(&self, alloc: Global) -> Result<Option<usize>, Fail> {
         let (begun, ended) = self.span(alloc)?;
         let mut before = self.stopped(alloc, begun)?;
         let mut seen = 0;
@@ -192,6 +192,16 @@ fn first_other(one: &mut Memory, other: &mut Memory) -> Result<Option<u32>, Fail
     for lbn in 0..one.blocks() {
         if get(one, lbn)? != get(other, lbn)? {
             return Ok(Some(lbn));
+        }
+    }
+    Ok(None)
+}
+
+/// The first write of cases that isn't as it should be: the case, and the write.
+pub fn first_disordered(alloc: Global, cases: &[Case]) -> Result<Option<(usize, usize)>, Fail> {
+    for (i, case) in cases.iter().enumerate() {
+        if let Some(write) = case.first_disordered(alloc)? {
+            return Ok(Some((i, write)));
         }
     }
     Ok(None)
