@@ -22,7 +22,7 @@ pub const ROOT: (u16, u16) = (4, 4);
 pub enum Step {
     /// A header.
     Header(u16),
-    /// A header that isn't dead before, and is then.
+    /// A header that is dead then, and wasn't before.
     Killed(u16),
     /// The index bitmap: the bit of this slot, and none but it.
     Slot(u16),
@@ -57,7 +57,7 @@ impl Step {
     }
 }
 
-/// Whether an index bitmap is another but for the bit of header `n`, which is the other value.
+/// Whether an index bitmap is as before but for the bit of slot `n`, which is turned.
 fn is_turned(before: &Block, after: &Block, n: u16) -> bool {
     let bit = u32::from(n.saturating_sub(1));
     let mut turned = *before;
