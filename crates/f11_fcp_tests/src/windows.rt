@@ -59,7 +59,7 @@ const IN_TWO_HEADERS: [Counted; 15] = [
 ];
 
 /// A block that is written is reached as one that is read.
-const WRITTEN: [Counted; 9] = [
+const WRITTEN: [Counted; 11] = [
     (0, Ask::WriteRecords(0, 8, ONE), DONE, Some(2)),
     (0, Ask::WriteRecords(0, 14, TWO), DONE, Some(1)),
     (0, Ask::Read(0, 9), DONE, Some(1)),
@@ -69,7 +69,9 @@ const WRITTEN: [Counted; 9] = [
     (0, Ask::WriteRecords(0, 15, TWO), DONE, Some(1)),
     // a block of the other file has the same VBN
     (0, Ask::Read(1, 15), DONE, Some(2)),
+    (0, Ask::WriteRecords(1, 15, ONE), DONE, Some(1)),
     (0, Ask::ReadRecords(0, 15, TWO), DONE, Some(1)),
+    (0, Ask::ReadRecords(1, 15, ONE), DONE, Some(1)),
 ];
 
 #[test]
