@@ -1,9 +1,13 @@
 -- Facts about room for n free blocks in a row, sought a bitmap block at a time.
-use Rattle.std.proofs.Common.{◌≡◌, inl, inr, ℕ, ◌+◌, ◌-◌, ◌<◌, ◌≤◌, min, Bool, true, false, List, sym, ap, ◌∙◌, arith}
+use Rattle.std.proofs.Common.{◌≡◌, inl, inr, ℕ, ◌+◌, ◌-◌, ◌*◌, ◌<◌, ◌≤◌, min, Bool, true, false, List, get_or, Some, sym, ap, subst, ◌∙◌, arith}
+use Rattle.std.specs.List.{slice_get}
 use Rattle.std.proofs.lemmas.Bool.{cases_lt, both_ways}
 use Rattle.f11_bytes.specs.Bits.{bit}
+use Rattle.f11_dev.specs.Image.{Image}
+use Rattle.f11_bits.specs.Bitmap.{Bitmap, is_free}
 use Rattle.f11_bits.specs.Room.{IsRoom, IsFirstRoom}
-use Rattle.f11_bits.specs.Run.{AreFree, IsFirstRunOf, NoRunOf}
+use Rattle.f11_bits.specs.Run.{IsFirstRunOf, NoRunOf}
+use Rattle.f11_bits.proofs.BitmapLemmas.{is_free-past, is_free-bit, bitmap_bit-at}
 
 -- a place with a used block behind it is none
 no-room : (free : ℕ → Bool) (n end k used : ℕ) → free used ≡ false → k ≤ used → used < k + n → used < end → ¬ IsRoom free n end k
@@ -53,6 +57,25 @@ first_room-next free n begin start end rest used at block are above rest_is near
   ];
 }
 
+-- the bits of a bitmap block tell which of its blocks are free
+are-bits : (image : Image) (bitmap : Bitmap) (index end : ℕ) (block : List ℕ) → end ≡ min (bitmap.size - 4096 * index) 4096 → slice_get image (get_or bitmap.places index 0) ≡ Some block
+    → AreBits (is_free image bitmap) (index * 4096) end block
+are-bits image bitmap index end block end_is stands k below =
+    let at : index * 4096 + k ≡ 4096 * index + k = omega arith in
+    ap (is_free image bitmap) at ∙ is_free-bit image bitmap (4096 * index + k) (omega (arith, below, end_is)) ∙ bitmap_bit-at image bitmap index k block (omega (arith, below, end_is)) stands
+
+-- the first room, one bitmap block further
+pub first_room-more : (image : Image) (bitmap : Bitmap) (n index start end next : ℕ) (block : List ℕ) → 4096 * index < bitmap.size → end ≡ min (bitmap.size - 4096 * index) 4096
+    → slice_get image (get_or bitmap.places index 0) ≡ Some block
+    → ((free : ℕ → Bool) → AreBits free (index * 4096) end block → IsFirstRoom free n 0 (index * 4096) start → IsFirstRoom free n 0 (index * 4096 + end) next)
+    → IsFirstRoom (is_free image bitmap) n 0 (min (4096 * index) bitmap.size) start
+    → IsFirstRoom (is_free image bitmap) n 0 (min (4096 * (index + 1)) bitmap.size) next
+first_room-more image bitmap n index start end next block inside end_is stands further room =
+    let begin : min (4096 * index) bitmap.size ≡ index * 4096 = omega (arith, inside) in
+    let stop : index * 4096 + end ≡ min (4096 * (index + 1)) bitmap.size = omega (arith, inside, end_is) in
+    let free : ℕ → Bool = is_free image bitmap in
+    subst (λ (e : ℕ). IsFirstRoom free n 0 e next) stop (further free (are-bits image bitmap index end block end_is stands) (subst (λ (e : ℕ). IsFirstRoom free n 0 e start) begin room))
+
 -- room that has its n blocks is the first run of n
 pub IsFirstRunOf-found : (free : ℕ → Bool) (n end start : ℕ) → start + n ≤ end → IsFirstRoom free n 0 end start → IsFirstRunOf free n start
 IsFirstRunOf-found free n end start whole room = record {
@@ -61,8 +84,8 @@ IsFirstRunOf-found free n end start whole room = record {
 }
 
 -- where the first room is too near the volume's end there is no such run
-pub NoRunOf-found : (free : ℕ → Bool) (n size end start : ℕ) → 0 < n → size < start + n → ((k : ℕ) → size ≤ k → free k ≡ false) → IsFirstRoom free n 0 end start → NoRunOf free n
-NoRunOf-found free n size end start some short past room k run = elim (cases_lt k start) [
+pub NoRunOf-found : (image : Image) (bitmap : Bitmap) (n end start : ℕ) → 0 < n → bitmap.size < start + n → IsFirstRoom (is_free image bitmap) n 0 end start → NoRunOf (is_free image bitmap) n
+NoRunOf-found image bitmap n end start some short room k run = elim (cases_lt k start) [
   | inl early ↦ room.first k (omega arith) early (λ j low near below. run j low near)
-  | inr late ↦ both_ways (free (k + n - 1)) (past (k + n - 1) (omega (arith, late, short))) (run (k + n - 1) (omega (arith, some)) (omega (arith, some)))
+  | inr late ↦ both_ways (is_free image bitmap (k + n - 1)) (is_free-past image bitmap (k + n - 1) (omega (arith, late, short))) (run (k + n - 1) (omega (arith, some)) (omega (arith, some)))
 ]

@@ -257,6 +257,7 @@ pub fn next_room(block: &Block, begin: u32, start: u32, n: u32, end: u32) -> u32
     requires below { begin < start + n }
     requires within { end ≤ 4096 }
     requires fits { begin + 4096 < 2 ^ 32 }
+    ensures above { start ≤ result }
     ensures within { result ≤ begin + end }
     ensures room { (free : ℕ → Bool)
         → ((k : ℕ) → k < end → free (begin + k) ≡ bit block.now k)
