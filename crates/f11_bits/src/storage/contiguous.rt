@@ -10,7 +10,7 @@ impl Storage {
     ghost use Rattle.f11_bits.specs.Calls.{MarksOnDisk, FailsToMark, TakesRun, FindsNoRun, FailsToTakeRun};
     ghost use Rattle.f11_bits.specs.Parts.{HasBitOf};
     ghost use Rattle.f11_bits.specs.Room.{FindsRunOf};
-    ghost use Rattle.f11_bits.specs.Storage.{bitmap_of, count_of, kept_at, IsOn, IsFor, UsesKept};
+    ghost use Rattle.f11_bits.specs.Storage.{bitmap_of, count_of, kept_at, IsOn, IsFor, RunUsesKept};
     ghost use Rattle.f11_bits.specs.Transfers.{blocks_touched, giving_transfers, run_transfers, MakesFewer};
 
     /// Takes the first `n` free blocks in a row, which are used after it: the first of them. `None` where nowhere so many are
@@ -36,7 +36,7 @@ impl Storage {
             TakesRun (bitmap_of self.old) n lbn (D.disk device.old) (D.disk device.new))) }
         ensures kept { IfOk result (λ answer. MatchOption answer
             (kept_at self.new ≡ kept_at self.old)
-            (λ lbn. UsesKept (run_transfers lbn n) lbn n
+            (λ lbn. RunUsesKept (run_transfers lbn n) lbn n
             self.old self.new (D.disk device.old) (D.disk device.new))) }
         ensures none { IfOk result (λ answer. IfNone answer
             (FindsNoRun (bitmap_of self.old) n (D.disk device.old) (D.disk device.new))) }
