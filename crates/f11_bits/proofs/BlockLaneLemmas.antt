@@ -4,6 +4,7 @@ use Rattle.std.proofs.Common.{map, sum, get_or, replicate, cond, refl, sym, ap, 
 use Rattle.std.specs.Int.{bit_at}
 use Rattle.std.specs.Simd.Lanes.{Each1, sum_l, zip2, chunk, number_l, digits_l, mask_l, top}
 use Rattle.std.proofs.lemmas.Bool.{cases_Bool, both_ways, eqb-true}
+use Rattle.std.proofs.lemmas.List.{get_or-replicate}
 use Rattle.std.proofs.lemmas.Nat.Bits.{bit_at-zero}
 use Rattle.std.proofs.lemmas.Simd.{fold-sum, get_or-chunk, get_or_wider, below_from_Fits, bitmask_splat, length-chunk}
 use Rattle.f11_bytes.specs.Bits.{bit}
@@ -111,6 +112,16 @@ pub ones-lanes : (b lanes : List ℕ) (i : ℕ) → length lanes ≡ 64 → AreB
     → (k : ℕ) → 512 * i ≤ k → k < 512 * i + 512 → bit b k ≡ true
 ones-lanes b lanes i long are none k low high =
     lanes-bit b lanes i 255 long are none k low high ∙ ones-bit (k % 8) (omega arith)
+
+-- a bit of a block of equal bytes
+filled-bit : (y z k : ℕ) → y ≡ z → k < 4096 → bit (replicate 512 y) k ≡ (bit_at z (k % 8) == 1)
+filled-bit y z k is below = ap (λ (x : ℕ). bit_at x (k % 8) == 1) (get_or-replicate 512 (k / 8) y 0 (omega (arith, below)) ∙ is)
+
+pub filled-ones : (y k : ℕ) → y ≡ 255 → k < 4096 → bit (replicate 512 y) k ≡ true
+filled-ones y k is below = filled-bit y 255 k is below ∙ ones-bit (k % 8) (omega arith)
+
+pub filled-zeros : (y k : ℕ) → y ≡ 0 → k < 4096 → bit (replicate 512 y) k ≡ false
+filled-zeros y k is below = filled-bit y 0 k is below ∙ ap (λ (d : ℕ). d == 1) (bit_at-zero (k % 8))
 
 -- a number of two bytes
 number-two : (i : ℕ) (xs : List ℕ) → i + 2 ≤ length xs → number_l 256 (chunk i 2 xs) ≡ get_or xs i 0 + 256 * get_or xs (i + 1) 0

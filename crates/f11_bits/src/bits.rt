@@ -271,14 +271,26 @@ pub fn next_room(block: &Block, begin: u32, start: u32, n: u32, end: u32) -> u32
     begin + first_room(block, clear + 1, n, end)
 }
 
-/// Makes `count` bits from bit `start` on 1, or 0, and leaves the others.
+/// Makes `count` bits from bit `start` on 1, or 0, and leaves the others. All of a block are made so byte by byte.
 pub fn set_bits(block: &mut Block, start: u32, count: u32, free: bool)
     requires { start + count ≤ 4096 }
     ensures inside { (k : ℕ) → start ≤ k → k < start + count → bit block.new k ≡ free }
     ensures before { (k : ℕ) → k < start → bit block.new k ≡ bit block.old k }
     ensures after { (k : ℕ) → start + count ≤ k → k < 4096 → bit block.new k ≡ bit block.old k }
 {
+    if count == BITS {
+        fill(block, free);
+        return;
+    }
     for k in start..start + count {
         set_bit(block, k, free);
     }
+}
+
+/// Makes all bits of a block 1, or 0.
+fn fill(block: &mut Block, free: bool)
+    ensures { (k : ℕ) → k < 4096 → bit block.new k ≡ free }
+{
+    let byte = if free { 255 } else { 0 };
+    *block = [byte; BLOCK_SIZE];
 }

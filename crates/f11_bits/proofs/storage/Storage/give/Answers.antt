@@ -1,4 +1,4 @@
-use Rattle.std.proofs.Common.{◌+◌, Bool, IsTrue, subst, ap, arith}
+use Rattle.std.proofs.Common.{Bool, IsTrue, subst, ap, arith}
 use Rattle.f11_bits.specs.Bitmap.{is_free, free_blocks}
 use Rattle.f11_bits.specs.Storage.{bitmap_of}
 use Rattle.f11_bits.proofs.CountLemmas.{count_below-le}

@@ -1,4 +1,4 @@
-use Rattle.std.proofs.Common.{◌≡◌, ◌⊎◌, ℕ, ◌+◌, ◌-◌, ◌*◌, ◌/◌, ◌%◌, ◌<◌, ◌≤◌, false, inl, inr, arith}
+use Rattle.std.proofs.Common.{◌≡◌, ℕ, ◌+◌, ◌-◌, ◌*◌, ◌/◌, ◌%◌, ◌<◌, ◌≤◌, false, inl, inr, arith}
 use Rattle.f11_dev.proofs.WentLemmas.{went_within}
 use Rattle.f11_bytes.proofs.ResultLemmas.{OnErr-given}
 use Rattle.f11_bits.specs.Changes.{Changing}

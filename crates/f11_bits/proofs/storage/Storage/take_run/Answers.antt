@@ -1,4 +1,4 @@
-use Rattle.std.proofs.Common.{◌+◌, false, Bool, IsTrue, subst, ap, arith}
+use Rattle.std.proofs.Common.{false, Bool, IsTrue, subst, ap, arith}
 use Rattle.f11_dev.specs.Image.{Image}
 use Rattle.f11_bytes.proofs.ResultLemmas.{OnErr-given}
 use Rattle.f11_bits.specs.Bitmap.{Marks, free_blocks}
