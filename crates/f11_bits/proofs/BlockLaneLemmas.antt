@@ -55,10 +55,6 @@ none-masked p (x ∷ xs) none zero within = elim (cases_Bool (p x)) [
 ]
 none-masked p (x ∷ xs) none (suc k) within = none-masked p xs (omega (arith, none)) k (omega (arith, within))
 
--- bytes that are 0 have no bit
-zero-bit : (b : List ℕ) (k : ℕ) → get_or b (k / 8) 0 ≡ 0 → bit b k ≡ false
-zero-bit b k is = ap (λ (x : ℕ). bit_at x (k % 8) == 1) is ∙ ap (λ (d : ℕ). d == 1) (bit_at-zero (k % 8))
-
 -- whether two bytes differ
 abbrev pub is_not : ℕ → ℕ → Bool
 is_not x y = not (nat_eq x y)

@@ -4,9 +4,10 @@ use Rattle.std.specs.List.{slice_get}
 use Rattle.std.proofs.lemmas.Bool.{cases_lt, both_ways}
 use Rattle.f11_bytes.specs.Bits.{bit}
 use Rattle.f11_dev.specs.Image.{Image}
-use Rattle.f11_bits.specs.Bitmap.{Bitmap, is_free}
+use Rattle.f11_bits.specs.Bitmap.{Bitmap, is_free, free_blocks}
 use Rattle.f11_bits.specs.Room.{IsRoom, IsFirstRoom}
 use Rattle.f11_bits.specs.Run.{IsFirstRunOf, NoRunOf}
+use Rattle.f11_bits.proofs.CountLemmas.{count_below-run}
 use Rattle.f11_bits.proofs.BitmapLemmas.{is_free-past, is_free-bit, bitmap_bit-at}
 
 -- a place with a used block behind it is none
@@ -88,4 +89,11 @@ pub NoRunOf-found : (image : Image) (bitmap : Bitmap) (n end start : ℕ) → 0 
 NoRunOf-found image bitmap n end start some short room k run = elim (cases_lt k start) [
   | inl early ↦ room.first k (omega arith) early (λ j low near below. run j low near)
   | inr late ↦ both_ways (is_free image bitmap (k + n - 1)) (is_free-past image bitmap (k + n - 1) (omega (arith, late, short))) (run (k + n - 1) (omega (arith, some)) (omega (arith, some)))
+]
+
+-- nor where fewer blocks are free
+pub NoRunOf-few : (image : Image) (bitmap : Bitmap) (n : ℕ) → free_blocks image bitmap < n → NoRunOf (is_free image bitmap) n
+NoRunOf-few image bitmap n few k run = elim (cases_lt bitmap.size (k + n)) [
+  | inl past ↦ both_ways (is_free image bitmap (k + n - 1)) (is_free-past image bitmap (k + n - 1) (omega (arith, past))) (run (k + n - 1) (omega (arith, few)) (omega (arith, few)))
+  | inr within ↦ absurd (omega (arith, few, count_below-run (is_free image bitmap) k n bitmap.size within run))
 ]

@@ -358,13 +358,13 @@ fn take_all(device: &mut Memory) -> Result<([Option<u32>; 3], [u64; 3]), DeviceF
     Ok(([most, last, none], [once, twice, device.transfers()]))
 }
 
-/// The bitmap block that was written last is kept, and isn't read as the next run is sought.
+/// The bitmap block that was written last is kept, and isn't read as the next run is sought; none is where fewer blocks are free.
 #[test]
 fn runs_up_to_the_last_block(rt: HostRuntime) -> Result<(), Fail> {
     let mut device = wide_device(rt.alloc(), &[])?;
     let (runs, transfers) = take_all(&mut device)?;
     assert_eq!(rt; runs, [Some(0), Some(27_999), None]);
-    assert_eq!(rt; transfers, [33, 40, 46]);
+    assert_eq!(rt; transfers, [33, 40, 40]);
     Ok(())
 }
 

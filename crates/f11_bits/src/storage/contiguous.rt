@@ -16,9 +16,9 @@ impl Storage {
     /// Takes the first `n` free blocks in a row, which are used after it: the first of them. `None` where nowhere so many are
     /// free in a row, and then nothing is written.
     ///
-    /// It reads each bitmap block up to that of the last of them, and where there are none to the last, once at most. Each that has their
-    /// bits is then read once, but for the last, which is in hand, and written once, in order. The bitmap block that is kept isn't
-    /// read as they are sought. The last that was written is kept.
+    /// It reads each bitmap block up to that of the last of them, and where there are none to the last, once at most; none where
+    /// fewer than `n` blocks are free. Each that has their bits is then read once, but for the last, which is in hand, and
+    /// written once, in order. The bitmap block that is kept isn't read as they are sought. The last that was written is kept.
     ///
     /// # Errors
     ///
@@ -40,9 +40,14 @@ impl Storage {
             self.old self.new (D.disk device.old) (D.disk device.new))) }
         ensures none { IfOk result (λ answer. IfNone answer
             (FindsNoRun (bitmap_of self.old) n (D.disk device.old) (D.disk device.new))) }
+        ensures spared { count_of self.old < n
+            → (D.disk device.new).transfers ≡ (D.disk device.old).transfers }
         ensures failed { OnErr result
             (FailsToTakeRun (bitmap_of self.old) n (D.disk device.old) (D.disk device.new)) }
     {
+        if n > self.free {
+            return Ok(None);
+        }
         let mut block = [0; BLOCK_SIZE];
         let Some(lbn) = self.find_room(device, n, &mut block)? else {
             return Ok(None);

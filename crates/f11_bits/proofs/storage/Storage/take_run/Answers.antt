@@ -1,10 +1,12 @@
 use Rattle.std.proofs.Common.{false, Bool, IsTrue, subst, ap, arith}
 use Rattle.f11_dev.specs.Image.{Image}
+use Rattle.f11_dev.proofs.LookedLemmas.{looked_none, looked_within}
 use Rattle.f11_bytes.proofs.ResultLemmas.{OnErr-given}
 use Rattle.f11_bits.specs.Bitmap.{Marks, free_blocks}
 use Rattle.f11_bits.specs.Storage.{bitmap_of}
 use Rattle.f11_bits.proofs.BitmapLemmas.{free_blocks-taken}
 use Rattle.f11_bits.proofs.StepLemmas.{FailsToTakeRun-marking}
+use Rattle.f11_bits.proofs.RoomLemmas.{NoRunOf-few}
 use Rattle.f11_bits.proofs.storage.Storage.take_run.Goals as goal
 
 pub returns-in_err-mark_run-clause-failed : goal.returns-in_err-mark_run-clause-failed
@@ -35,3 +37,9 @@ returns-clause-storage g c =
             block = record { within = kept.within; is_block = kept.is_block };
           };
     }
+
+pub returns-then-n-self-clause-none : goal.returns-then-n-self-clause-none
+returns-then-n-self-clause-none g c = record {
+  none = λ honest. NoRunOf-few _ (bitmap_of c.args.self.now) c.args.n (omega (arith, (c.requires.storage.keeps honest).free, c.if-n-self.true));
+  looked = looked_within (looked_none _) (omega arith);
+}
