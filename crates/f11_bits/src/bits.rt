@@ -171,7 +171,8 @@ pub fn run_length(block: &Block, start: u32, most: u32, end: u32) -> u32
     stop.saturating_sub(start)
 }
 
-/// The first bit at or above bit `start`, before bit `end`, that is 0, or `end`. 64 bytes of ones are passed over at once.
+/// The first bit at or above bit `start`, before bit `end`, that is 0, or `end`. Behind the eight bytes that bit `start` is in, 64 bytes
+/// of ones are passed over at once.
 fn first_clear(block: &Block, start: u32, end: u32) -> u32
     requires above { start ≤ end }
     requires within { end ≤ 4096 }
@@ -180,8 +181,12 @@ fn first_clear(block: &Block, start: u32, end: u32) -> u32
     ensures each { (k : ℕ) → start ≤ k → k < result → bit block.now k ≡ true }
     ensures ended { result < end → bit block.now result ≡ false }
 {
-    for part in start / 512..end.div_ceil(512) {
-        let begin = start.max(512 * part);
+    let near = end.min(start / 64 * 64 + 64);
+    if let Some(k) = first_clear_in(block, start, near) {
+        return k;
+    }
+    for part in near / 512..end.div_ceil(512) {
+        let begin = near.max(512 * part);
         let stop = end.min(512 * part + 512);
         if has_zeros(block, part)
             && let Some(k) = first_clear_in(block, begin, stop)
@@ -217,7 +222,8 @@ fn first_clear_in(block: &Block, start: u32, end: u32) -> Option<u32>
     None
 }
 
-/// The first bit at or above bit `from`, before bit `end`, that is 1, or `end`.
+/// The first bit at or above bit `from`, before bit `end`, that is 1, or `end`: it is sought in the eight bytes that bit `from` is in, and
+/// then as by [`first_set`].
 fn first_set_to(block: &Block, from: u32, end: u32) -> u32
     requires above { from ≤ end }
     requires within { end ≤ 4096 }
@@ -225,7 +231,11 @@ fn first_set_to(block: &Block, from: u32, end: u32) -> u32
     ensures within { result ≤ end }
     ensures none { NoneWithin (bit block.now) from result }
 {
-    match first_set(block, from) {
+    let near = end.min(from / 64 * 64 + 64);
+    if let Some(k) = first_set_in(block, from, near) {
+        return k;
+    }
+    match first_set(block, near) {
         Some(k) => k.min(end),
         None => end,
     }
