@@ -1,9 +1,10 @@
 -- A block seen through the lanes of vectors: its bits, and its words.
-use Rattle.std.proofs.Common.{◌≡◌, ℕ, zero, suc, ◌+◌, ◌-◌, ◌*◌, ◌/◌, ◌%◌, ◌<◌, ◌≤◌, ◌==◌, Bool, false, not, nat_eq, List, [], ◌∷◌, length}
+use Rattle.std.proofs.Common.{◌≡◌, ℕ, zero, suc, ◌+◌, ◌-◌, ◌*◌, ◌/◌, ◌%◌, ◌<◌, ◌≤◌, ◌==◌, Bool, true, false, not, nat_eq, List, [], ◌∷◌, length}
 use Rattle.std.proofs.Common.{map, sum, get_or, replicate, cond, refl, sym, ap, ◌∙◌, inl, inr, arith, Fits, w8}
 use Rattle.std.specs.Int.{bit_at}
 use Rattle.std.specs.Simd.Lanes.{Each1, sum_l, zip2, chunk, number_l, digits_l, mask_l, top}
 use Rattle.std.proofs.lemmas.Bool.{cases_Bool, both_ways, eqb-true}
+use Rattle.std.proofs.lemmas.List.{get_or-replicate}
 use Rattle.std.proofs.lemmas.Nat.Bits.{bit_at-zero}
 use Rattle.std.proofs.lemmas.Simd.{fold-sum, get_or-chunk, get_or_wider, below_from_Fits, bitmask_splat, length-chunk}
 use Rattle.f11_bytes.specs.Bits.{bit}
@@ -54,37 +55,69 @@ none-masked p (x ∷ xs) none zero within = elim (cases_Bool (p x)) [
 ]
 none-masked p (x ∷ xs) none (suc k) within = none-masked p xs (omega (arith, none)) k (omega (arith, within))
 
--- bytes that are 0 have no bit
-zero-bit : (b : List ℕ) (k : ℕ) → get_or b (k / 8) 0 ≡ 0 → bit b k ≡ false
-zero-bit b k is = ap (λ (x : ℕ). bit_at x (k % 8) == 1) is ∙ ap (λ (d : ℕ). d == 1) (bit_at-zero (k % 8))
-
--- whether a byte isn't 0
+-- whether two bytes differ
 abbrev pub is_not : ℕ → ℕ → Bool
 is_not x y = not (nat_eq x y)
 
--- a number that doesn't differ from 0
-is-zero : (x : ℕ) → is_not x 0 ≡ false → x ≡ 0
-is-zero x same = elim (cases_Bool (nat_eq x 0)) [
-  | inl equal ↦ eqb-true x 0 equal
-  | inr apart ↦ absurd (both_ways (is_not x 0) same (ap not apart))
+-- numbers that don't
+is-same : (x y : ℕ) → is_not x y ≡ false → x ≡ y
+is-same x y same = elim (cases_Bool (nat_eq x y)) [
+  | inl equal ↦ eqb-true x y equal
+  | inr apart ↦ absurd (both_ways (is_not x y) same (ap not apart))
 ]
 
--- a mask of the lanes that aren't 0 that is empty
-pub mask-empty : (lanes : List ℕ) → length lanes ≡ 64
-    → not (nat_eq (mask_l (map (top 7) (zip2 (λ a b. cond (is_not a b) 255 0) lanes (replicate 64 0))) % 18446744073709551616) 0) ≡ false
-    → mask_l (map (λ x. is_not x 0) lanes) ≡ 0
-mask-empty lanes long none = sym (bitmask_splat w8 is_not lanes 64 0 long (omega arith)) ∙ is-zero _ none
+-- a mask of the lanes that differ from a byte that is empty
+pub mask-empty : (lanes : List ℕ) (y : ℕ) → length lanes ≡ 64
+    → not (nat_eq (mask_l (map (top 7) (zip2 (λ a b. cond (is_not a b) 255 0) lanes (replicate 64 y))) % 18446744073709551616) 0) ≡ false
+    → mask_l (map (λ x. is_not x y) lanes) ≡ 0
+mask-empty lanes y long none = sym (bitmask_splat w8 is_not lanes 64 y long (omega arith)) ∙ is-same _ 0 none
+
+-- where no lane differs from a byte, each bit of the block there is that byte's
+lanes-bit : (b lanes : List ℕ) (i y : ℕ) → length lanes ≡ 64 → AreBytes b i lanes → mask_l (map (λ x. is_not x y) lanes) ≡ 0
+    → (k : ℕ) → 512 * i ≤ k → k < 512 * i + 512 → bit b k ≡ (bit_at y (k % 8) == 1)
+lanes-bit b lanes i y long are none k low high =
+    let j : ℕ = k - 512 * i in
+    let at : k ≡ 512 * i + j = omega (arith, low) in
+    let within : j < 512 = omega (arith, low, high) in
+    let lane : j / 8 < length lanes = omega (arith, within, long) in
+    let place : j % 8 ≡ k % 8 = omega (arith, low) in
+    ap (bit b) at ∙ bits-are b i lanes are j within
+    ∙ ap (λ (x : ℕ). bit_at x (j % 8) == 1) (is-same (get_or lanes (j / 8) 0) y (none-masked (λ x. is_not x y) lanes none (j / 8) lane))
+    ∙ ap (λ (m : ℕ). bit_at y m == 1) place
 
 -- where no lane differs from 0 none of the block's bits there is 1
 pub NoneWithin-lanes : (b lanes : List ℕ) (i : ℕ) → length lanes ≡ 64 → AreBytes b i lanes → mask_l (map (λ x. is_not x 0) lanes) ≡ 0
     → NoneWithin (bit b) (512 * i) (512 * i + 512)
 NoneWithin-lanes b lanes i long are none k low high =
-    let j : ℕ = k - 512 * i in
-    let at : k ≡ 512 * i + j = omega (arith, low) in
-    let within : j < 512 = omega (arith, low, high) in
-    let lane : j / 8 < length lanes = omega (arith, within, long) in
-    ap (bit b) at ∙ bits-are b i lanes are j within
-    ∙ zero-bit lanes j (is-zero (get_or lanes (j / 8) 0) (none-masked (λ x. is_not x 0) lanes none (j / 8) lane))
+    lanes-bit b lanes i 0 long are none k low high ∙ ap (λ (d : ℕ). d == 1) (bit_at-zero (k % 8))
+
+-- each bit of a byte of ones is 1
+ones-bit : (k : ℕ) → k < 8 → (bit_at 255 k == 1) ≡ true
+ones-bit zero few = refl
+ones-bit (suc zero) few = refl
+ones-bit (suc (suc zero)) few = refl
+ones-bit (suc (suc (suc zero))) few = refl
+ones-bit (suc (suc (suc (suc zero)))) few = refl
+ones-bit (suc (suc (suc (suc (suc zero))))) few = refl
+ones-bit (suc (suc (suc (suc (suc (suc zero)))))) few = refl
+ones-bit (suc (suc (suc (suc (suc (suc (suc zero))))))) few = refl
+ones-bit (suc (suc (suc (suc (suc (suc (suc (suc k)))))))) few = absurd (omega (arith, few))
+
+-- where none differs from 255 each of them is
+pub ones-lanes : (b lanes : List ℕ) (i : ℕ) → length lanes ≡ 64 → AreBytes b i lanes → mask_l (map (λ x. is_not x 255) lanes) ≡ 0
+    → (k : ℕ) → 512 * i ≤ k → k < 512 * i + 512 → bit b k ≡ true
+ones-lanes b lanes i long are none k low high =
+    lanes-bit b lanes i 255 long are none k low high ∙ ones-bit (k % 8) (omega arith)
+
+-- a bit of a block of equal bytes
+filled-bit : (y z k : ℕ) → y ≡ z → k < 4096 → bit (replicate 512 y) k ≡ (bit_at z (k % 8) == 1)
+filled-bit y z k is below = ap (λ (x : ℕ). bit_at x (k % 8) == 1) (get_or-replicate 512 (k / 8) y 0 (omega (arith, below)) ∙ is)
+
+pub filled-ones : (y k : ℕ) → y ≡ 255 → k < 4096 → bit (replicate 512 y) k ≡ true
+filled-ones y k is below = filled-bit y 255 k is below ∙ ones-bit (k % 8) (omega arith)
+
+pub filled-zeros : (y k : ℕ) → y ≡ 0 → k < 4096 → bit (replicate 512 y) k ≡ false
+filled-zeros y k is below = filled-bit y 0 k is below ∙ ap (λ (d : ℕ). d == 1) (bit_at-zero (k % 8))
 
 -- a number of two bytes
 number-two : (i : ℕ) (xs : List ℕ) → i + 2 ≤ length xs → number_l 256 (chunk i 2 xs) ≡ get_or xs i 0 + 256 * get_or xs (i + 1) 0

@@ -4,6 +4,7 @@ pub mod BitLemmas
 pub mod CountLemmas
 pub mod BitmapLemmas
 pub mod SearchLemmas
+pub mod RoomLemmas
 pub mod StepLemmas
 pub mod LawLemmas
 pub mod ReplaceLemmas

@@ -1,5 +1,5 @@
 -- What the calls of a device do to a bitmap.
-use Rattle.std.proofs.Common.{◌≡◌, ◌⊎◌, inl, inr, ℕ, ◌+◌, ◌/◌, ◌%◌, ◌<◌, ◌≤◌, Bool, false, IsTrue, List, length, get_or, Result, OnOk, OnErr, Some, sym, ap, ◌∙◌, subst, arith}
+use Rattle.std.proofs.Common.{◌≡◌, ◌⊎◌, inl, inr, ℕ, ◌+◌, ◌*◌, ◌/◌, ◌%◌, ◌<◌, ◌≤◌, Bool, false, IsTrue, List, length, get_or, Result, OnOk, OnErr, Some, sym, ap, ◌∙◌, subst, arith}
 use Rattle.std.proofs.Math.ListN.{set}
 use Rattle.std.specs.List.{slice_get}
 use Rattle.std.proofs.lemmas.Result.{on_ok_weaker, on_err_weaker}
@@ -10,10 +10,12 @@ use Rattle.f11_dev.specs.Looked.{Looked}
 use Rattle.f11_dev.specs.Went.{Went}
 use Rattle.f11_dev.proofs.WentLemmas.{went_looked, went_write, went_failed_write, went_more, went_weaker, went_within, went_last}
 use Rattle.f11_bits.specs.Bitmap.{Bitmap, IsBitmap, LiesWithin, KeepsOthers, Marks}
-use Rattle.f11_bits.specs.Calls.{MarksOnDisk, FailsToMark, FailsToTake}
-use Rattle.f11_bits.specs.Changes.{Changing, Taking}
+use Rattle.f11_bits.specs.Calls.{MarksOnDisk, FailsToMark, FailsToTake, FailsToTakeRun}
+use Rattle.f11_bits.specs.Changes.{Changing, Taking, TakingRun}
 use Rattle.f11_bits.specs.Parts.{HasBitOf, IsPart, FindsRun}
+use Rattle.f11_bits.specs.Room.{FindsRunOf}
 use Rattle.f11_bits.specs.Storage.{bitmap_of, KeepsBlock, IsOn}
+use Rattle.f11_bits.specs.Transfers.{blocks_touched}
 use Rattle.f11_bits.specs.declared.storage.Storage.{Storage}
 use Rattle.f11_bits.proofs.BitmapLemmas.{Changing-all, Changing-more, KeepsOthers-refl, KeepsOthers-write, Marks-more, Marks-write}
 
@@ -142,3 +144,16 @@ FailsToTake-marking {bitmap} {from} {most} {lbn} {here} {beyond} {old = old} {no
       changing = subst (λ (b : Bool). Changing b false bitmap lbn count old.image image) found.looked.honest
           (subst (λ (before : Image). Changing now.honest false bitmap lbn count before image) found.looked.image changing);
     }) failed)) (omega arith)
+
+-- the first n free blocks in a row were found, and a transfer failed while they were being marked
+pub FailsToTakeRun-marking : {bitmap : Bitmap} {n lbn most : ℕ} {block : List ℕ} {old now new : Disk}
+    → FindsRunOf bitmap n lbn block old now → blocks_touched 0 (lbn + n) + most ≤ 3 * length bitmap.places → FailsToMark false bitmap lbn n most now new → FailsToTakeRun bitmap n old new
+FailsToTakeRun-marking {bitmap} {n} {lbn} {old = old} {now} found few failed =
+    let P : Image → Type 0 = TakingRun old.honest bitmap n old.image in
+    went_within P (went_more P (went_looked P found.looked) (went_weaker (Changing now.honest false bitmap lbn n now.image) P
+    (λ image changing. record {
+      lbn = lbn;
+      run = found.first;
+      changing = subst (λ (b : Bool). Changing b false bitmap lbn n old.image image) found.looked.honest
+          (subst (λ (before : Image). Changing now.honest false bitmap lbn n before image) found.looked.image changing);
+    }) failed)) few

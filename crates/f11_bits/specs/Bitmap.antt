@@ -54,6 +54,11 @@ abbrev pub KeepsBitmap : Bitmap → Image → Image → Type 0
 KeepsBitmap bitmap old new = (i : ℕ) → i < length bitmap.places →
     slice_get new (slice_index bitmap.places i) ≡ slice_get old (slice_index bitmap.places i)
 
+-- the bitmap blocks from that number on stay
+abbrev pub KeepsFrom : Bitmap → ℕ → Image → Image → Type 0
+KeepsFrom bitmap index old new = (i : ℕ) → index ≤ i → i < length bitmap.places →
+    slice_get new (slice_index bitmap.places i) ≡ slice_get old (slice_index bitmap.places i)
+
 -- count blocks of the volume from lbn on were marked free (or used), and no other: bits past the size stay too
 pub record Marks (free : Bool) (bitmap : Bitmap) (lbn count : ℕ) (old new : Image) : Type 0 where
   pub keeps : KeepsOthers bitmap old new

@@ -16,3 +16,10 @@ pub record IsFirstSet (set : ℕ → Bool) (start end k : ℕ) : Type 0 where
   pub below : k < end
   pub before : NoneWithin set start k
   pub is_set : set k ≡ true
+
+-- The first bit from `start` on, before `end`, that is 0.
+pub record IsFirstClear (set : ℕ → Bool) (start end k : ℕ) : Type 0 where
+  pub above : start ≤ k
+  pub below : k < end
+  pub before : (j : ℕ) → start ≤ j → j < k → set j ≡ true
+  pub is_clear : set k ≡ false

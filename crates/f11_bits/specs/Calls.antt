@@ -1,12 +1,12 @@
 -- What each call of a storage bitmap does to a disk, by its outcome.
-use Rattle.std.specs.Prelude.{◌≡◌, ℕ, ◌+◌, length, Bool, true, false, IsTrue}
+use Rattle.std.specs.Prelude.{◌≡◌, ℕ, ◌+◌, ◌*◌, ◌≤◌, length, Bool, true, false, IsTrue}
 use Rattle.f11_dev.specs.Disk.{Disk}
 use Rattle.f11_dev.specs.Looked.{Looked}
 use Rattle.f11_dev.specs.Went.{Went}
 use Rattle.f11_bits.specs.Bitmap.{Bitmap, free_blocks, is_free, Marks}
-use Rattle.f11_bits.specs.Changes.{Changing, Taking}
-use Rattle.f11_bits.specs.Run.{IsFirstRun, IsRunWithin, NoneFrom}
-use Rattle.f11_bits.specs.Transfers.{blocks_from, taking_transfers, giving_transfers}
+use Rattle.f11_bits.specs.Changes.{Changing, Taking, TakingRun}
+use Rattle.f11_bits.specs.Run.{IsFirstRun, IsFirstRunOf, IsRunWithin, NoneFrom, NoRunOf}
+use Rattle.f11_bits.specs.Transfers.{blocks_from, taking_transfers, giving_transfers, run_transfers}
 
 -- The free blocks were counted, and each bitmap block was read once at most.
 pub record Counts (bitmap : Bitmap) (count : ℕ) (old new : Disk) : Type 0 where
@@ -49,3 +49,18 @@ pub record FindsNone (bitmap : Bitmap) (from : ℕ) (old new : Disk) : Type 0 wh
 -- A transfer failed, before or while the run was being marked used.
 abbrev pub FailsToTake : Bitmap → ℕ → ℕ → Disk → Disk → Type 0
 FailsToTake bitmap from most old new = Went (Taking old.honest bitmap from most old.image) old new (blocks_from bitmap from + 2) 1
+
+-- n free blocks in a row were taken, which are the image's first where the device is honest, and are blocks of the volume on any.
+pub record TakesRun (bitmap : Bitmap) (n lbn : ℕ) (old new : Disk) : Type 0 where
+  pub within : lbn + n ≤ bitmap.size
+  pub first : IsTrue old.honest → IsFirstRunOf (is_free old.image bitmap) n lbn
+  pub marked : MarksOnDisk false bitmap lbn n (run_transfers lbn n) old new
+
+-- Nowhere are n free blocks in a row where the disk is honest, and each bitmap block was read once at most.
+pub record FindsNoRun (bitmap : Bitmap) (n : ℕ) (old new : Disk) : Type 0 where
+  pub none : IsTrue old.honest → NoRunOf (is_free old.image bitmap) n
+  pub looked : Looked old new (length bitmap.places) 0
+
+-- A transfer failed, before or while they were being marked used.
+abbrev pub FailsToTakeRun : Bitmap → ℕ → Disk → Disk → Type 0
+FailsToTakeRun bitmap n old new = Went (TakingRun old.honest bitmap n old.image) old new (3 * length bitmap.places) 1

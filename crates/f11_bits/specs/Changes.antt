@@ -2,7 +2,7 @@
 use Rattle.std.specs.Prelude.{ℕ, Bool, false, IsTrue}
 use Rattle.f11_dev.specs.Image.{Image}
 use Rattle.f11_bits.specs.Bitmap.{Bitmap, is_free, KeepsOthers, IsMarking}
-use Rattle.f11_bits.specs.Run.{IsFirstRun}
+use Rattle.f11_bits.specs.Run.{IsFirstRun, IsFirstRunOf}
 
 -- Count blocks from lbn on are being marked free (or used), where the device is honest. On any device the blocks
 -- that aren't the bitmap's stay.
@@ -16,3 +16,9 @@ pub record Taking (honest : Bool) (bitmap : Bitmap) (from most : ℕ) (old image
   pub count : ℕ
   pub run : IsTrue honest → IsFirstRun (is_free old bitmap) from most lbn count
   pub changing : Changing honest false bitmap lbn count old image
+
+-- the first n free blocks in a row of the old image are being marked used
+pub record TakingRun (honest : Bool) (bitmap : Bitmap) (n : ℕ) (old image : Image) : Type 0 where
+  pub lbn : ℕ
+  pub run : IsTrue honest → IsFirstRunOf (is_free old bitmap) n lbn
+  pub changing : Changing honest false bitmap lbn n old image

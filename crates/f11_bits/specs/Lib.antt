@@ -6,6 +6,7 @@ pub mod Storage
 pub mod Transfers
 pub mod Changes
 pub mod Parts
+pub mod Room
 pub mod Calls
 pub mod Laws
 pub use Rattle.f11_dev.specs.Image

@@ -22,3 +22,16 @@ pub record IsRunWithin (size from most lbn count : ℕ) : Type 0 where
   pub short : count ≤ 256
   pub asked : count ≤ most
   pub within : lbn + count ≤ size
+
+-- n blocks in a row from lbn on are free
+abbrev pub AreFree : (ℕ → Bool) → ℕ → ℕ → Type 0
+AreFree free n lbn = (k : ℕ) → lbn ≤ k → k < lbn + n → free k ≡ true
+
+-- The first n free blocks in a row begin at lbn: they are free, and at no lower block do n of them begin.
+pub record IsFirstRunOf (free : ℕ → Bool) (n lbn : ℕ) : Type 0 where
+  pub each : AreFree free n lbn
+  pub first : (k : ℕ) → k < lbn → ¬ AreFree free n k
+
+-- at no block do n free blocks in a row begin
+abbrev pub NoRunOf : (ℕ → Bool) → ℕ → Type 0
+NoRunOf free n = (k : ℕ) → ¬ AreFree free n k

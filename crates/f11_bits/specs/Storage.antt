@@ -1,5 +1,5 @@
 -- What contracts know of a `Storage`.
-use Rattle.std.specs.Prelude.{◌≡◌, ℕ, ◌+◌, ◌-◌, ◌/◌, ◌<◌, length, take, IsTrue}
+use Rattle.std.specs.Prelude.{◌≡◌, ℕ, ◌+◌, ◌-◌, ◌/◌, ◌<◌, ◌≤◌, length, take, IsTrue}
 use Rattle.f11_dev.specs.Disk.{Disk}
 use Rattle.f11_dev.specs.Image.{Image}
 use Rattle.f11_dev.specs.Looked.{Looked}
@@ -50,3 +50,9 @@ pub record Loads (bitmap : Bitmap) (s : Storage) (old new : Disk) : Type 0 where
 pub record UsesKept (most lbn count : ℕ) (was now : Storage) (old new : Disk) : Type 0 where
   pub saves : kept_at was ≡ lbn / 4096 → MakesFewer most old new
   pub keeps : kept_at now ≡ (lbn + count - 1) / 4096
+
+-- n blocks in a row were taken: where the bitmap block that was kept is one of those up to that of the last of them, fewer than so many
+-- transfers were made, and the one that has its bit is kept then.
+pub record RunUsesKept (most lbn n : ℕ) (was now : Storage) (old new : Disk) : Type 0 where
+  pub saves : kept_at was ≤ (lbn + n - 1) / 4096 → MakesFewer most old new
+  pub keeps : kept_at now ≡ (lbn + n - 1) / 4096

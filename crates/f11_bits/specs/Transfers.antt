@@ -23,6 +23,11 @@ taking_transfers bitmap from lbn count = blocks_to bitmap from (lbn + count) + b
 abbrev pub giving_transfers : ℕ → ℕ → ℕ
 giving_transfers lbn count = 2 * blocks_touched lbn count
 
+-- How many take n free blocks in a row that begin at lbn: each bitmap block up to that of the last of them is looked at, and each that
+-- has their bits is read and written then, but that the last one is in hand.
+abbrev pub run_transfers : ℕ → ℕ → ℕ
+run_transfers lbn n = blocks_touched 0 (lbn + n) + (giving_transfers lbn n - 1)
+
 -- fewer than so many were made
 abbrev pub MakesFewer : ℕ → Disk → Disk → Type 0
 MakesFewer most old new = new.transfers < old.transfers + most

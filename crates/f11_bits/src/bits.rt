@@ -1,10 +1,11 @@
 //! The bits of one bitmap block, which are 1 where a block is free (Files-11 On-Disk Structure Level 1, "Storage Bitmap
 //! File"). A run of them is cut at 256, which is as long as a retrieval pointer can tell.
-ghost use Rattle.std.specs.Prelude.{◌≡◌, ℕ, ◌+◌, ◌*◌, ◌<◌, ◌≤◌, true, false, MatchOption};
+ghost use Rattle.std.specs.Prelude.{◌≡◌, ℕ, ◌+◌, ◌*◌, ◌^◌, ◌<◌, ◌≤◌, Bool, true, false, MatchOption};
 ghost use Rattle.f11_bytes.specs.Bits.{bit};
 ghost use Rattle.f11_bytes.specs.Words.{word_sum as sum_of_words};
 ghost use Rattle.f11_bits.specs.Bitmap.{count_below};
-ghost use Rattle.f11_bits.specs.Bits.{bit_below, IsFirstSet, NoneWithin};
+ghost use Rattle.f11_bits.specs.Bits.{bit_below, IsFirstSet, IsFirstClear, NoneWithin};
+ghost use Rattle.f11_bits.specs.Room.{IsFirstRoom};
 ghost use Rattle.f11_bits.specs.Run.{IsFirstRun, NoneFrom};
 
 use crate::lanes::{LANES, bytes_at, ones, sum, words_at};
@@ -170,14 +171,136 @@ pub fn run_length(block: &Block, start: u32, most: u32, end: u32) -> u32
     stop.saturating_sub(start)
 }
 
-/// Makes `count` bits from bit `start` on 1, or 0, and leaves the others.
+/// The first bit at or above bit `start`, before bit `end`, that is 0, or `end`. Behind the eight bytes that bit `start` is in, 64 bytes
+/// of ones are passed over at once.
+fn first_clear(block: &Block, start: u32, end: u32) -> u32
+    requires above { start ≤ end }
+    requires within { end ≤ 4096 }
+    ensures above { start ≤ result }
+    ensures within { result ≤ end }
+    ensures each { (k : ℕ) → start ≤ k → k < result → bit block.now k ≡ true }
+    ensures ended { result < end → bit block.now result ≡ false }
+{
+    let near = end.min(start / 64 * 64 + 64);
+    if let Some(k) = first_clear_in(block, start, near) {
+        return k;
+    }
+    for part in near / 512..end.div_ceil(512) {
+        let begin = near.max(512 * part);
+        let stop = end.min(512 * part + 512);
+        if has_zeros(block, part)
+            && let Some(k) = first_clear_in(block, begin, stop)
+        {
+            return k;
+        }
+    }
+    end
+}
+
+/// Whether any of the 64 bytes from byte `64 * i` on isn't 255: where none is, each of their bits is 1.
+fn has_zeros(block: &Block, i: u32) -> bool
+    requires { i < 8 }
+    ensures { result ≡ false
+        → (k : ℕ) → 512 * i ≤ k → k < 512 * i + 512 → bit block.now k ≡ true }
+{
+    let lanes = bytes_at(block, i as usize);
+    lanes.simd_ne(u8x64::splat(255)).to_bitmask() != 0
+}
+
+/// The first bit from `start` on, before `end`, that is 0.
+fn first_clear_in(block: &Block, start: u32, end: u32) -> Option<u32>
+    requires { end ≤ 4096 }
+    ensures { MatchOption result
+        ((k : ℕ) → start ≤ k → k < end → bit block.now k ≡ true)
+        (λ k. IsFirstClear (bit block.now) start end k) }
+{
+    for k in start..end {
+        if !is_set(block, k) {
+            return Some(k);
+        }
+    }
+    None
+}
+
+/// The first bit at or above bit `from`, before bit `end`, that is 1, or `end`: it is sought in the eight bytes that bit `from` is in, and
+/// then as by [`first_set`].
+fn first_set_to(block: &Block, from: u32, end: u32) -> u32
+    requires above { from ≤ end }
+    requires within { end ≤ 4096 }
+    ensures above { from ≤ result }
+    ensures within { result ≤ end }
+    ensures none { NoneWithin (bit block.now) from result }
+{
+    let near = end.min(from / 64 * 64 + 64);
+    if let Some(k) = first_set_in(block, from, near) {
+        return k;
+    }
+    match first_set(block, near) {
+        Some(k) => k.min(end),
+        None => end,
+    }
+}
+
+/// The first place at or above bit `from` where `n` 1 bits in a row begin, or 1 bits up to bit `end`.
+fn first_room(block: &Block, from: u32, n: u32, end: u32) -> u32
+    requires some { 0 < n }
+    requires above { from ≤ end }
+    requires within { end ≤ 4096 }
+    ensures room { IsFirstRoom (bit block.now) n from end result }
+{
+    let mut at = from;
+    for _ in from..end {
+        let stop = at + n.min(end - at);
+        let clear = first_clear(block, at, stop);
+        if clear == stop {
+            return at;
+        }
+        at = first_set_to(block, clear + 1, end);
+    }
+    at
+}
+
+/// The first place where `n` free blocks in a row begin, or free blocks up to those of this bitmap block's `end` bits, the first of
+/// which is that of block `begin`. Up to there it is `start`.
+pub fn next_room(block: &Block, begin: u32, start: u32, n: u32, end: u32) -> u32
+    requires above { start ≤ begin }
+    requires below { begin < start + n }
+    requires within { end ≤ 4096 }
+    requires fits { begin + 4096 < 2 ^ 32 }
+    ensures above { start ≤ result }
+    ensures within { result ≤ begin + end }
+    ensures room { (free : ℕ → Bool)
+        → ((k : ℕ) → k < end → free (begin + k) ≡ bit block.now k)
+        → IsFirstRoom free n 0 begin start → IsFirstRoom free n 0 (begin + end) result }
+{
+    let rest = end.min(n - (begin - start));
+    let clear = first_clear(block, 0, rest);
+    if clear == rest {
+        return start;
+    }
+    begin + first_room(block, clear + 1, n, end)
+}
+
+/// Makes `count` bits from bit `start` on 1, or 0, and leaves the others. All of a block are made so byte by byte.
 pub fn set_bits(block: &mut Block, start: u32, count: u32, free: bool)
     requires { start + count ≤ 4096 }
     ensures inside { (k : ℕ) → start ≤ k → k < start + count → bit block.new k ≡ free }
     ensures before { (k : ℕ) → k < start → bit block.new k ≡ bit block.old k }
     ensures after { (k : ℕ) → start + count ≤ k → k < 4096 → bit block.new k ≡ bit block.old k }
 {
+    if count == BITS {
+        fill(block, free);
+        return;
+    }
     for k in start..start + count {
         set_bit(block, k, free);
     }
+}
+
+/// Makes all bits of a block 1, or 0.
+fn fill(block: &mut Block, free: bool)
+    ensures { (k : ℕ) → k < 4096 → bit block.new k ≡ free }
+{
+    let byte = if free { 255 } else { 0 };
+    *block = [byte; BLOCK_SIZE];
 }

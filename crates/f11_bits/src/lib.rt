@@ -1,9 +1,9 @@
 //! The storage bitmap of a Files-11 volume: which of its blocks are free.
 //!
-//! On a device that is honest, [`Storage`] knows how many blocks are free, takes exactly the first run of them and gives
-//! back exactly the blocks that it is told, by reading and writing the bitmap's blocks; [`replace_free`] tells anew which are free, for one
-//! bitmap block. The work on one block is done by
-//! [`count_free`], [`first_run`] and [`word_sum`]. The crate stands on [`f11_dev`], for devices and blocks.
+//! On a device that is honest, [`Storage`] knows how many blocks are free, takes exactly the first run of them, or the first that is as
+//! long as it is asked for, and gives back exactly the blocks that it is told, by reading and writing the bitmap's blocks;
+//! [`replace_free`] tells anew which are free, for one bitmap block. The work on one block is done by [`count_free`], [`first_run`]
+//! and [`word_sum`]. The crate stands on [`f11_dev`], for devices and blocks.
 #![tactic(auto)]
 
 mod bits;

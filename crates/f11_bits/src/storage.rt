@@ -7,6 +7,8 @@ use crate::bits::{BITS, LONGEST, count_free_to, first_run_to, run_length, set_bi
 use f11_bytes::{BLOCK_SIZE, Block};
 use f11_dev::{Device, DeviceFault};
 
+mod contiguous;
+
 /// The most blocks that a bitmap has (Files-11 On-Disk Structure Level 1, "Storage Bitmap File").
 pub const MAX_PLACES: usize = 126;
 
@@ -42,7 +44,7 @@ impl Storage {
     ghost use Rattle.std.specs.Prelude.{true};
     ghost use Rattle.f11_dev.specs.Image.{Image};
     ghost use Rattle.f11_dev.specs.Looked.{Looked};
-    ghost use Rattle.f11_bits.specs.Bitmap.{free_blocks};
+    ghost use Rattle.f11_bits.specs.Bitmap.{free_blocks, KeepsFrom};
     ghost use Rattle.f11_bits.specs.Calls.{MarksOnDisk, FailsToMark, Gives, FailsToGive, Takes, FindsNone, FailsToTake};
     ghost use Rattle.f11_bits.specs.Parts.{IsPart, HasBitOf, HasBits, FindsPart, FindsRest, FindsRun, FailsToFindPart, FailsToFindRest};
     ghost use Rattle.f11_bits.specs.Storage.{bitmap_of, count_of, kept_at, Keeps, IsOn, IsFor, Loads, UsesKept};
@@ -123,12 +125,7 @@ impl Storage {
         ensures failed { OnErr result
             (FailsToGive (bitmap_of self.old) lbn count (D.disk device.old) (D.disk device.new)) }
     {
-        let end = lbn + count;
-        for index in lbn / BITS..end.div_ceil(BITS) {
-            let start = lbn.max(index * BITS);
-            let stop = end.min((index + 1) * BITS);
-            self.free_part(device, start, stop - start)?;
-        }
+        self.mark(device, lbn, count, true)?;
         self.free = self.free.saturating_add(count);
         Ok(())
     }
@@ -295,29 +292,65 @@ impl Storage {
         Ok(())
     }
 
-    /// Marks blocks free whose bits are in one bitmap block.
-    fn free_part<D: Device>(
+    /// Marks `count` blocks from `lbn` on free, or used. It reads and writes each bitmap block that has their bits once, in order; where
+    /// the run begins in the one that is kept, that isn't read again. The last of them is kept.
+    fn mark<D: Device>(
         &mut self,
         device: &mut D,
         lbn: u32,
         count: u32,
+        free: bool,
+    ) -> Result<(), DeviceFault>
+        requires on { IsOn self.old (D.disk device.old) }
+        requires some { 0 < count }
+        requires within { lbn + count ≤ (bitmap_of self.old).size }
+        ensures same { bitmap_of self.new ≡ bitmap_of self.old }
+        ensures free { count_of self.new ≡ count_of self.old }
+        ensures on { OnOk result (IsOn self.new (D.disk device.new)) }
+        ensures marks { OnOk result (MarksOnDisk free (bitmap_of self.old) lbn count
+            (giving_transfers lbn count) (D.disk device.old) (D.disk device.new)) }
+        ensures kept { OnOk result (UsesKept (giving_transfers lbn count) lbn count
+            self.old self.new (D.disk device.old) (D.disk device.new)) }
+        ensures later { OnOk result (KeepsFrom (bitmap_of self.old) ((lbn + count + 4095) / 4096)
+            (D.disk device.old).image (D.disk device.new).image) }
+        ensures failed { OnErr result (FailsToMark free (bitmap_of self.old) lbn count
+            (giving_transfers lbn count) (D.disk device.old) (D.disk device.new)) }
+    {
+        let end = lbn + count;
+        for index in lbn / BITS..end.div_ceil(BITS) {
+            let start = lbn.max(index * BITS);
+            let stop = end.min((index + 1) * BITS);
+            self.mark_part(device, start, stop - start, free)?;
+        }
+        Ok(())
+    }
+
+    /// Marks blocks free, or used, whose bits are in one bitmap block.
+    fn mark_part<D: Device>(
+        &mut self,
+        device: &mut D,
+        lbn: u32,
+        count: u32,
+        free: bool,
     ) -> Result<(), DeviceFault>
         requires on { IsOn self.old (D.disk device.old) }
         requires part { IsPart (bitmap_of self.old).size 0 4096 lbn count }
         ensures same { bitmap_of self.new ≡ bitmap_of self.old }
         ensures free { count_of self.new ≡ count_of self.old }
         ensures on { OnOk result (IsOn self.new (D.disk device.new)) }
-        ensures marks { OnOk result (MarksOnDisk true (bitmap_of self.old) lbn count
+        ensures marks { OnOk result (MarksOnDisk free (bitmap_of self.old) lbn count
             2 (D.disk device.old) (D.disk device.new)) }
         ensures saves { kept_at self.old ≡ lbn / 4096 → OnOk result
             (MakesFewer 2 (D.disk device.old) (D.disk device.new)) }
         ensures keeps { OnOk result (kept_at self.new ≡ lbn / 4096) }
-        ensures failed { OnErr result (FailsToMark true (bitmap_of self.old) lbn count
+        ensures later { OnOk result (KeepsFrom (bitmap_of self.old) (lbn / 4096 + 1)
+            (D.disk device.old).image (D.disk device.new).image) }
+        ensures failed { OnErr result (FailsToMark free (bitmap_of self.old) lbn count
             2 (D.disk device.old) (D.disk device.new)) }
     {
         let mut block = [0; BLOCK_SIZE];
         self.read_block(device, lbn / BITS, &mut block)?;
-        self.write_bits(device, lbn, count, true, &mut block)
+        self.write_bits(device, lbn, count, free, &mut block)
     }
 
     /// Marks blocks free, or used, whose bits are in this bitmap block, writes it and keeps it.

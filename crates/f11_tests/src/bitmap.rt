@@ -4,7 +4,7 @@ ghost use Rattle.f11_bits.specs.Bitmap.{is_free};
 ghost use Rattle.f11_bits.specs.Storage.{IsFor, bitmap_of};
 
 use f11_bits::{Storage, count_free, first_run, ones, replace_free, sum, word_sum};
-use f11_bytes::{BLOCK_SIZE, Block};
+use f11_bytes::{BLOCK_SIZE, Block, set_bit};
 use f11_dev::{Device, DeviceFault, FailOnce, Fuse, Liar, Memory};
 use f11_fixtures::{ZEROS, put};
 use std::alloc::Global;
@@ -277,6 +277,129 @@ fn a_bitmap_block_that_is_kept_is_not_read(rt: HostRuntime) -> Result<(), Fail> 
         storage.give(&mut device, lbn, count)?;
     }
     assert_eq!(rt; (loaded, once, twice, device.transfers()), (4, 6, 7, 8));
+    Ok(())
+}
+
+/// Where a bitmap of seven blocks is, and the number of blocks of its volume.
+const PLACES: [u32; 7] = [1, 2, 3, 4, 5, 6, 7];
+
+const WIDE: u32 = 28_000;
+
+/// A device with that bitmap, in which these blocks are used.
+fn wide_device(alloc: Global, used: &[u32]) -> Result<Memory, Fail> {
+    let mut device = Memory::new(alloc, 8)?;
+    for index in 0..7 {
+        let mut block = ONES;
+        for &lbn in used {
+            if lbn / 4096 == index {
+                set_bit(&mut block, lbn % 4096, false);
+            }
+        }
+        put(&mut device, 1 + index, &block)?;
+    }
+    Ok(device)
+}
+
+/// Loads that bitmap.
+fn load_wide<D: Device>(device: &mut D) -> Result<Storage, DeviceFault>
+    ensures storage { OnOk result (IfOk result (λ storage. IsFor storage (D.disk device.new))) }
+{
+    if device.blocks() < 8 {
+        return Err(DeviceFault);
+    }
+    Storage::load(device, &PLACES, WIDE)
+}
+
+/// The blocks that are used, how many are asked for in a row, the first that is taken, and the transfers made.
+const ROWS: [(&[u32], u32, Option<u32>, u64); 9] = [
+    (&[], 1, Some(0), 2),
+    (&[0], 256, Some(1), 2),
+    (&[0, 100], 257, Some(101), 2),
+    (&[0, 1887], 26_112, Some(1888), 19),
+    (&[0, 1888], 26_112, None, 1),
+    (&[4095, 4097, 12_293], 8195, Some(4098), 9),
+    (&[4095, 4097, 12_293], 8196, Some(12_294), 11),
+    (&[], 28_000, Some(0), 19),
+    (&[], 28_001, None, 0),
+];
+
+/// The first block that is taken, the transfers made, and how many blocks fewer are free.
+fn take_row(alloc: Global, used: &[u32], n: u32) -> Result<(Option<u32>, u64, u32), Fail>
+    requires some { 0 < n }
+{
+    let mut device = wide_device(alloc, used)?;
+    let mut storage = load_wide(&mut device)?;
+    let (free, before) = (storage.free(), device.transfers());
+    let first = storage.take_run(&mut device, n)?;
+    let made = device.transfers().saturating_sub(before);
+    Ok((first, made, free.saturating_sub(storage.free())))
+}
+
+/// Each bitmap block is read once as the run is sought, but the last of them, which is kept; those of the run but the last are read once
+/// more, and all of them written.
+#[test]
+fn runs_as_long_as_asked(rt: HostRuntime) -> Result<(), Fail> {
+    for (used, n, first, transfers) in ROWS {
+        let taken = if first.is_some() { n } else { 0 };
+        let found = take_row(rt.alloc(), used, n.max(1))?;
+        assert_eq!(rt; found, (first, transfers, taken), "{n}");
+    }
+    Ok(())
+}
+
+/// Takes all blocks but one, that one, and one more.
+fn take_all(device: &mut Memory) -> Result<([Option<u32>; 3], [u64; 3]), DeviceFault> {
+    let mut storage = load_wide(device)?;
+    let most = storage.take_run(device, WIDE - 1)?;
+    let once = device.transfers();
+    let last = storage.take_run(device, 1)?;
+    let twice = device.transfers();
+    let none = storage.take_run(device, 1)?;
+    Ok(([most, last, none], [once, twice, device.transfers()]))
+}
+
+/// The bitmap block that was written last is kept, and isn't read as the next run is sought; none is where fewer blocks are free.
+#[test]
+fn runs_up_to_the_last_block(rt: HostRuntime) -> Result<(), Fail> {
+    let mut device = wide_device(rt.alloc(), &[])?;
+    let (runs, transfers) = take_all(&mut device)?;
+    assert_eq!(rt; runs, [Some(0), Some(27_999), None]);
+    assert_eq!(rt; transfers, [33, 40, 40]);
+    Ok(())
+}
+
+/// The transfer that fails as blocks 4098 to 12,292 are taken, of three bitmap blocks, and the free blocks of the image after it, where a
+/// write didn't land and where it did.
+const FAILING_RUN: [(u64, u32, u32); 9] = [
+    (8, 27_997, 27_997),
+    (11, 27_997, 27_997),
+    (12, 27_997, 27_997),
+    (13, 27_997, 23_903),
+    (14, 23_903, 23_903),
+    (15, 23_903, 19_807),
+    (16, 19_807, 19_802),
+    (17, 19_802, 19_802),
+    (18, 19_802, 19_802),
+];
+
+/// The free blocks of the image where a transfer failed as a run was taken, which has to be told.
+fn free_after_run(alloc: Global, transfer: u64, lands: bool) -> Result<(bool, u32), Fail> {
+    let inner = wide_device(alloc, &[4095, 4097, 12_293])?;
+    let mut device = FailOnce::new(inner, transfer, lands);
+    let mut storage = load_wide(&mut device)?;
+    let failed = storage.take_run(&mut device, 8195).is_err();
+    let mut device = device.into_inner();
+    Ok((failed, load_wide(&mut device)?.free()))
+}
+
+#[test]
+fn a_run_on_a_device_that_fails_once(rt: HostRuntime) -> Result<(), Fail> {
+    for (transfer, kept, landed) in FAILING_RUN {
+        for (lands, free) in [(false, kept), (true, landed)] {
+            let found = free_after_run(rt.alloc(), transfer, lands)?;
+            assert_eq!(rt; found, (transfer < 17, free), "at {transfer}");
+        }
+    }
     Ok(())
 }
 

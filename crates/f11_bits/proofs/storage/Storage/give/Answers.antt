@@ -1,87 +1,25 @@
-use Rattle.std.proofs.Common.{◌≡◌, ◌⊎◌, inl, inr, ℕ, ◌+◌, ◌-◌, ◌*◌, ◌/◌, ◌%◌, ◌<◌, ◌≤◌, min, max, true, Bool, IsTrue, subst, ap, ◌∙◌, arith}
-use Rattle.std.proofs.lemmas.Bool.{cases_lt}
-use Rattle.f11_dev.proofs.WentLemmas.{went_within}
-use Rattle.f11_bytes.proofs.ResultLemmas.{OnErr-given}
-use Rattle.f11_bits.specs.Bitmap.{is_free, free_blocks, Marks}
-use Rattle.f11_bits.specs.Changes.{Changing}
+use Rattle.std.proofs.Common.{Bool, IsTrue, subst, ap, arith}
+use Rattle.f11_bits.specs.Bitmap.{is_free, free_blocks}
 use Rattle.f11_bits.specs.Storage.{bitmap_of}
 use Rattle.f11_bits.proofs.CountLemmas.{count_below-le}
-use Rattle.f11_bits.proofs.BitmapLemmas.{KeepsOthers-trans, free_blocks-given}
-use Rattle.f11_bits.proofs.StepLemmas.{KeepsOthers-went, Marks-next, Went-more}
+use Rattle.f11_bits.proofs.BitmapLemmas.{free_blocks-given}
 use Rattle.f11_bits.proofs.storage.Storage.give.Goals as goal
-
--- the blocks of one bitmap block, `done` of count before it
-record IsStep (lbn count index start stop done : ℕ) : Type 0 where
-  begins : start ≡ lbn + done
-  within : done + (stop - start) ≤ count
-  whole : (done + (stop - start) ≡ count) ⊎ ((lbn + (done + (stop - start))) % 4096 ≡ 0)
-  next : done + (stop - start) ≡ min (lbn + count) (4096 * (index + 1)) - lbn
-
-step : (lbn count index start stop : ℕ) → 0 < count → lbn / 4096 ≤ index → index < (lbn + count + 4095) / 4096 → start ≡ max lbn (index * 4096) → stop ≡ min (lbn + count) ((index + 1) * 4096)
-    → IsStep lbn count index start stop (min (lbn + count) (4096 * index) - lbn)
-step lbn count index start stop some from to start_is stop_is = record {
-  begins = omega arith;
-  within = omega arith;
-  whole = elim (cases_lt (4096 * (index + 1)) (lbn + count)) [
-    | inl inside ↦ inr (omega arith)
-    | inr last ↦ inl (omega arith)
-  ];
-  next = omega arith;
-}
-
-pub returns-in_err-free_part-clause-failed : goal.returns-in_err-free_part-clause-failed
-returns-in_err-free_part-clause-failed g c =
-    let old = g.D.Device.disk c.args.device.now in
-    let bitmap = bitmap_of c.args.self.now in
-    let held = c.loop-index.invariant in
-    let next = step c.args.lbn c.args.count c.loop-index.index c.max-start.result c.min-stop.result c.requires.some (omega arith) (omega arith) (omega arith) (omega arith) in
-    OnErr-given _ (went_within (Changing old.honest true bitmap c.args.lbn c.args.count old.image)
-    (Went-more true bitmap c.args.lbn _ _ _ c.args.count old _ _ held.went held.keeps held.marks next.begins next.within next.whole (rw held.same at c.in_err-free_part.ensures.failed)) (omega arith))
-
-pub loop-index-preserved : goal.loop-index-preserved
-loop-index-preserved g c =
-    let old = g.D.Device.disk c.args.device.now in
-    let bitmap = bitmap_of c.args.self.now in
-    let held = c.loop-index.invariant in
-    let made = rw held.same at c.in_ok-free_part.ensures.marks in
-    let at : c.max-start.result / 4096 ≡ c.loop-index.index = omega arith in
-    let next = step c.args.lbn c.args.count c.loop-index.index c.max-start.result c.min-stop.result c.requires.some (omega arith) (omega arith) (omega arith) (omega arith) in
-    record {
-      same = c.free_part.ensures.same ∙ held.same;
-      free = c.free_part.ensures.free ∙ held.free;
-      on = c.in_ok-free_part.ensures.on;
-      first = λ here. absurd (omega arith);
-      last = λ _. omega (arith, c.in_ok-free_part.ensures.keeps, at);
-      saves = λ kept _. elim (cases_lt (c.args.lbn / 4096) c.loop-index.index) [
-        | inl later ↦ let fewer = held.saves kept later in omega (arith, fewer, made.went.transfers)
-        | inr start ↦
-            let before = held.first (omega arith) in
-            let fewer = c.in_ok-free_part.ensures.saves (omega (arith, before, kept, at)) in
-            omega (arith, fewer, held.went.transfers)
-      ];
-      keeps = KeepsOthers-trans bitmap _ _ _ held.keeps (KeepsOthers-went made.went);
-      marks = Marks-next true bitmap c.args.lbn _ _ _ _ old (g.D.Device.disk c.loop-index.device) (g.D.Device.disk c.free_part.new.device) held.went.honest held.marks next.begins next.next made.marks;
-      went = went_within (Changing old.honest true bitmap c.args.lbn c.args.count old.image)
-          (Went-more true bitmap c.args.lbn _ _ _ c.args.count old _ _ held.went held.keeps held.marks next.begins next.within next.whole made.went) (omega arith);
-    }
 
 pub returns-clause-storage : goal.returns-clause-storage
 returns-clause-storage g c =
     let old = g.D.Device.disk c.args.device.now in
-    let now = g.D.Device.disk c.loop-index.device in
+    let now = g.D.Device.disk c.mark.new.device in
     let bitmap = bitmap_of c.args.self.now in
-    let end = c.args.lbn + c.args.count in
-    let all : min end (4096 * c.loop-index.index) - c.args.lbn ≡ c.args.count = omega arith in
+    let made = c.in_ok-mark.ensures in
     record {
-      within = c.loop-index.invariant.on.within;
+      within = made.on.within;
       keeps = λ honest.
-          let was_honest = subst (λ (b : Bool). IsTrue b) c.loop-index.invariant.went.honest honest in
-          let marks : Marks true bitmap c.args.lbn c.args.count old.image now.image = subst (λ (n : ℕ). Marks true bitmap c.args.lbn n old.image now.image) all (c.loop-index.invariant.marks was_honest) in
-          let more = free_blocks-given bitmap c.args.lbn c.args.count old.image now.image c.requires.within marks (c.requires.used was_honest) in
-          let kept = c.loop-index.invariant.on.block honest in
-          let same = ap (free_blocks now.image) c.loop-index.invariant.same in
+          let was_honest = subst (λ (b : Bool). IsTrue b) made.marks.went.honest honest in
+          let more = free_blocks-given bitmap c.args.lbn c.args.count old.image now.image c.requires.within (made.marks.marks was_honest) (c.requires.used was_honest) in
+          let kept = made.on.block honest in
+          let same = ap (free_blocks now.image) c.mark.ensures.same in
           record {
-            free = omega (arith, more, same, (c.requires.storage.keeps was_honest).free, c.loop-index.invariant.free, count_below-le (is_free now.image bitmap) bitmap.size, c.saturating_add-self.ensures);
+            free = omega (arith, more, same, (c.requires.storage.keeps was_honest).free, c.mark.ensures.free, count_below-le (is_free now.image bitmap) bitmap.size, c.saturating_add-self.ensures);
             block = record { within = kept.within; is_block = kept.is_block };
           };
     }

@@ -1,0 +1,6 @@
+use Rattle.std.proofs.Common.{◌≡◌, ℕ, ◌<◌, ◌≤◌, true}
+use Rattle.f11_bytes.specs.Bits.{bit}
+use Rattle.f11_bits.proofs.bits.first_clear_in.Given as goal
+
+abbrev pub invariant-loop-k : goal.invariant-loop-k
+invariant-loop-k l = (j : ℕ) → l.start ≤ j → j < l.k → bit l.block j ≡ true
