@@ -1,9 +1,9 @@
 //! A file that is copied to an RT-11 volume, and from there to a volume, by the calls that copy.
 ghost use Rattle.std.specs.Prelude.{◌≡◌, true, IfOk};
 ghost use Rattle.f11_fcp.specs.Lists.{is_sound, store_of_volume};
+ghost use Rattle.f11_flx.specs.CopyFromRt.{new_id};
 ghost use Rattle.f11_flx.specs.Copying.{WhereSound};
 ghost use Rattle.f11_flx.specs.ThereAndBack.{IsBack};
-ghost use Rattle.f11_store.specs.Step.{next_id};
 ghost use Rattle.f11_store.specs.Store.{file_named};
 
 use f11_dev::Device;
@@ -35,7 +35,7 @@ pub fn there_and_back<D: Device, E: Device, F: Device>(
 ) -> Result<(u32, u32), FlxRefusal>
     ensures back { IfOk result (λ blocks. WhereSound E.disk from.old rt.old (is_sound to.old ≡ true →
         IsBack mode (file_named (store_of_volume from.old) source)
-        (file_named (store_of_volume to.new) (next_id (store_of_volume to.old))) blocks.0 blocks.1)) }
+        (file_named (store_of_volume to.new) (new_id (store_of_volume to.old))) blocks.0 blocks.1)) }
 {
     let there = copy_to_rt(from, task, lun, uic, source, rt, name, 0, mode)?;
     let back = copy_from_rt(rt, name, to, task, lun, uic, dir, entry, 0, mode)?;

@@ -1,9 +1,14 @@
 -- The transfers of Find, Enter and Remove.
-use Rattle.std.proofs.Common.{◌≡◌, ℕ, ◌+◌, ◌*◌, ◌/◌, ◌≤◌, List, length, take, arith, length-append}
+use Rattle.std.proofs.Common.{◌≡◌, ℕ, ◌+◌, ◌*◌, ◌/◌, ◌≤◌, Bool, false, List, Option, if◌then◌else◌, is_none, unwrap_or, length, take, arith, ap, subst, ◌∙◌, length-append}
+use Rattle.f11_store.specs.declared.files.FileId.{FileId}
+use Rattle.f11_store.specs.Causes.{is_missing}
+use Rattle.f11_store.specs.Changes.{Extends}
+use Rattle.f11_store.specs.Headroom.{headers_to_enter}
+use Rattle.f11_store.proofs.SlotsFirst.{gained-is-ready, of-stays}
 use Rattle.std.proofs.lemmas.Nat.{mul-le}
 use Rattle.std.proofs.lemmas.List.{length-take}
-use Rattle.f11_store.specs.File.{File, need}
-use Rattle.f11_store.specs.Store.{file_named, free_slots}
+use Rattle.f11_store.specs.File.{File, need, no_file}
+use Rattle.f11_store.specs.Store.{Store, file_named, file_of, free_slots}
 use Rattle.f11_store.specs.Cost.{header_count, end_blocks}
 use Rattle.f11_entries.proofs.GrownLemmas.{named_grown}
 use Rattle.f11_store.specs.Directory.{entry_count}
@@ -40,13 +45,22 @@ append_fits s f = omega arith
 taken_at_most : (n : ℕ) (slots : List ℕ) → length (take n slots) ≤ n
 taken_at_most n slots = rw length-take (omega arith)
 
-pub grown_headers : GrownHeaders
-grown_headers s grown d there grows =
+-- headers of a file that grew by one block
+headers_grown : (s grown : Store) (d : FileId) → is_missing s d ≡ false → Extends s d.number 1 grown → header_count (file_named grown d) ≤ header_count (file_named s d) + 1
+headers_grown s grown d there grows =
     rw (named_grown s grown d there grows, length-append (file_named s d).held (take grows.added (free_slots s)))
     (omega (arith, taken_at_most grows.added (free_slots s), grows.may_grow.headers, few))
   where
     few : need grows.before.room 1 ≤ 1
     few = omega arith
 
+pub grown_headers : GrownHeaders
+grown_headers s grown d other there h =
+    let same : file_of h.ready d ≡ file_of s d = of-stays s h.ready _ d (gained-is-ready s h.ready _ h.gains) other in
+    subst (λ (o : Option File). header_count (file_named grown d) ≤ header_count (unwrap_or o no_file) + 1) same
+    (headers_grown h.ready grown d (ap is_none same ∙ there) h.makes)
+
 pub grown_fits : GrownFits
-grown_fits s grown d there grows = omega (arith, grown_headers s grown d there grows)
+grown_fits s grown d other there needs h =
+    let headers : headers_to_enter (file_named s d) ≡ need (file_named s d).room 1 = ap (λ (b : Bool). if b then need (file_named s d).room 1 else 0) needs in
+    rw headers (omega (arith, grown_headers s grown d other there h))

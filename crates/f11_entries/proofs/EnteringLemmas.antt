@@ -9,40 +9,18 @@ use Rattle.f11_store.specs.File.{File}
 use Rattle.f11_store.specs.Store.{Store, file_named}
 use Rattle.f11_store.specs.Directory.{index_of_empty, entry_count, needs_block, with_bytes, with_record, with_end}
 use Rattle.f11_store.specs.Changes.{with_change, with_entry, with_end_after, EntersAtEnd, EntersAt, Enters}
-use Rattle.f11_store.specs.Lags.{file_changes, Work, no_work, one_part, and_then, extend_work, end_work, append_work, enter_work, served_work, work_if, LagsBy}
+use Rattle.f11_store.specs.Lags.{file_changes, Work, no_work, one_part, and_then, lengthen_work, end_work, append_work, enter_work, served_work, work_if, LagsBy}
 use Rattle.f11_store.specs.Moments.{Respects, Did}
 use Rattle.f11_entries.specs.Entering.{EnteringInPlace, EnteringAtEnd, EnteringInNewBlock, EnterLags, EntryIsBlock, EndIsAttr}
-use Rattle.f11_store.proofs.ProgressLaws.{more_work_lags, lags_after, did_both, extends_did, change_did, nothing_did}
+use Rattle.f11_store.proofs.ProgressLaws.{more_work_lags, lags_after, did_both, change_did, nothing_did}
+use Rattle.f11_store.proofs.Respects.{end_respects, entry_respects}
+use Rattle.f11_store.proofs.SlotsFirst.{lengthens-did}
 use Rattle.f11_store.proofs.StoreLemmas.{same_number}
 
 pub entering_in_place : EnteringInPlace
 entering_in_place s d i r place = record {
-  entry = λ t lags. subst (λ (o : Option ℕ). LagsBy (enter_work o (file_named s d) d.number r) t s) (sym place) lags;
+  entry = λ t lags. subst (λ (o : Option ℕ). LagsBy (enter_work o s d r) t s) (sym place) lags;
   enters = subst (λ (o : Option ℕ). EntersAt o s d r (with_change s d.number (with_entry i r))) (sym place) refl;
-}
-
--- a record put in files that are alike
-entry_respects : (i : ℕ) (r : List ℕ) → Respects (with_entry i r)
-entry_respects i r f g l = record {
-  sequence = l.sequence;
-  owner = l.owner;
-  protection = l.protection;
-  characteristics = l.characteristics;
-  ident = l.ident;
-  attr = l.attr;
-  blocks = ap (λ b. with_record b i r) l.blocks;
-}
-
--- an end moved in files that are alike
-end_respects : (i : ℕ) → Respects (with_end_after i)
-end_respects i f g l = record {
-  sequence = l.sequence;
-  owner = l.owner;
-  protection = l.protection;
-  characteristics = l.characteristics;
-  ident = l.ident;
-  attr = ap (λ a. with_end a (length f.blocks) (16 * (i + 1))) l.attr ∙ ap (λ b. with_end g.attr (length b) (16 * (i + 1))) l.blocks;
-  blocks = l.blocks;
 }
 
 -- two changes in turn are one
@@ -107,19 +85,18 @@ end_is_attr f i = refl
 -- the work of Enter where no record is empty
 work_at_end :
     (s t : Store) (d : FileId) (r : List ℕ) (b : Bool) → index_of_empty (file_named s d) ≡ None → needs_block (file_named s d) ≡ b →
-    LagsBy (append_work b d.number (file_named s d).room (entry_count (file_named s d)) r) t s →
-    LagsBy (enter_work (index_of_empty (file_named s d)) (file_named s d) d.number r) t s
+    LagsBy (append_work b s d (entry_count (file_named s d)) r) t s → LagsBy (enter_work (index_of_empty (file_named s d)) s d r) t s
 work_at_end s t d r b none needs lags =
-    subst (λ (o : Option ℕ). LagsBy (enter_work o (file_named s d) d.number r) t s) (sym none)
-    (subst (λ (x : Bool). LagsBy (append_work x d.number (file_named s d).room (entry_count (file_named s d)) r) t s) (sym needs) lags)
+    subst (λ (o : Option ℕ). LagsBy (enter_work o s d r) t s) (sym none)
+    (subst (λ (x : Bool). LagsBy (append_work x s d (entry_count (file_named s d)) r) t s) (sym needs) lags)
 
 -- and its end
 enters_at_end :
     (s t : Store) (d : FileId) (r : List ℕ) (b : Bool) → index_of_empty (file_named s d) ≡ None → needs_block (file_named s d) ≡ b →
-    EntersAtEnd b s d.number (entry_count (file_named s d)) r t → Enters s d r t
+    EntersAtEnd b s d (entry_count (file_named s d)) r t → Enters s d r t
 enters_at_end s t d r b none needs enters =
     subst (λ (o : Option ℕ). EntersAt o s d r t) (sym none)
-    (subst (λ (x : Bool). EntersAtEnd x s d.number (entry_count (file_named s d)) r t) (sym needs) enters)
+    (subst (λ (x : Bool). EntersAtEnd x s d (entry_count (file_named s d)) r t) (sym needs) enters)
 
 pub entering_at_end : EnteringAtEnd
 entering_at_end s d r none room = record {
@@ -133,13 +110,13 @@ entering_at_end s d r none room = record {
     i = entry_count (file_named s d)
 
 pub entering_in_new_block : EnteringInNewBlock
-entering_in_new_block s d r none needs = (
+entering_in_new_block s d r other none needs = (
   λ t lags. work_at_end s t d r true none needs
       (more_work_lags t s extending (and_then extending (end_work d.number i r)) (end_work d.number i r).parts refl
-      (λ n out. (or_parts (n == d.number) (n == d.number) out).0) (omega arith) (omega arith) lags),
+      (λ n out. (or_parts (extending.is_meant n) (n == d.number) out).0) (omega arith) (omega arith) lags),
   λ grown grows. record {
-    entry = λ t lags. work_at_end s t d r true none needs (entry_lags extending t grown s d.number i r (extends_did grown s d 1 grows) lags);
-    end = λ t lags. work_at_end s t d r true none needs (move_lags extending t grown s d.number i r (extends_did grown s d 1 grows) lags);
+    entry = λ t lags. work_at_end s t d r true none needs (entry_lags extending t grown s d.number i r (lengthens-did grown s d 1 other grows) lags);
+    end = λ t lags. work_at_end s t d r true none needs (move_lags extending t grown s d.number i r (lengthens-did grown s d 1 other grows) lags);
     enters = enters_at_end s (with_change (with_change grown d.number (with_entry i r)) d.number (with_end_after i)) d r true none needs
         (grown, grows, two_changes grown d.number (with_entry i r) (with_end_after i));
   },
@@ -149,4 +126,4 @@ entering_in_new_block s d r none needs = (
     i = entry_count (file_named s d)
 
     extending : Work
-    extending = extend_work d.number (file_named s d).room 1
+    extending = lengthen_work s d 1

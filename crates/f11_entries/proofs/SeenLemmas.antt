@@ -10,9 +10,12 @@ use Rattle.std.proofs.lemmas.List.Quantifiers.{position-Some}
 use Rattle.std.proofs.lemmas.List.FromFn.{length-map-range_with_len, get_or-map-range_with_len}
 use Rattle.std.proofs.lemmas.Option.{get_or_from_slice_get, slice_get-get_or}
 use Rattle.f11_store.specs.File.{File, no_file, length_of, zero_block, zero_blocks}
-use Rattle.f11_store.specs.Store.{Store, of_sequence, file_named}
+use Rattle.f11_store.proofs.SlotsFirst.{gained-is-ready, of-stays}
+use Rattle.f11_store.specs.declared.files.FileId.{FileId}
+use Rattle.f11_store.specs.Causes.{is_missing}
+use Rattle.f11_store.specs.Store.{Store, of_sequence, file_named, file_of}
 use Rattle.f11_store.specs.Directory.{record_at, record_in, entry_count, entries_of, index_of_name, is_entered, has_name, is_empty, index_of_empty, needs_block, with_record}
-use Rattle.f11_store.specs.Changes.{grown_file}
+use Rattle.f11_store.specs.Changes.{grown_file, Extends}
 use Rattle.f11_store.proofs.RecordLemmas.{first_found, some_passes}
 use Rattle.f11_dir.specs.Records.{records_in}
 use Rattle.std.specs.Option.{option_and_then}
@@ -235,12 +238,22 @@ is_new_block s f added pointers room needs = record {
         let past : 512 * length f.blocks ≤ 16 * entry_count f = grind (arith, nat_tests) in
         omega (arith, past)
 
-pub new_block_is_zeros : NewBlockIsZeros
-new_block_is_zeros grown s d there needs grows = (
+-- after a block more, whose headers were free
+zeros_in_block :
+    (grown s : Store) (d : FileId) → is_missing s d ≡ false → needs_block (file_named s d) ≡ true → Extends s d.number 1 grown →
+    (is_missing grown d ≡ false) × IsNewBlock (file_named s d) (file_named grown d)
+zeros_in_block grown s d there needs grows = (
   ap is_none (grown_there s grown d there grows),
   subst (λ (g : File). IsNewBlock (file_named s d) g) (sym (named_grown s grown d there grows))
       (is_new_block s (file_named s d) grows.added grows.pointers grows.room needs),
 )
+
+pub new_block_is_zeros : NewBlockIsZeros
+new_block_is_zeros grown s d other there needs h =
+    let same : file_of h.ready d ≡ file_of s d = of-stays s h.ready _ d (gained-is-ready s h.ready _ h.gains) other in
+    let named : file_named h.ready d ≡ file_named s d = ap (λ (o : Option File). unwrap_or o no_file) same in
+    let zeros = zeros_in_block grown h.ready d (ap is_none same ∙ there) (ap needs_block named ∙ needs) h.makes in
+    (zeros.0, subst (λ (f : File). IsNewBlock f (file_named grown d)) named zeros.1)
 
 pub named_is_there : NamedIsThere
 named_is_there s d there = at (s.file d.number) there

@@ -9,7 +9,7 @@ use Rattle.f11_store.specs.declared.protection.Right.TheVariants as right
 use Rattle.f11_store.specs.File.{File, is_marked}
 use Rattle.f11_store.specs.Store.{Store, file_named, is_held, bars_writing}
 use Rattle.f11_store.specs.Directory.{empty_record, index_of_empty, needs_block, is_directory, is_entered, with_record, with_end}
-use Rattle.f11_store.specs.Causes.{Cause, ◌⇐◌, is_bad, is_missing, lacks, first_of, growth_causes_if}
+use Rattle.f11_store.specs.Causes.{Cause, ◌⇐◌, is_bad, is_missing, lacks, first_of, extend_causes_if}
 use Rattle.f11_store.specs.Changes.{with_change, with_entry, with_end_after, Enters}
 use Rattle.f11_store.specs.Lags.{no_work, one_part, file_changes, enter_work, served_work, work_if, LagsBy}
 use Rattle.f11_store.proofs.StoreLemmas.{same_number}
@@ -35,8 +35,8 @@ same_end g i r = ap (λ (n : ℕ). record (with_entry i r g) { attr = with_end g
 by_writes :
     (u s : Store) (d : FileId) (g : File) (i : ℕ) (r : List ℕ) (put move : File → File) (o : Option ℕ) → u.file d.number ≡ Some g →
     put g ≡ with_entry i r g → move (with_entry i r g) ≡ with_end_after i (with_entry i r g) → EnteringFrom u s d i r o →
-    ((t : Store) → LagsBy (one_part d.number (file_changes d.number put)) t u → LagsBy (enter_work o (file_named s d) d.number r) t s)
-    × ((t : Store) → LagsBy (one_part d.number (file_changes d.number move)) t (with_change u d.number put) → LagsBy (enter_work o (file_named s d) d.number r) t s)
+    ((t : Store) → LagsBy (one_part d.number (file_changes d.number put)) t u → LagsBy (enter_work o s d r) t s)
+    × ((t : Store) → LagsBy (one_part d.number (file_changes d.number move)) t (with_change u d.number put) → LagsBy (enter_work o s d r) t s)
     × Enters s d r (with_change (with_change u d.number put) d.number move)
 by_writes u s d g i r put move o was puts moves from = (
   λ t lags. from.entry t (same_change_lags t u d.number g put (with_entry i r) was puts lags),
@@ -73,7 +73,7 @@ pub room_is_asked : RoomIsAsked
 room_is_asked s task caller d name id may =
     passed (is_bad d || is_bad id) (nat_lt d.number 4) (is_missing s d) (is_marked (file_named s d)) (lacks right.Write caller (file_named s d))
     (is_held bars_writing s d) (is_directory (file_named s d)) (is_entered name (file_named s d))
-    (growth_causes_if (needs_block (file_named s d)) s (file_named s d) 1)
+    (extend_causes_if (needs_block (file_named s d)) s (file_named s d) 1)
     may.good may.own may.there may.unmarked may.may_write may.unheld may.directory may.new_name
 
 pub entering_in_place_by_write : EnteringInPlaceByWrite

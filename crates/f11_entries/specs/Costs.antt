@@ -1,13 +1,14 @@
 -- The transfers of a look through a directory, and of what comes behind it, are within the cost of the request (profile).
-use Rattle.std.specs.Prelude.{◌≡◌, ℕ, ◌+◌, ◌-◌, ◌*◌, ◌/◌, ◌≤◌, false, List}
+use Rattle.std.specs.Prelude.{◌≡◌, ℕ, ◌+◌, ◌-◌, ◌*◌, ◌/◌, ◌≤◌, ◌==◌, true, false, List}
 use Rattle.f11_store.specs.declared.files.FileId.{FileId}
 use Rattle.f11_store.specs.declared.requests.Request.TheVariants as request
 use Rattle.f11_store.specs.File.{File}
 use Rattle.f11_store.specs.Store.{Store, file_named}
-use Rattle.f11_store.specs.Directory.{entry_count}
+use Rattle.f11_store.specs.Directory.{entry_count, needs_block}
 use Rattle.f11_store.specs.Causes.{is_missing}
-use Rattle.f11_store.specs.Changes.{Extends}
-use Rattle.f11_store.specs.Cost.{header_count, growth_cost, cost}
+use Rattle.f11_store.specs.Changes.{Lengthens}
+use Rattle.f11_store.specs.Cost.{header_count, growth_cost, lengthen_cost, slots_cost, cost}
+use Rattle.f11_store.specs.Headroom.{headers_to_enter}
 
 -- the most transfers of reading so many records of a directory: each block may be sought from the first header on
 abbrev pub reading_cost : File → ℕ → ℕ
@@ -26,10 +27,10 @@ RemoveFits =
     (s : Store) (task : ℕ) (d : FileId) (name : List ℕ) →
     look_cost (file_named s d) + (header_count (file_named s d) + 1) ≤ cost s task (request.Remove d name)
 
--- the most transfers of a record more in a directory that was looked through: those of one block more, and then of writing a
--- block and the header
+-- the most transfers of a record more in a directory that was looked through: those of one block more with the slots that come
+-- first where it is added, and then of writing a block and the header
 abbrev pub entry_cost : Store → File → ℕ
-entry_cost s f = growth_cost s f 1 + header_count f + 4
+entry_cost s f = slots_cost s (headers_to_enter f) + (growth_cost s f 1 + header_count f + 4)
 
 -- the look, and then the record
 abbrev pub EnterFits : Type 0
@@ -48,11 +49,11 @@ AppendFits = (s : Store) (f : File) → header_count f + 1 + append_cost f ≤ e
 -- one block more, and then both are written, by the headers that the file has then
 abbrev pub GrownFits : Type 0
 GrownFits =
-    (s grown : Store) (d : FileId) → is_missing s d ≡ false → Extends s d.number 1 grown →
-    growth_cost s (file_named s d) 1 - 1 + append_cost (file_named grown d) ≤ entry_cost s (file_named s d)
+    (s grown : Store) (d : FileId) → (d.number == 1) ≡ false → is_missing s d ≡ false → needs_block (file_named s d) ≡ true → Lengthens s d 1 grown →
+    lengthen_cost s (file_named s d) 1 - 1 + append_cost (file_named grown d) ≤ entry_cost s (file_named s d)
 
 -- one block more may need one header more
 abbrev pub GrownHeaders : Type 0
 GrownHeaders =
-    (s grown : Store) (d : FileId) → is_missing s d ≡ false → Extends s d.number 1 grown →
+    (s grown : Store) (d : FileId) → (d.number == 1) ≡ false → is_missing s d ≡ false → Lengthens s d 1 grown →
     header_count (file_named grown d) ≤ header_count (file_named s d) + 1

@@ -11,7 +11,7 @@ use Rattle.f11_store.specs.File.{File, length_of, is_marked}
 use Rattle.f11_store.specs.Store.{Store, file_named, is_held, is_accessed, bars_writing}
 use Rattle.f11_store.specs.Directory.{empty_record, index_of_name, index_of_empty, entry_count, needs_block}
 use Rattle.f11_store.specs.Directory.{is_directory, is_entered, with_bytes, with_end}
-use Rattle.f11_store.specs.Causes.{is_bad, is_missing, lacks, first_of, growth_causes_if, first_refusal}
+use Rattle.f11_store.specs.Causes.{is_bad, is_missing, lacks, first_of, extend_causes_if, first_refusal}
 use Rattle.f11_store.specs.Changes.{with_change, with_block, with_replacement, after_remove, Enters}
 use Rattle.f11_store.specs.Lags.{Work, one_part, file_changes, enter_work, work_if, LagsBy, Lags}
 use Rattle.f11_store.specs.Accesses.{mark_of}
@@ -28,11 +28,11 @@ end_put g i = with_replacement (change.Attr (with_end g.attr (length_of g) (16 *
 -- while the block is written, while the attributes are, and the end
 pub record EnteringBy (u s : Store) (d : FileId) (number place : ℕ) (block r : List ℕ) (o : Option ℕ) : Type 0 where
   pub putting : (t : Store) → LagsBy (one_part d.number (file_changes d.number (put_in number place block r))) t u →
-      LagsBy (enter_work o (file_named s d) d.number r) t s
+      LagsBy (enter_work o s d r) t s
   pub moving : (t : Store) →
       LagsBy (one_part d.number (file_changes d.number (end_put (file_named u d) (32 * number + place)))) t
       (with_change u d.number (put_in number place block r)) →
-      LagsBy (enter_work o (file_named s d) d.number r) t s
+      LagsBy (enter_work o s d r) t s
   pub enters : Enters s d r
       (with_change (with_change u d.number (put_in number place block r)) d.number (end_put (file_named u d) (32 * number + place)))
 
@@ -58,12 +58,12 @@ pub record MayEnter (s : Store) (caller : Uic) (d : FileId) (name : List ℕ) (i
 abbrev pub RoomIsAsked : Type 0
 RoomIsAsked =
     (s : Store) (task : ℕ) (caller : Uic) (d : FileId) (name : List ℕ) (id : FileId) → MayEnter s caller d name id →
-    first_refusal s task caller (request.Enter d name id) ≡ first_of (growth_causes_if (needs_block (file_named s d)) s (file_named s d) 1)
+    first_refusal s task caller (request.Enter d name id) ≡ first_of (extend_causes_if (needs_block (file_named s d)) s (file_named s d) 1)
 
 -- in place of an empty record: one write of its block
 pub record EnteringByWrite (s : Store) (d : FileId) (number place : ℕ) (block r : List ℕ) (o : Option ℕ) : Type 0 where
   pub putting : (t : Store) → LagsBy (one_part d.number (file_changes d.number (put_in number place block r))) t s →
-      LagsBy (enter_work o (file_named s d) d.number r) t s
+      LagsBy (enter_work o s d r) t s
   pub enters : Enters s d r (with_change s d.number (put_in number place block r))
 
 abbrev pub EnteringInPlaceByWrite : Type 0

@@ -5,21 +5,24 @@ use Rattle.f11_dev.specs.Image.{Image}
 use Rattle.f11_dev.proofs.WentLemmas.{went_looked}
 use Rattle.f11_files.proofs.AnswerLemmas.{reads-within}
 use Rattle.f11_files.proofs.WriteLemmas.{fails-unread}
-use Rattle.std.proofs.lemmas.Bool.{eq-eqb, not_from_false, not_from_true}
+use Rattle.std.proofs.lemmas.Bool.{eq-eqb, ne_eqb, not_from_false, not_from_true}
 use Rattle.std.proofs.lemmas.Option.{get_or_from_slice_get}
 use Rattle.f11_home.specs.Home.{HomeFields}
-use Rattle.f11_store.specs.Causes.{Cause, ◌⇐◌, first_of, first_refusal, is_missing, is_no_write, is_no_writer, holds_none, cannot_write, lacks, growth_causes}
-use Rattle.f11_store.specs.Changes.{Extends, with_change, with_block}
-use Rattle.f11_store.specs.Cost.{cost, growth_cost, header_count}
-use Rattle.f11_store.specs.File.{File, is_marked, length_of}
-use Rattle.f11_store.specs.Lags.{Work, no_work, served_work, extend_work, work_if, work_of}
+use Rattle.f11_store.specs.Causes as causes
+use Rattle.f11_store.specs.Causes.{Cause, ◌⇐◌, first_of, first_refusal, is_missing, is_no_write, is_no_writer, holds_none, cannot_write, lacks}
+use Rattle.f11_store.specs.Changes.{Lengthens, with_change, with_block}
+use Rattle.f11_store.specs.Cost.{cost, header_count, lengthen_cost}
+use Rattle.f11_store.specs.File.{File, is_marked, length_of, need}
+use Rattle.f11_store.specs.Headroom.{slots_first}
+use Rattle.f11_store.specs.Lags.{Work, no_work, served_work, lengthen_work, work_if, work_of}
+use Rattle.f11_store.specs.Step.{gets_slots, may_want_memory}
 use Rattle.f11_store.specs.Store.{Store, id_in, id_held, file_held, file_of, file_named}
 use Rattle.f11_store.specs.declared.callers.Uic.{Uic}
 use Rattle.f11_store.specs.declared.files.Attr.{Attr}
 use Rattle.f11_store.specs.declared.files.FileId.{FileId}
 use Rattle.f11_store.specs.declared.protection.Right.TheVariants as right
 use Rattle.f11_store.specs.declared.refusals.Refusal.{Refusal}
-use Rattle.f11_store.specs.declared.refusals.Refusal.TheVariants.{BadArgument, NoSuchAccess, NoSuchFile, NoPrivilege, EndOfFile, TooManySegments, DeviceFull, NoHeader, DeviceFault, Damaged, VolumeFailed}
+use Rattle.f11_store.specs.declared.refusals.Refusal.TheVariants.{BadArgument, NoSuchAccess, NoSuchFile, NoPrivilege, EndOfFile, TooManySegments, DeviceFull, NoHeader, NoMemory, DeviceFault, Damaged, VolumeFailed}
 use Rattle.f11_store.specs.declared.requests.Reply.TheVariants as reply
 use Rattle.f11_store.specs.declared.requests.Request.{Request}
 use Rattle.f11_store.specs.declared.requests.Request.TheVariants as request
@@ -27,14 +30,16 @@ use Rattle.f11_store.specs.Rights.{may}
 use Rattle.f11_files.specs.Answers.{ReadsAtMost, WritesAtMost, FailsToRead, FailsToWrite, is_among, is_cause, is_fatal, is_clean, faults_of}
 use Rattle.f11_files.specs.Operations.{length_causes, extend_causes, attr_of}
 use Rattle.f11_files.specs.Finding.Blocks.{ReadsBlock, StoresBlock, FailsToStore, block_work}
-use Rattle.f11_files.specs.Extending.Runs.{IsLengthAfter, ExtendsFile, FailsToExtend}
+use Rattle.f11_files.specs.Extending.Runs.{headers_for, IsLengthAfter, ExtendsFile, FailsToExtend}
+use Rattle.f11_files.proofs.Overall.{extends-is}
 use Rattle.f11_image_store.specs.StoreOf.{store_of}
 use Rattle.f11_fcp.proofs.RequestLemmas.{still}
 use Rattle.f11_fcp.specs.Accesses.{Table, Entry, access_of, accesses, held_in, mark_there, mark_kept, HasAccessed}
 use Rattle.f11_store.specs.Accesses.{mark_of}
 use Rattle.f11_fcp.specs.Handles.{State, store_at, own_causes, Meanwhile, Handles, of_accessed}
-use Rattle.f11_store.proofs.HeldLaws.{growth-held, grows-held}
-use Rattle.f11_fcp.proofs.HandleLemmas.{work-then, clean-cause, handled-served, same-store, handled-clean, handled-fatal, handled-refused, handled-does, behind, reads-none}
+use Rattle.f11_store.proofs.HeldLaws.{extend-causes-held, lengthen-work-held, lengthens-held}
+use Rattle.f11_fcp.proofs.SlotsLemmas.{gets-held, lengthen-cost-held}
+use Rattle.f11_fcp.proofs.HandleLemmas.{work-then, clean-cause, handled-served, same-store, handled-clean, handled-fatal, handled-refused, handled-does, handled-wanting, memory-cases, wants-still, without-memory, behind, reads-none}
 
 -- a test that fails
 pub drop-false : {A : Type 0} (b : Bool) (x rest : A) → b ≡ false → (if b then x else rest) ≡ rest
@@ -83,7 +88,7 @@ pub there-held : (t : Table) (s : Store) (task lun : ℕ) (e : Entry) → HasAcc
 there-held t s task lun e kept low small held = there-marked s e.file e.marked (subst (λ (o : Option Entry). mark_there s o ≡ mark_kept o) held (kept task lun low small))
 
 -- what a call on a file that is accessed is refused for is one of the request's own causes
-extend-own : (s mid : Store) (f : File) (missing : Bool) (task lun n : ℕ) (caller : Uic) (e : Refusal) → of_accessed e ≡ e → is_among ((NoSuchFile ⇐ missing) ∷ growth_causes mid f n) e ≡ true
+extend-own : (s mid : Store) (f : File) (missing : Bool) (task lun n : ℕ) (caller : Uic) (e : Refusal) → of_accessed e ≡ e → is_among ((NoSuchFile ⇐ missing) ∷ causes.extend_causes mid f n) e ≡ true
     → is_among (own_causes s task caller (request.Extend lun n)) e ≡ true
 extend-own s mid f missing task lun n caller TooManySegments same h = refl
 extend-own s mid f missing task lun n caller DeviceFull same h = refl
@@ -210,8 +215,8 @@ module _ (task : ℕ) (caller : Uic) (r : Request) (block : List ℕ) (old : Sta
           (behind task caller r block old (work_if (first_of causes) work) mid new reads home works-if fails.writes fewer)) (home' ∙ home))
 
 -- no cause against more blocks is that there is no such file
-pub growth-never : (s : Store) (f : File) (n : ℕ) → first_of (growth_causes s f n) ≢ Some NoSuchFile
-growth-never s f n = by_tests _ _ _
+pub extend-never : (s : Store) (f : File) (n : ℕ) → first_of (causes.extend_causes s f n) ≢ Some NoSuchFile
+extend-never s f n = by_tests _ _ _
   where
     by_tests : (a b c : Bool) → (if a then Some TooManySegments else (if b then Some DeviceFull else (if c then Some NoHeader else None))) ≢ Some NoSuchFile
     by_tests true b c h = absurd (cc)
@@ -241,21 +246,29 @@ module _ (task lun : ℕ) (caller : Uic) (old : State) (e : Entry) (held : old.t
     abbrev r : Request
     r = request.Extend lun n
 
+    -- the causes against more blocks of the file
+    abbrev more : Store → List Cause
+    more x = causes.extend_causes x (file_named x e.file) n
+
     -- the causes once the right is judged
-    judged : (b : Bool) → lacks right.Extend caller (file_named s0 e.file) ≡ b
-        → first_refusal s task caller r ≡ (if b then Some NoPrivilege else first_of (growth_causes s0 (file_named s0 e.file) n))
+    judged : (b : Bool) → lacks right.Extend caller (file_named s0 e.file) ≡ b → first_refusal s task caller r ≡ (if b then Some NoPrivilege else first_of (more s0))
     judged b is =
         drop-false (n == 0) _ _ some ∙ drop-false (cannot_write s task lun) _ _ (held-writes writes)
-        ∙ ap (λ (f : File). if lacks right.Extend caller f then Some NoPrivilege else first_of (growth_causes s f n)) held-file
-        ∙ ap (λ (x : Bool). if x then Some NoPrivilege else first_of (growth_causes s (file_named s0 e.file) n)) is
-        ∙ ap (λ (cs : List Cause). if b then Some NoPrivilege else first_of cs) (growth-held (accesses old.table) s0 (file_named s0 e.file) n)
+        ∙ ap (λ (f : File). if lacks right.Extend caller f then Some NoPrivilege else first_of (causes.extend_causes s f n)) held-file
+        ∙ ap (λ (x : Bool). if x then Some NoPrivilege else first_of (causes.extend_causes s (file_named s0 e.file) n)) is
+        ∙ ap (λ (cs : List Cause). if b then Some NoPrivilege else first_of cs) (extend-causes-held (accesses old.table) s0 (file_named s0 e.file) n)
 
     never : (b : Bool) → lacks right.Extend caller (file_named s0 e.file) ≡ b → first_refusal s task caller r ≢ Some NoSuchFile
     never true is h = absurd (let no : Some NoPrivilege ≡ Some NoSuchFile = sym (judged true is) ∙ h in cc)
-    never false is h = growth-never s0 (file_named s0 e.file) n (sym (judged false is) ∙ h)
+    never false is h = extend-never s0 (file_named s0 e.file) n (sym (judged false is) ∙ h)
 
-    bound : 1 + (growth_cost s0 (file_named s0 e.file) n - 1) ≤ cost s task r
-    bound = subst (λ (f : File). 1 + (growth_cost s0 (file_named s0 e.file) n - 1) ≤ growth_cost s0 f n) (sym held-file) (omega arith)
+    bound : 1 + (lengthen_cost s0 (file_named s0 e.file) n - 1) ≤ cost s task r
+    bound =
+        subst (λ (f : File). 1 + (lengthen_cost s0 (file_named s0 e.file) n - 1) ≤ lengthen_cost s f n) (sym held-file)
+        (let same = lengthen-cost-held (accesses old.table) s0 (file_named s0 e.file) n in omega (arith, same, some-cost))
+      where
+        some-cost : 1 ≤ lengthen_cost s0 (file_named s0 e.file) n
+        some-cost = omega arith
 
     pub least : 1 ≤ cost s task r
     least = omega (arith, bound)
@@ -284,36 +297,50 @@ module _ (task lun : ℕ) (caller : Uic) (old : State) (e : Entry) (held : old.t
         same : sm ≡ s0
         same = ap (λ (i : Image). store_of i mid.home) reads.looked.image ∙ ap (store_of old.disk.image) home
 
-        first : IsTrue old.disk.honest → first_of (growth_causes sm (file_named sm e.file) n) ≡ first_refusal s task caller r
-        first honest = ap (λ (x : Store). first_of (growth_causes x (file_named x e.file) n)) same ∙ sym (judged false (granted attr (is honest) may_it))
+        first : IsTrue old.disk.honest → first_of (more sm) ≡ first_refusal s task caller r
+        first honest = ap (λ (x : Store). first_of (more x)) same ∙ sym (judged false (granted attr (is honest) may_it))
 
-        work-is : IsTrue old.disk.honest → extend_work e.file.number (file_named sm e.file).room n ≡ served_work s task caller r []
-        work-is honest = ap (λ (x : Store). extend_work e.file.number (file_named x e.file).room n) same
-            ∙ sym (ap (λ (id : FileId). extend_work id.number (file_named s0 id).room n) held-id)
+        work-is : IsTrue old.disk.honest → lengthen_work sm e.file n ≡ served_work s task caller r []
+        work-is honest = ap (λ (x : Store). lengthen_work x e.file n) same ∙ sym (lengthen-work-held (accesses old.table) s0 e.file n) ∙ sym (ap (λ (id : FileId). lengthen_work s id n) held-id)
 
-        bound-then : 1 + (growth_cost sm (file_named sm e.file) n - 1) ≤ cost s task r
-        bound-then = subst (λ (x : Store). 1 + (growth_cost x (file_named x e.file) n - 1) ≤ cost s task r) (sym same) bound
+        bound-then : 1 + (lengthen_cost sm (file_named sm e.file) n - 1) ≤ cost s task r
+        bound-then = subst (λ (x : Store). 1 + (lengthen_cost x (file_named x e.file) n - 1) ≤ cost s task r) (sym same) bound
 
-        pub extended : (blocks : ℕ) → IsLengthAfter mid.home e.file n mid.disk blocks → ExtendsFile mid.home e.file n mid.disk new.disk → Handles task caller r (Ok (reply.Length blocks)) old [] new []
-        extended blocks length_is does =
-            handled-does task caller r [] old (reply.Length blocks) (extend_causes sm e.file n) (extend_work e.file.number (file_named sm e.file).room n) mid new [] reads home does (λ _. bound-then)
+        pub extended : (blocks : ℕ) → 4 ≤ e.file.number → IsLengthAfter mid.home e.file n mid.disk blocks → ExtendsFile mid.home e.file n mid.disk new.disk → Handles task caller r (Ok (reply.Length blocks)) old [] new []
+        extended blocks own length_is extends =
+            let overall = extends-is mid.home e.file n mid.disk new.disk (ne_eqb e.file.number 1 (λ is. absurd (omega (arith, own, is)))) extends in
+            handled-does task caller r [] old (reply.Length blocks) (extend_causes sm e.file n) (lengthen_work sm e.file n) mid new [] reads home overall (λ _. bound-then)
             (λ honest. drop-false (is_missing sm e.file) (Some NoSuchFile) _ (ap (λ (x : Store). is_missing x e.file) same ∙ there honest) ∙ first honest) work-is
             (λ honest. ap (λ (k : ℕ). reply.Length k) (length_is (reads.looked.honest ∙ honest) ∙ ap (λ (x : Store). length_of (file_named x e.file) + n) same ∙ sym (ap (λ (f : File). length_of f + n) held-file)))
             (λ honest makes. store-then makes) (λ _. refl) home'
           where
-            store-then : Extends sm e.file.number n (store_of new.disk.image mid.home) → Extends s (id_held s task lun).number n (store_at new)
+            store-then : Lengthens sm e.file n (store_of new.disk.image mid.home) → Lengthens s (id_held s task lun) n (store_at new)
             store-then makes =
-                subst (λ (id : FileId). Extends s id.number n (store_at new)) (sym held-id)
-                (subst (λ (x : Store). Extends s e.file.number n x) (sym (ap (λ (h : HomeFields). held_in new.table (store_of new.disk.image h)) home' ∙ ap (λ (t : Table). held_in t (store_of new.disk.image mid.home)) table))
-                (grows-held (accesses old.table) s0 (store_of new.disk.image mid.home) e.file.number n _ (subst (λ (x : Store). Extends x e.file.number n (store_of new.disk.image mid.home)) same makes)))
+                subst (λ (id : FileId). Lengthens s id n (store_at new)) (sym held-id)
+                (subst (λ (x : Store). Lengthens s e.file n x) (sym (ap (λ (h : HomeFields). held_in new.table (store_of new.disk.image h)) home' ∙ ap (λ (t : Table). held_in t (store_of new.disk.image mid.home)) table))
+                (lengthens-held (accesses old.table) s0 (store_of new.disk.image mid.home) e.file n (subst (λ (x : Store). Lengthens x e.file n (store_of new.disk.image mid.home)) same makes)))
+
+        wants-is : gets_slots (slots_first sm (headers_for mid.home e.file n mid.disk)) ≡ may_want_memory s task r
+        wants-is =
+            ap (λ (x : Store). gets_slots (slots_first x (need (file_named x e.file).room n))) same ∙ sym (gets-held (accesses old.table) s0 (need (file_named s0 e.file).room n))
+            ∙ sym (ap (λ (f : File). gets_slots (slots_first s (need f.room n))) held-file)
 
         pub not-extended : {failed : Bool} (er res : Refusal) → failed ≡ false → FailsToExtend failed mid.home e.file n er mid.disk new.disk → mid.counts ≡ old.counts → (is_clean er ≡ true → new.counts ≡ mid.counts)
             → res ≡ of_accessed er → Handles task caller r (Err res) old [] new []
-        not-extended er res alive fails counts counts' res_is =
-            subst (λ (x : Refusal). Handles task caller r (Err x) old [] new []) (sym res_is)
-            (accessed-refused task caller r [] old er (is_missing sm e.file) (growth_causes sm (file_named sm e.file) n) (extend_work e.file.number (file_named sm e.file).room n) mid new [] reads home counts
-            (still alive fails) (extend-own s sm (file_named sm e.file) (is_missing sm e.file) task lun n caller er) (λ _. bound-then) (λ honest. ap (λ (x : Store). is_missing x e.file) same ∙ there honest) first
-            (never (lacks right.Extend caller (file_named s0 e.file)) refl) work-is home' table counts' (λ _. refl))
+        not-extended er res alive fails counts counts' res_is = subst (λ (x : Refusal). Handles task caller r (Err x) old [] new []) (sym res_is) (by_case (memory-cases er))
+          where
+            there-then : IsTrue old.disk.honest → is_missing sm e.file ≡ false
+            there-then honest = ap (λ (x : Store). is_missing x e.file) same ∙ there honest
+
+            by_case : (er ≡ NoMemory) ⊎ (er ≢ NoMemory) → Handles task caller r (Err (of_accessed er)) old [] new []
+            by_case (inl wanting) =
+                subst (λ (x : Refusal). Handles task caller r (Err x) old [] new []) (wanting ∙ sym (ap of_accessed wanting))
+                (handled-wanting task caller r [] old er (extend_causes sm e.file n) (lengthen_work sm e.file n) (gets_slots (slots_first sm (headers_for mid.home e.file n mid.disk))) mid new wanting reads home counts
+                (wants-still alive fails) refl (λ _. bound-then) (λ honest. drop-false (is_missing sm e.file) (Some NoSuchFile) _ (there-then honest) ∙ first honest) (λ _. wants-is) home' table counts')
+            by_case (inr other) =
+                accessed-refused task caller r [] old er (is_missing sm e.file) (more sm) (lengthen_work sm e.file n) mid new [] reads home counts
+                (without-memory other (wants-still alive fails)) (extend-own s sm (file_named sm e.file) (is_missing sm e.file) task lun n caller er) (λ _. bound-then) there-then first
+                (never (lacks right.Extend caller (file_named s0 e.file)) refl) work-is home' table counts' (λ _. refl)
 
 -- where no access is held, or no block is asked for
 pub extend-zero : (task lun n : ℕ) (caller : Uic) (old : State) → n ≡ 0 → Handles task caller (request.Extend lun n) (Err BadArgument) old [] old []

@@ -2,26 +2,26 @@
 use Rattle.std.proofs.Common.{◌≡◌, ℕ, ◌+◌, ◌≤◌, ◌||◌, Bool, true, false, IsTrue, List, [], ◌∷◌, ◌++◌, Option, Some, None, Result, Ok, Err, refl, sym, ◌∙◌, ap, subst, arith, map}
 use Rattle.f11_dev.specs.declared.device.Device.{Ghosts}
 use Rattle.f11_home.specs.Home.{HomeFields}
-use Rattle.f11_store.specs.Causes.{Cause, ◌⇐◌, first_of, first_refusal, growth_causes, growth_causes_if, is_bad}
+use Rattle.f11_store.specs.Causes.{Cause, ◌⇐◌, first_of, first_refusal, extend_causes, extend_causes_if, is_bad}
 use Rattle.f11_store.specs.Changes.{Enters, EntersAt, EntersAtEnd}
-use Rattle.f11_store.specs.Cost.{cost}
+use Rattle.f11_store.specs.Cost.{cost, growth_cost, header_count}
 use Rattle.f11_store.specs.Directory.{index_of_empty, entry_count, is_entered, needs_block, record_bytes}
-use Rattle.f11_store.specs.File.{zero_blocks}
+use Rattle.f11_store.specs.Headroom.{headers_to_enter}
 use Rattle.f11_store.specs.Lags.{served_work}
-use Rattle.f11_store.specs.Step.{Step}
+use Rattle.f11_store.specs.Step.{may_want_memory, Step}
 use Rattle.f11_store.specs.Store.{Store, Access, bars_writing, file_named, is_held}
 use Rattle.f11_store.specs.Accesses.{with_accesses}
 use Rattle.f11_store.specs.declared.callers.Uic.{Uic}
 use Rattle.f11_store.specs.declared.files.FileId.{FileId}
 use Rattle.f11_store.specs.declared.files.Mode.TheVariants as mode
 use Rattle.f11_store.specs.declared.refusals.Refusal.{Refusal}
-use Rattle.f11_store.specs.declared.refusals.Refusal.TheVariants.{BadArgument, SystemFile, NoSuchFile, Marked, NoPrivilege, Conflict, NotDirectory, DuplicateName, TooManySegments, DeviceFull, NoHeader}
+use Rattle.f11_store.specs.declared.refusals.Refusal.TheVariants.{BadArgument, SystemFile, NoSuchFile, Marked, NoPrivilege, Conflict, NotDirectory, DuplicateName, TooManySegments, DeviceFull, NoHeader, NoMemory}
 use Rattle.f11_store.specs.declared.requests.Reply.{Reply}
 use Rattle.f11_store.specs.declared.requests.Reply.TheVariants as reply
 use Rattle.f11_store.specs.declared.requests.Request.{Request}
 use Rattle.f11_store.specs.declared.requests.Request.TheVariants as request
 use Rattle.f11_store.proofs.FateLaws.{Fate, fate-none}
-use Rattle.f11_store.proofs.HeldLaws.{growth-held, grows-held}
+use Rattle.f11_store.proofs.HeldLaws.{extend-causes-held, lengthens-held}
 use Rattle.f11_entries.specs.Costs.{look_cost, entry_cost}
 use Rattle.f11_entries.specs.Looks.{Tells, IsLastBlock}
 use Rattle.f11_entries.specs.declared.spot.Looked.{Looked}
@@ -35,29 +35,30 @@ use Rattle.f11_image_store.specs.StoreOf.{store_of}
 use Rattle.f11_files.specs.declared.files.Files.{Files}
 use Rattle.f11_fcp.specs.Accesses.{Table, accesses, held_in}
 use Rattle.f11_fcp.specs.Directories.{opening_causes, Searches}
-use Rattle.f11_fcp.specs.Entries.{cause_if, entry_causes, entry_work, HasEmpty, PutsEntry, FailsToPut}
-use Rattle.f11_fcp.specs.Handles.{State, state_of, store_at, own_causes, Handles, IsOpen, StaysOpen}
+use Rattle.f11_fcp.specs.Entries.{cause_if, entry_causes, entry_wants, entry_work, HasEmpty, PutsEntry, FailsToPut}
+use Rattle.f11_fcp.specs.Handles.{State, state_of, store_at, memory_cause, own_causes, Handles, IsOpen, StaysOpen}
 use Rattle.f11_fcp.specs.declared.purpose.Purpose.TheVariants as purpose
 use Rattle.f11_fcp.specs.declared.search.Search.{Search}
 use Rattle.f11_fcp.proofs.AccessLemmas.{barred-same}
 use Rattle.f11_fcp.proofs.AccessedLemmas.{drop-false, take-true, refused-early}
 use Rattle.f11_fcp.proofs.DirectoryLemmas.{opened-there, opening_barred}
-use Rattle.f11_fcp.proofs.HandleLemmas.{handled-does, handled-refused}
+use Rattle.f11_fcp.proofs.HandleLemmas.{handled-does, handled-wants}
 use Rattle.f11_fcp.proofs.NamedLemmas.{same-behind}
 use Rattle.f11_fcp.specs.Windows.{HasWindows}
 use Rattle.std.specs.Prelude.{OnOk}
 use Rattle.f11_fcp.proofs.OpenLemmas.{windows-after, kept-by-step}
+use Rattle.f11_fcp.proofs.SlotsLemmas.{enter-work-held, gets-held, slots-cost-held}
 use Rattle.f11_fcp.proofs.SearchLemmas.{search-refused, search-answered, search-then}
 
 -- a record is entered, with any accesses beside
 module _ (a : ℕ → ℕ → Option Access) where
-  end-held : (b : Bool) (s t : Store) (k i : ℕ) (r : List ℕ) → EntersAtEnd b s k i r t → EntersAtEnd b (with_accesses a s) k i r (with_accesses a t)
-  end-held false s t k i r h = ap (with_accesses a) h
-  end-held true s t k i r (grown, grows, h) = (with_accesses a grown, grows-held a s grown k 1 (zero_blocks 1) grows, ap (with_accesses a) h)
+  end-held : (b : Bool) (s t : Store) (d : FileId) (i : ℕ) (r : List ℕ) → EntersAtEnd b s d i r t → EntersAtEnd b (with_accesses a s) d i r (with_accesses a t)
+  end-held false s t d i r h = ap (with_accesses a) h
+  end-held true s t d i r (grown, grows, h) = (with_accesses a grown, lengthens-held a s grown d 1 grows, ap (with_accesses a) h)
 
   at-held : (o : Option ℕ) (s t : Store) (d : FileId) (r : List ℕ) → EntersAt o s d r t → EntersAt o (with_accesses a s) d r (with_accesses a t)
   at-held (Some i) s t d r h = ap (with_accesses a) h
-  at-held None s t d r h = end-held (needs_block (file_named s d)) s t d.number (entry_count (file_named s d)) r h
+  at-held None s t d r h = end-held (needs_block (file_named s d)) s t d (entry_count (file_named s d)) r h
 
   enters-held : (s t : Store) (d : FileId) (r : List ℕ) → Enters s d r t → Enters (with_accesses a s) d r (with_accesses a t)
   enters-held s t d r h = at-held (index_of_empty (file_named s d)) s t d r h
@@ -73,7 +74,7 @@ module _ (task : ℕ) (caller : Uic) (d : FileId) (name : List ℕ) (id : FileId
   s0 = store_of old.disk.image old.home
 
   abbrev rest : List Cause
-  rest = (DuplicateName ⇐ is_entered name (file_named s0 d)) ∷ growth_causes_if (needs_block (file_named s0 d)) s (file_named s0 d) 1
+  rest = (DuplicateName ⇐ is_entered name (file_named s0 d)) ∷ extend_causes_if (needs_block (file_named s0 d)) s (file_named s0 d) 1
 
   pub enter-bad : is_bad d ≡ true → Handles task caller r (Err BadArgument) old [] old []
   enter-bad bad = refused-early task caller r [] old BadArgument refl refl (take-true (is_bad d || is_bad id) _ _ (ap (λ (b : Bool). b || is_bad id) bad))
@@ -137,19 +138,19 @@ module _ (task : ℕ) (caller : Uic) (d : FileId) (name : List ℕ) (id : FileId
         first : IsTrue old.disk.honest → first_of (entry_causes sm d) ≡ first_refusal s task caller r
         first honest =
             ap (λ (x : Store). first_of (entry_causes x d)) same ∙ by_need (needs_block (file_named s0 d)) refl
-            ∙ sym (drop-false (is_entered name (file_named s0 d)) (Some DuplicateName) (first_of (growth_causes_if (needs_block (file_named s0 d)) s (file_named s0 d) 1)) (tells honest).0.entered)
+            ∙ sym (drop-false (is_entered name (file_named s0 d)) (Some DuplicateName) (first_of (extend_causes_if (needs_block (file_named s0 d)) s (file_named s0 d) 1)) (tells honest).0.entered)
             ∙ sym (search-then task caller r old d purpose.Change rest judged (searches.no_cause honest))
           where
-            by_need : (b : Bool) → needs_block (file_named s0 d) ≡ b → first_of (map (cause_if b) (growth_causes s0 (file_named s0 d) 1)) ≡ first_of (growth_causes_if b s (file_named s0 d) 1)
-            by_need true needs = ap first_of (sym (growth-held (accesses old.table) s0 (file_named s0 d) 1))
+            by_need : (b : Bool) → needs_block (file_named s0 d) ≡ b → first_of (map (cause_if b) (extend_causes s0 (file_named s0 d) 1)) ≡ first_of (extend_causes_if b s (file_named s0 d) 1)
+            by_need true needs = ap first_of (sym (extend-causes-held (accesses old.table) s0 (file_named s0 d) 1))
             by_need false needs = refl
 
         -- want of room is a cause of its own, whatever stands before it
         abbrev all_causes : Bool → Bool → List Cause
         all_causes held needs =
             ((BadArgument ⇐ (is_bad d || is_bad id)) ∷ opening_barred held old.table s0 caller d
-            ++ ((DuplicateName ⇐ is_entered name (file_named s0 d)) ∷ growth_causes_if needs s (file_named s0 d) 1))
-            ++ growth_causes s (file_named s0 d) 1
+            ++ ((DuplicateName ⇐ is_entered name (file_named s0 d)) ∷ extend_causes_if needs s (file_named s0 d) 1))
+            ++ (extend_causes s (file_named s0 d) 1 ++ memory_cause)
 
         growth-own : (held needs : Bool) (e : Refusal) → is_among (entry_causes sm d) e ≡ true → is_among (all_causes held needs) e ≡ true
         growth-own held true TooManySegments h = refl
@@ -160,11 +161,25 @@ module _ (task : ℕ) (caller : Uic) (d : FileId) (name : List ℕ) (id : FileId
         growth-own held false NoHeader h = refl
         growth-own held needs _ h = absurd (cc)
 
+        -- and so is want of memory
+        memory-own : (held needs : Bool) → is_among (all_causes held needs) NoMemory ≡ true
+        memory-own true true = refl
+        memory-own true false = refl
+        memory-own false true = refl
+        memory-own false false = refl
+
         enough : IsTrue old.disk.honest → look_cost (file_named s0 d) + entry_cost sm (file_named sm d) ≤ cost s task r
-        enough honest = subst (λ (x : Store). look_cost (file_named s0 d) + entry_cost x (file_named x d) ≤ cost s task r) (sym same) (enter_fits s task d id name)
+        enough honest =
+            subst (λ (x : Store). look_cost (file_named s0 d) + entry_cost x (file_named x d) ≤ cost s task r) (sym same)
+            (subst (λ (k : ℕ). look_cost (file_named s0 d) + (k + (growth_cost s0 (file_named s0 d) 1 + header_count (file_named s0 d) + 4)) ≤ cost s task r)
+            (slots-cost-held (accesses old.table) s0 (headers_to_enter (file_named s0 d))) (enter_fits s task d id name))
 
         work-is : IsTrue old.disk.honest → entry_work sm d (record_bytes id name) ≡ served_work s task caller r []
-        work-is honest = ap (λ (x : Store). entry_work x d (record_bytes id name)) same
+        work-is honest =
+            ap (λ (x : Store). entry_work x d (record_bytes id name)) same ∙ sym (enter-work-held (accesses old.table) (index_of_empty (file_named s0 d)) s0 d (record_bytes id name))
+
+        wants-is : IsTrue old.disk.honest → entry_wants sm d ≡ may_want_memory s task r
+        wants-is honest = ap (λ (x : Store). entry_wants x d) same ∙ sym (gets-held (accesses old.table) s0 (headers_to_enter (file_named s0 d)))
 
         module _ (new : State) (home' : new.home ≡ mid.home) (table' : new.table ≡ old.table) where
           pub entered : PutsEntry mid.home d (record_bytes id name) mid.disk new.disk → Handles task caller r (Ok reply.Done) old [] new []
@@ -177,7 +192,8 @@ module _ (task : ℕ) (caller : Uic) (d : FileId) (name : List ℕ) (id : FileId
 
           pub not-entered : (e : Refusal) → FailsToPut mid.home d (record_bytes id name) e mid.disk new.disk → (is_clean e ≡ true → new.counts ≡ mid.counts) → Handles task caller r (Err e) old [] new []
           not-entered e fails counts' =
-              handled-refused task caller r [] old e (entry_causes sm d) (entry_work sm d (record_bytes id name)) mid new [] searches.reads home counts fails (growth-own (is_held bars_writing s d) (needs_block (file_named s0 d)) e) enough first work-is home' table' counts' (λ _. refl)
+              handled-wants task caller r [] old e (entry_causes sm d) (entry_work sm d (record_bytes id name)) (entry_wants sm d) mid new searches.reads home counts fails
+              (growth-own (is_held bars_writing s d) (needs_block (file_named s0 d)) e) (memory-own (is_held bars_writing s d) (needs_block (file_named s0 d))) enough first work-is wants-is home' table' counts'
 
 -- what a step of Enter makes of each file
 entered-fate : (s : Store) (task : ℕ) (caller : Uic) (d : FileId) (name : List ℕ) (id : FileId) (result : Result Reply Refusal) (s' : Store) → Step s task caller (request.Enter d name id) [] result s' [] → (n : ℕ) → Fate s s' n

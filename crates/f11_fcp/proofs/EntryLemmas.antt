@@ -66,11 +66,11 @@ writes-then {P = P} {Q = Q} {R = R} one two first second fewer = record {
   few = λ honest. let here = first.few honest in let there = second.few (first.went.honest ∙ honest) in let most = fewer honest in omega (arith, here, there, most);
 }
 
-pub writes-weaker : {P R : Image → Type 0} {a b : Disk} {m n faults : ℕ} → ((image : Image) → P image → R image) → m ≤ n → WritesAtMost P m a b faults → WritesAtMost R n a b faults
+pub writes-weaker : {P R : Image → Type 0} {a b : Disk} {m n faults : ℕ} → ((image : Image) → P image → R image) → (IsTrue a.honest → m ≤ n) → WritesAtMost P m a b faults → WritesAtMost R n a b faults
 writes-weaker {P = P} {R = R} one fewer writes = record {
   transfers = writes.transfers;
   went = went_weaker P R one writes.went;
-  few = λ honest. let here = writes.few honest in omega (arith, here, fewer);
+  few = λ honest. let here = writes.few honest in let most = fewer honest in omega (arith, here, most);
 }
 
 -- a record put keeps which file it is
@@ -98,7 +98,7 @@ module _ (home : HomeFields) (d : FileId) (tail : Tail) (r : List ℕ) (old mid 
 
     -- the block wasn't written
     pub breaks-put : {e : Refusal} → BreaksReplacing home d tail.spot r e old mid → Breaks (Appending home d tail r old) (append_cost (file_named u d)) e old mid
-    breaks-put breaks = record { fatal = breaks.fatal; undamaged = breaks.undamaged; writes = writes-weaker under-put (omega arith) breaks.writes }
+    breaks-put breaks = record { fatal = breaks.fatal; undamaged = breaks.undamaged; writes = writes-weaker under-put (λ _. omega arith) breaks.writes }
 
     -- it was
     module _ (replaces : ReplacesEntry home d tail.spot r old mid) where

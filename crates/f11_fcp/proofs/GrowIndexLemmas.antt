@@ -1,35 +1,28 @@
 -- The index file grows.
-use Rattle.std.proofs.Common.{◌≡◌, ◌≢◌, ◌⊎◌, inl, inr, ℕ, ◌+◌, ◌==◌, Bool, true, false, not, List, [], Option, Some, Ok, Err, refl, sym, ◌∙◌, ap, subst, arith, if◌then◌else◌, nat_lt}
+use Rattle.std.proofs.Common.{◌≡◌, ℕ, ◌+◌, ◌==◌, Bool, true, false, not, List, [], Some, Ok, Err, refl, sym, ◌∙◌, ap, subst, arith, if◌then◌else◌, nat_lt}
 use Rattle.std.proofs.lemmas.Bool.{eq-eqb, not_from_true, not_from_false}
-use Rattle.f11_dev.proofs.WentLemmas.{went_looked}
 use Rattle.f11_home.specs.Home.{HomeFields}
 use Rattle.f11_store.specs.Causes.{Cause, first_of, first_refusal}
 use Rattle.f11_store.specs.Changes.{GrowsIndex}
 use Rattle.f11_store.specs.Lags.{grow_work}
 use Rattle.f11_store.specs.Rights.{is_of}
-use Rattle.f11_store.specs.Step.{MayRefuse}
 use Rattle.f11_store.specs.Store.{Store, index_file}
 use Rattle.f11_store.specs.declared.callers.Uic.{Uic}
 use Rattle.f11_store.specs.declared.protection.Class.TheVariants as class
 use Rattle.f11_store.specs.declared.refusals.Refusal.{Refusal}
-use Rattle.f11_store.specs.declared.refusals.Refusal.TheVariants.{BadArgument, NoPrivilege, IndexLimit, TooManySegments, DeviceFull, NoHeader, NoMemory}
+use Rattle.f11_store.specs.declared.refusals.Refusal.TheVariants.{BadArgument, NoPrivilege, IndexLimit, TooManySegments, DeviceFull, NoHeader}
 use Rattle.f11_store.specs.declared.requests.Reply.TheVariants as reply
 use Rattle.f11_store.specs.declared.requests.Request.{Request}
 use Rattle.f11_store.specs.declared.requests.Request.TheVariants as request
 use Rattle.f11_store.proofs.HeldLaws.{growth-held, index-grows-held}
-use Rattle.f11_files.specs.Answers.{IsRight, is_among, is_fatal, is_clean}
+use Rattle.f11_files.specs.Answers.{is_among, is_clean}
 use Rattle.f11_files.specs.GrowingIndex.Runs.{GrowsIndexFile, IsSlotsAfter, FailsToGrow}
 use Rattle.f11_files.specs.Operations.{grow_causes}
 use Rattle.f11_image_store.specs.StoreOf.{store_of}
 use Rattle.f11_fcp.specs.Accesses.{Table, accesses, held_in}
-use Rattle.f11_fcp.specs.Handles.{State, store_at, Meanwhile, own_causes, Handles}
+use Rattle.f11_fcp.specs.Handles.{State, store_at, own_causes, Handles}
 use Rattle.f11_fcp.proofs.AccessedLemmas.{drop-false, take-true, refused-early}
-use Rattle.f11_fcp.proofs.HandleLemmas.{handled-does, handled-refused, reads-none, same-store}
-
--- memory was wanting, or not
-pub memory-cases : (e : Refusal) → (e ≡ NoMemory) ⊎ (e ≢ NoMemory)
-memory-cases NoMemory = inl refl
-memory-cases _ = inr (λ is. absurd (cc))
+use Rattle.f11_fcp.proofs.HandleLemmas.{handled-does, handled-wants, reads-none, wants-still}
 
 -- what growing the index file is refused for is the request's own cause
 grow-own : (s mid : Store) (task n : ℕ) (caller : Uic) (e : Refusal) → is_among (grow_causes mid n) e ≡ true → is_among (own_causes s task caller (request.GrowIndex n)) e ≡ true
@@ -75,25 +68,6 @@ module _ (task n : ℕ) (caller : Uic) (old : State) where
 
       pub not-grown : {failed : Bool} (e : Refusal) (new : State) → failed ≡ false → FailsToGrow failed old.home n e old.disk new.disk → new.home ≡ old.home → new.table ≡ old.table
           → (is_clean e ≡ true → new.counts ≡ old.counts) → Handles task caller r (Err e) old [] new []
-      not-grown {failed = failed} e new alive fails home table counts = by_case (memory-cases e)
-        where
-          by_case : (e ≡ NoMemory) ⊎ (e ≢ NoMemory) → Handles task caller r (Err e) old [] new []
-          by_case (inr other) =
-              handled-refused task caller r [] old e (grow_causes s0 n) (grow_work (index_file s0).room n) old new [] (reads-none old.disk) refl refl
-              (record { right = subst (λ (b : Bool). IsRight b old.disk.honest (grow_causes s0 n) e) alive (fails.right other); writes = fails.writes; unchanged = fails.unchanged })
-              (grow-own s s0 task n caller e) (λ _. omega arith) (λ _. first) (λ _. refl) home table counts (λ _. refl)
-          by_case (inl wanting) =
-              let reads = fails.unchanged (ap is_fatal wanting) in
-              subst (λ (x : Refusal). Handles task caller r (Err x) old [] new []) (sym wanting) (record {
-                step = λ honest _. record {
-                  may_refuse = subst (λ (o : Option Refusal). MayRefuse o r NoMemory) (sym (sym first ∙ (fails.wanting wanting).1 honest)) refl;
-                  store_stays = same-store old new reads.looked.image home table;
-                  block_stays = refl;
-                };
-                undamaged = λ _. refl;
-                writes = record { transfers = reads.reads; went = went_looked (Meanwhile task caller r [] old) reads.looked; few = reads.few };
-                left = λ _. record { image = reads.looked.image; table = table; counts = counts (ap is_clean wanting); lent = refl };
-                among = λ _. refl;
-                unfailed = refl;
-                home = home;
-              })
+      not-grown e new alive fails home table counts =
+          handled-wants task caller r [] old e (grow_causes s0 n) (grow_work (index_file s0).room n) true old new (reads-none old.disk) refl refl
+          (wants-still alive fails) (grow-own s s0 task n caller e) refl (λ _. omega arith) (λ _. first) (λ _. refl) (λ _. refl) home table counts

@@ -1,5 +1,5 @@
 -- How a request was handled, from what the calls on files answered.
-use Rattle.std.proofs.Common.{◌≡◌, ◌≢◌, ℕ, ◌+◌, ◌≤◌, Bool, true, false, IsTrue, List, Option, Some, None, Ok, Err, refl, sym, ◌∙◌, ap, subst, arith}
+use Rattle.std.proofs.Common.{◌≡◌, ◌≢◌, ◌⊎◌, inl, inr, ℕ, ◌+◌, ◌≤◌, Bool, true, false, IsTrue, List, Option, Some, None, Ok, Err, refl, sym, ◌∙◌, ap, subst, arith}
 use Rattle.f11_dev.specs.Disk.{Disk}
 use Rattle.f11_dev.specs.Image.{Image}
 use Rattle.f11_dev.specs.Went.{Went}
@@ -9,14 +9,14 @@ use Rattle.f11_store.specs.Causes.{Cause, first_of, first_refusal}
 use Rattle.f11_store.specs.Changes.{Changes}
 use Rattle.f11_store.specs.Cost.{cost}
 use Rattle.f11_store.specs.Lags.{Work, LagsBy, work_if, work_of, served_work}
-use Rattle.f11_store.specs.Step.{MayRefuse, reply_of, block_after}
+use Rattle.f11_store.specs.Step.{MayRefuse, may_want_memory, reply_of, block_after}
 use Rattle.f11_store.specs.Store.{Store}
 use Rattle.f11_store.specs.declared.callers.Uic.{Uic}
 use Rattle.f11_store.specs.declared.refusals.Refusal.{Refusal}
-use Rattle.f11_store.specs.declared.refusals.Refusal.TheVariants.{VolumeFailed, DeviceFault, Damaged}
+use Rattle.f11_store.specs.declared.refusals.Refusal.TheVariants.{VolumeFailed, NoMemory, DeviceFault, Damaged}
 use Rattle.f11_store.specs.declared.requests.Reply.{Reply}
 use Rattle.f11_store.specs.declared.requests.Request.{Request}
-use Rattle.f11_files.specs.Answers.{ReadsAtMost, WritesAtMost, FailsToWrite, Does, is_among, is_fatal, is_clean, is_cause, faults_of, Meanwhile as FilesMeanwhile}
+use Rattle.f11_files.specs.Answers.{ReadsAtMost, WritesAtMost, FailsOrWants, FailsToWrite, Does, is_among, is_fatal, is_clean, is_cause, faults_of, Meanwhile as FilesMeanwhile}
 use Rattle.f11_image_store.specs.StoreOf.{store_of}
 use Rattle.f11_files.proofs.AnswerLemmas.{reads-more, reads-looked}
 use Rattle.f11_dev.proofs.LookedLemmas.{looked_none}
@@ -44,9 +44,41 @@ cause-not-fatal Damaged h = absurd (cc)
 cause-not-fatal _ h = refl
 
 -- the first refusal may be the answer
-may-first : (o : Option Refusal) (r : Request) (e : Refusal) → o ≡ Some e → MayRefuse o r e
-may-first (Some x) r e is = let same : x ≡ e = cc in sym same
-may-first None r e is = absurd (cc)
+may-first : (o : Option Refusal) (b : Bool) (e : Refusal) → o ≡ Some e → MayRefuse o b e
+may-first (Some x) b e is = let same : x ≡ e = cc in sym same
+may-first None b e is = absurd (cc)
+
+-- so may want of memory, where there is no cause and some may be taken
+may-want : (o : Option Refusal) (b : Bool) → o ≡ None → b ≡ true → MayRefuse o b NoMemory
+may-want None true none takes = refl
+may-want None false none takes = absurd (cc)
+may-want (Some x) b none takes = absurd (cc)
+
+-- memory was wanting, or not
+pub memory-cases : (e : Refusal) → (e ≡ NoMemory) ⊎ (e ≢ NoMemory)
+memory-cases NoMemory = inl refl
+memory-cases _ = inr (λ is. absurd (cc))
+
+-- it wasn't
+pub without-memory : {takes failed : Bool} {causes : List Cause} {n : ℕ} {work : Work} {home : HomeFields} {e : Refusal} {old new : Disk} → e ≢ NoMemory → FailsOrWants takes failed causes n work home e old new
+    → FailsToWrite failed causes n work home e old new
+without-memory other fails = record { right = fails.right other; writes = fails.writes; unchanged = fails.unchanged }
+
+-- a call on files that hadn't failed
+pub wants-still : {takes failed : Bool} {causes : List Cause} {n : ℕ} {work : Work} {home : HomeFields} {e : Refusal} {old new : Disk} → failed ≡ false
+    → FailsOrWants takes failed causes n work home e old new → FailsOrWants takes false causes n work home e old new
+wants-still {takes = takes} {causes = causes} {n = n} {work = work} {home = home} {e = e} {old = old} {new = new} alive fails =
+    subst (λ (b : Bool). FailsOrWants takes b causes n work home e old new) alive fails
+
+-- a call against which want of memory is no cause
+pub wants-none : {takes : Bool} {causes : List Cause} {n : ℕ} {work : Work} {home : HomeFields} {e : Refusal} {old new : Disk} → is_among causes NoMemory ≡ false
+    → FailsToWrite false causes n work home e old new → FailsOrWants takes false causes n work home e old new
+wants-none {causes = causes} {e = e} other fails = record {
+  right = λ _. fails.right;
+  wanting = λ is. absurd (let own : is_among causes NoMemory ≡ true = subst (λ (x : Refusal). is_among causes x ≡ true) is (fails.right.among (ap is_cause is)) in let no : true ≡ false = sym own ∙ other in cc);
+  writes = fails.writes;
+  unchanged = fails.unchanged;
+}
 
 -- a store is what its image, its home block and its table are
 pub same-store : (old new : State) → new.disk.image ≡ old.disk.image → new.home ≡ old.home → new.table ≡ old.table → store_at new ≡ store_at old
@@ -65,14 +97,15 @@ module _ (task : ℕ) (caller : Uic) (r : Request) (block : List ℕ) (old : Sta
   abbrev P : Image → Type 0
   P = Meanwhile task caller r block old
 
-  -- it is refused for a cause, and nothing was written
-  pub handled-clean : (e : Refusal) (new : State) → is_fatal e ≡ false → e ≢ VolumeFailed → is_among (own_causes s task caller r) e ≡ true → (IsTrue old.disk.honest → first_refusal s task caller r ≡ Some e)
+  -- it is refused as it may be, and nothing was written
+  handled-unchanged : (e : Refusal) (new : State) → is_fatal e ≡ false → e ≢ VolumeFailed → is_among (own_causes s task caller r) e ≡ true
+      → (IsTrue old.disk.honest → MayRefuse (first_refusal s task caller r) (may_want_memory s task r) e)
       → ReadsAtMost (cost s task r) old.disk new.disk 0 → new.home ≡ old.home → new.table ≡ old.table → new.counts ≡ old.counts → Handles task caller r (Err e) old block new block
-  handled-clean e new clean other own first reads home table counts =
+  handled-unchanged e new clean other own may reads home table counts =
       let tests = clean-cause e clean other in
       record {
         step = λ honest _. record {
-          may_refuse = may-first (first_refusal s task caller r) r e (first honest);
+          may_refuse = may honest;
           store_stays = same-store old new reads.looked.image home table;
           block_stays = refl;
         };
@@ -91,6 +124,12 @@ module _ (task : ℕ) (caller : Uic) (r : Request) (block : List ℕ) (old : Sta
       no-fault : (e : Refusal) → is_fatal e ≡ false → faults_of e ≡ 0
       no-fault DeviceFault h = absurd (cc)
       no-fault _ h = refl
+
+  -- for a cause
+  pub handled-clean : (e : Refusal) (new : State) → is_fatal e ≡ false → e ≢ VolumeFailed → is_among (own_causes s task caller r) e ≡ true → (IsTrue old.disk.honest → first_refusal s task caller r ≡ Some e)
+      → ReadsAtMost (cost s task r) old.disk new.disk 0 → new.home ≡ old.home → new.table ≡ old.table → new.counts ≡ old.counts → Handles task caller r (Err e) old block new block
+  handled-clean e new clean other own first =
+      handled-unchanged e new clean other own (λ honest. may-first (first_refusal s task caller r) (may_want_memory s task r) e (first honest))
 
   -- it failed the volume
   pub handled-fatal : (e : Refusal) (new : State) (block' : List ℕ) → is_fatal e ≡ true → (IsTrue old.disk.honest → e ≢ Damaged) → WritesAtMost P (cost s task r) old.disk new.disk (faults_of e)
@@ -202,6 +241,30 @@ module _ (task : ℕ) (caller : Uic) (r : Request) (block : List ℕ) (old : Sta
   handled-refused e causes work mid new block' reads home counts fails own fewer first works home' table counts' lent =
       handled-fails e causes work mid new block' reads home counts fails own fewer first
       (λ honest. ap (λ o. work_if o work) (first honest) ∙ ap (work_if (first_refusal s task caller r)) (works honest)) home' table counts' lent
+
+  -- and one for which memory was wanting
+  pub handled-wanting : (e : Refusal) (causes : List Cause) (work : Work) (takes : Bool) (mid new : State) {m n : ℕ} → e ≡ NoMemory → ReadsAtMost m old.disk mid.disk 0 → mid.home ≡ old.home → mid.counts ≡ old.counts
+      → FailsOrWants takes false causes n work mid.home e mid.disk new.disk → is_among (own_causes s task caller r) NoMemory ≡ true → (IsTrue old.disk.honest → m + n ≤ cost s task r)
+      → (IsTrue old.disk.honest → first_of causes ≡ first_refusal s task caller r) → (IsTrue old.disk.honest → takes ≡ may_want_memory s task r)
+      → new.home ≡ mid.home → new.table ≡ old.table → (is_clean e ≡ true → new.counts ≡ mid.counts) → Handles task caller r (Err e) old block new block
+  handled-wanting e causes work takes mid new is reads home counts fails own fewer first may home' table counts' =
+      let wants = λ (honest : IsTrue old.disk.honest). (fails.wanting is).1 (reads.looked.honest ∙ honest) in
+      subst (λ (x : Refusal). Handles task caller r (Err x) old block new block) (sym is)
+      (handled-unchanged NoMemory new refl (λ same. absurd (cc)) own
+      (λ honest. may-want (first_refusal s task caller r) (may_want_memory s task r) (sym (first honest) ∙ (wants honest).0) (sym (may honest) ∙ (wants honest).1))
+      (within-when fewer (reads-more reads (fails.unchanged (ap is_fatal is)))) (home' ∙ home) table (counts' (ap is_clean is) ∙ counts))
+
+  -- one or the other
+  pub handled-wants : (e : Refusal) (causes : List Cause) (work : Work) (takes : Bool) (mid new : State) {m n : ℕ} → ReadsAtMost m old.disk mid.disk 0 → mid.home ≡ old.home → mid.counts ≡ old.counts
+      → FailsOrWants takes false causes n work mid.home e mid.disk new.disk → (is_among causes e ≡ true → is_among (own_causes s task caller r) e ≡ true) → is_among (own_causes s task caller r) NoMemory ≡ true
+      → (IsTrue old.disk.honest → m + n ≤ cost s task r) → (IsTrue old.disk.honest → first_of causes ≡ first_refusal s task caller r) → (IsTrue old.disk.honest → work ≡ served_work s task caller r block)
+      → (IsTrue old.disk.honest → takes ≡ may_want_memory s task r) → new.home ≡ mid.home → new.table ≡ old.table → (is_clean e ≡ true → new.counts ≡ mid.counts)
+      → Handles task caller r (Err e) old block new block
+  handled-wants e causes work takes mid new reads home counts fails own own' fewer first works may home' table counts' = by_case (memory-cases e)
+    where
+      by_case : (e ≡ NoMemory) ⊎ (e ≢ NoMemory) → Handles task caller r (Err e) old block new block
+      by_case (inl is) = handled-wanting e causes work takes mid new is reads home counts fails own' fewer first may home' table counts'
+      by_case (inr other) = handled-refused e causes work mid new block reads home counts (without-memory other fails) own fewer first works home' table counts' (λ _. refl)
 
 -- nothing was read
 pub reads-none : (d : Disk) → ReadsAtMost 0 d d 0

@@ -10,7 +10,7 @@ use Rattle.f11_store.specs.Store.{Store}
 use Rattle.f11_store.specs.declared.files.FileId.{FileId}
 use Rattle.f11_store.specs.declared.refusals.Refusal.{Refusal}
 use Rattle.f11_store.specs.declared.refusals.Refusal.TheVariants.{NoSuchFile, EndOfFile, VolumeFailed, DeviceFault, Damaged}
-use Rattle.f11_files.specs.Answers.{Breaks, FailsToRead, FailsToWrite, IsRight, IsUnderWay, Meanwhile, ReadsAtMost, WritesAtMost, faults_of, is_among, is_fatal}
+use Rattle.f11_files.specs.Answers.{Breaks, FailsToRead, FailsToWrite, IsRight, IsUnderWay, Meanwhile, ReadsAtMost, WritesAtMost, faults_of, is_among, is_clean, is_fatal}
 use Rattle.f11_files.specs.Operations.{file_causes, length_causes}
 use Rattle.f11_fcp.specs.Handles.{of_known}
 use Rattle.f11_fcp.proofs.HandleLemmas.{cause-not-fatal, clean-cause}
@@ -25,6 +25,12 @@ pub known-clean : (e : Refusal) → is_fatal (of_known e) ≡ false → is_fatal
 known-clean NoSuchFile h = refl
 known-clean EndOfFile h = refl
 known-clean _ h = h
+
+-- what leaves all leaves it where nothing failed the volume
+pub known-leaves : (e : Refusal) → is_clean (of_known e) ≡ true → is_clean e ≡ true
+known-leaves NoSuchFile h = refl
+known-leaves EndOfFile h = refl
+known-leaves _ h = h
 
 -- where no transfer failed
 pub clean-faults : (e : Refusal) → is_fatal e ≡ false → faults_of e ≡ 0

@@ -24,6 +24,7 @@ mod RemoveLemmas
 mod RequestLemmas
 mod RowLemmas
 mod SearchLemmas
+mod SlotsLemmas
 mod TableLemmas
 mod TruncateLemmas
 mod WindowLemmas

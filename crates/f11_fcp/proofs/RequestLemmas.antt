@@ -1,24 +1,30 @@
 -- Each request, from what the call on files answered.
-use Rattle.std.proofs.Common.{◌≡◌, ℕ, Bool, true, false, IsTrue, List, [], Ok, Err, refl, sym, ◌∙◌, ap, subst, arith}
-use Rattle.f11_store.specs.Causes.{Cause, first_of, first_refusal}
+use Rattle.std.proofs.Common.{◌≡◌, ℕ, ◌+◌, ◌≤◌, Bool, true, false, IsTrue, List, [], Ok, Err, refl, sym, ◌∙◌, ap, subst, arith}
+use Rattle.f11_store.specs.Causes.{Cause, create_causes, first_of, first_refusal}
+use Rattle.f11_store.specs.Changes.{MakesFile}
+use Rattle.f11_store.specs.Cost.{cost, slots_cost}
 use Rattle.f11_dev.specs.Disk.{Disk}
 use Rattle.f11_home.specs.Home.{HomeFields}
-use Rattle.f11_store.specs.Lags.{Work, served_work}
-use Rattle.f11_store.specs.Step.{next_id}
-use Rattle.f11_store.specs.Store.{Store, free_slots, free_headers}
+use Rattle.f11_store.specs.Headroom.{slots_first}
+use Rattle.f11_store.specs.Lags.{Work, make_work, served_work}
+use Rattle.f11_store.specs.Step.{gets_slots}
+use Rattle.f11_store.specs.Store.{Store, free_headers}
 use Rattle.f11_store.specs.declared.callers.Uic.{Uic}
 use Rattle.f11_store.specs.declared.files.FileId.{FileId}
 use Rattle.f11_store.specs.declared.refusals.Refusal.{Refusal}
+use Rattle.f11_store.specs.declared.refusals.Refusal.TheVariants.{DeviceFull, NoHeader}
 use Rattle.f11_store.specs.declared.requests.Reply.TheVariants as reply
 use Rattle.f11_store.specs.declared.requests.Request.TheVariants as request
-use Rattle.f11_files.specs.Answers.{is_clean, FailsToWrite}
-use Rattle.f11_files.specs.Create.{Creates, FailsToCreate, new_work}
-use Rattle.f11_files.specs.Operations.{create_causes, IsSpaceOf}
+use Rattle.f11_files.specs.Answers.{is_among, is_clean, FailsToWrite}
+use Rattle.f11_files.specs.Create.{Creates, FailsToCreate}
+use Rattle.f11_files.specs.Operations.{IsSpaceOf}
+use Rattle.f11_files.proofs.Overall.{creates-is}
 use Rattle.f11_image_store.specs.StoreOf.{store_of}
 use Rattle.f11_fcp.specs.Accesses.{Table, held_in, accesses}
-use Rattle.f11_fcp.specs.Handles.{State, store_at, Meanwhile, Handles}
-use Rattle.f11_store.proofs.HeldLaws.{created-held, free-held}
-use Rattle.f11_fcp.proofs.HandleLemmas.{handled-served, handled-does, handled-refused, reads-none, writes-none}
+use Rattle.f11_fcp.specs.Handles.{State, store_at, own_causes, Meanwhile, Handles}
+use Rattle.f11_store.proofs.HeldLaws.{create-causes-held, free-held, make-work-held, makes-held}
+use Rattle.f11_fcp.proofs.HandleLemmas.{handled-served, handled-does, handled-wants, reads-none, wants-still, writes-none}
+use Rattle.f11_fcp.proofs.SlotsLemmas.{gets-held, next-held, slots-cost-held}
 
 -- a call on files that hadn't failed
 pub still : {failed : Bool} {causes : List Cause} {n : ℕ} {work : Work} {home : HomeFields} {e : Refusal} {old new : Disk} → failed ≡ false → FailsToWrite failed causes n work home e old new
@@ -38,31 +44,38 @@ space-told task caller old free headers slots is =
 -- Create
 module _ (task : ℕ) (caller : Uic) (word : ℕ) (ident attr : List ℕ) where
   create-first : (t : Table) (s : Store) → first_of (create_causes s) ≡ first_refusal (held_in t s) task caller (request.Create word ident attr)
-  unfolding free_slots
-  create-first t s = refl
+  create-first t s = ap first_of (sym (create-causes-held (accesses t) s))
 
-  create-work : (t : Table) (s : Store) → new_work s caller word ident attr ≡ served_work (held_in t s) task caller (request.Create word ident attr) []
-  unfolding free_slots
-  create-work t s = refl
+  create-work : (t : Table) (s : Store) → make_work s caller word ident attr ≡ served_work (held_in t s) task caller (request.Create word ident attr) []
+  create-work t s = sym (make-work-held (accesses t) s caller word ident attr)
 
-  create-next : (t : Table) (s : Store) → next_id s ≡ next_id (held_in t s)
-  unfolding free_slots
-  create-next t s = refl
+  create-fits : (t : Table) (s : Store) → 0 + (slots_cost s 1 + 3) ≤ cost (held_in t s) task (request.Create word ident attr)
+  create-fits t s = let same = slots-cost-held (accesses t) s 1 in omega (arith, same)
+
+  -- what is refused is for one of these causes
+  create-own : (s mid : Store) (e : Refusal) → is_among (create_causes mid) e ≡ true → is_among (own_causes s task caller (request.Create word ident attr)) e ≡ true
+  create-own s mid DeviceFull h = refl
+  create-own s mid NoHeader h = refl
+  create-own s mid _ h = absurd (cc)
 
   pub created : (old new : State) (id : FileId) → Creates old.home caller word ident attr id old.disk new.disk → new.home ≡ old.home → new.table ≡ old.table
       → Handles task caller (request.Create word ident attr) (Ok (reply.Created id)) old [] new []
   created old new id creates home table =
       let s0 = store_of old.disk.image old.home in
-      handled-does task caller (request.Create word ident attr) [] old (reply.Created id) (create_causes s0) (new_work s0 caller word ident attr) old new []
-      (reads-none old.disk) refl creates.does (λ _. omega arith) (λ _. create-first old.table s0) (λ _. create-work old.table s0)
-      (λ honest. ap (λ (i : FileId). reply.Created i) (creates.id honest ∙ create-next old.table s0))
-      (λ honest makes. ap (λ (h : _). held_in new.table (store_of new.disk.image h)) home ∙ ap (λ (t : Table). held_in t (store_of new.disk.image old.home)) table
-      ∙ ap (held_in old.table) makes ∙ sym (created-held (accesses old.table) s0 caller word ident attr))
+      let overall = creates-is old.home caller word ident attr id old.disk new.disk creates in
+      handled-does task caller (request.Create word ident attr) [] old (reply.Created id) (create_causes s0) (make_work s0 caller word ident attr) old new []
+      (reads-none old.disk) refl overall.does (λ _. create-fits old.table s0) (λ _. create-first old.table s0) (λ _. create-work old.table s0)
+      (λ honest. ap (λ (i : FileId). reply.Created i) (overall.id honest ∙ sym (next-held (accesses old.table) s0)))
+      (λ honest makes.
+      subst (λ (x : Store). MakesFile (store_at old) caller word ident attr x)
+      (sym (ap (λ (h : HomeFields). held_in new.table (store_of new.disk.image h)) home ∙ ap (λ (t : Table). held_in t (store_of new.disk.image old.home)) table))
+      (makes-held (accesses old.table) s0 (store_of new.disk.image old.home) caller word ident attr makes))
       (λ _. refl) home
 
   pub not-created : (failed : Bool) → failed ≡ false → (old new : State) (e : Refusal) → FailsToCreate failed old.home caller word ident attr e old.disk new.disk → new.home ≡ old.home → new.table ≡ old.table
       → (is_clean e ≡ true → new.counts ≡ old.counts) → Handles task caller (request.Create word ident attr) (Err e) old [] new []
   not-created failed alive old new e fails home table counts =
       let s0 = store_of old.disk.image old.home in
-      handled-refused task caller (request.Create word ident attr) [] old e (create_causes s0) (new_work s0 caller word ident attr) old new []
-      (reads-none old.disk) refl refl (still alive fails) (λ own. own) (λ _. omega arith) (λ _. create-first old.table s0) (λ _. create-work old.table s0) home table counts (λ _. refl)
+      handled-wants task caller (request.Create word ident attr) [] old e (create_causes s0) (make_work s0 caller word ident attr) (gets_slots (slots_first s0 1)) old new
+      (reads-none old.disk) refl refl (wants-still alive fails) (create-own (store_at old) s0 e) refl (λ _. create-fits old.table s0) (λ _. create-first old.table s0) (λ _. create-work old.table s0)
+      (λ _. sym (gets-held (accesses old.table) s0 1)) home table counts

@@ -1,5 +1,6 @@
 -- Which files have the blocks that they had, over calls on files.
 use Rattle.std.proofs.Common.{◌≡◌, ℕ, List, refl, ◌∙◌, subst}
+use Rattle.f11_dev.specs.Disk.{Disk}
 use Rattle.f11_dev.specs.Image.{Image, IsImage}
 use Rattle.f11_dev.specs.declared.device.Device.{Ghosts}
 use Rattle.f11_home.specs.Home.{HomeFields}
@@ -22,6 +23,13 @@ use Rattle.f11_files.specs.declared.files.Files.{Files}
 use Rattle.f11_fcp.specs.Windows.{LeavesRows}
 use Rattle.f11_fcp.proofs.WindowLemmas.{rows-then, sound-in}
 
+-- a device stays honest, or isn't, where headers were readied first
+created-honest : {home : HomeFields} {owner : Uic} {protection : ℕ} {ident attr : List ℕ} {f : FileId} {old new : Disk} → Creates home owner protection ident attr f old new → new.honest ≡ old.honest
+created-honest creates = creates.enters.does.writes.went.honest ∙ creates.readies.does.writes.went.honest
+
+pub extended-honest : {home : HomeFields} {f : FileId} {n : ℕ} {old new : Disk} → ExtendsFile home f n old new → new.honest ≡ old.honest
+extended-honest does = does.extends.writes.went.honest ∙ does.readies.does.writes.went.honest ∙ does.reads.looked.honest
+
 module _ {D : Type 0} {met : Ghosts D} (old new : Files D met) (image : IsImage (disk_in old).image) (image' : IsImage (disk_in new).image) (home : home_in new ≡ home_in old) where
   before : is_honest old → HasSoundVolume (disk_in old).image (home_in old)
   before = sound-in old image
@@ -40,10 +48,10 @@ module _ {D : Type 0} {met : Ghosts D} (old new : Files D met) (image : IsImage 
 
   pub created-leaves : (owner : Uic) (protection : ℕ) (ident attr : List ℕ) (f : FileId) → Creates (home_in old) owner protection ident attr f (disk_in old) (disk_in new) → LeavesRows old new
   created-leaves owner protection ident attr f creates honest =
-      created-rows (home_in old) owner protection ident attr f (disk_in old) (disk_in new) (before honest) (after creates.does.writes.went.honest honest) honest creates
+      created-rows (home_in old) owner protection ident attr f (disk_in old) (disk_in new) (before honest) (after (created-honest creates) honest) honest creates
 
   pub extended-leaves : (f : FileId) (n : ℕ) → ExtendsFile (home_in old) f n (disk_in old) (disk_in new) → LeavesRows old new
-  extended-leaves f n does honest = extended-rows (home_in old) f n (disk_in old) (disk_in new) (before honest) (after does.writes.went.honest honest) honest does
+  extended-leaves f n does honest = extended-rows (home_in old) f n (disk_in old) (disk_in new) (before honest) (after (extended-honest does) honest) honest does
 
   pub grown-leaves : (n : ℕ) → GrowsIndexFile (home_in old) n (disk_in old) (disk_in new) → LeavesRows old new
   grown-leaves n does honest = grown-rows (home_in old) n (disk_in old) (disk_in new) (before honest) (after does.writes.went.honest honest) honest does

@@ -24,12 +24,14 @@ use Rattle.std.specs.List.{slice_get}
 use Rattle.f11_dev.specs.Disk.{Disk}
 use Rattle.f11_dev.specs.Image.{Image}
 use Rattle.f11_home.specs.Home.{HomeFields}
-use Rattle.f11_store.specs.Causes.{Cause, ◌⇐◌, growth_causes, is_missing}
+use Rattle.f11_store.specs.Causes.{Cause, ◌⇐◌, extend_causes, is_missing}
 use Rattle.f11_store.specs.Changes.{with_change, Enters}
 use Rattle.f11_store.specs.Cost.{header_count}
 use Rattle.f11_store.specs.Directory.{entry_count, index_of_empty, needs_block}
 use Rattle.f11_store.specs.File.{File, length_of}
+use Rattle.f11_store.specs.Headroom.{headers_to_enter, slots_first}
 use Rattle.f11_store.specs.Lags.{Work, one_part, file_changes, enter_work, LagsBy}
+use Rattle.f11_store.specs.Step.{gets_slots}
 use Rattle.f11_store.specs.Store.{Store, file_named}
 use Rattle.f11_store.specs.declared.files.FileId.{FileId}
 use Rattle.f11_store.specs.declared.refusals.Refusal.{Refusal}
@@ -37,7 +39,7 @@ use Rattle.f11_entries.specs.Costs.{append_cost, entry_cost}
 use Rattle.f11_entries.specs.Looks.{IsInHand, place_of}
 use Rattle.f11_entries.specs.Writing.{put_in, end_put}
 use Rattle.f11_entries.specs.declared.spot.Spot.{Spot}
-use Rattle.f11_files.specs.Answers.{Breaks, Does, FailsToWrite, Meanwhile, WritesAtMost}
+use Rattle.f11_files.specs.Answers.{Breaks, Does, FailsOrWants, Meanwhile, WritesAtMost}
 use Rattle.f11_image_store.specs.StoreOf.{store_of}
 use Rattle.f11_volume.specs.Sound.{HasSoundVolume}
 use Rattle.f11_volume.specs.Volume.{Volume}
@@ -137,11 +139,11 @@ cause_if asked c = c.refusal ⇐ (asked && c.holds)
 
 -- the causes against a record more in a directory that was looked through: those against one block more, where it is needed
 abbrev pub entry_causes : Store → FileId → List Cause
-entry_causes s d = map (cause_if (needs_block (file_named s d))) (growth_causes s (file_named s d) 1)
+entry_causes s d = map (cause_if (needs_block (file_named s d))) (extend_causes s (file_named s d) 1)
 
 -- the work of one
 abbrev pub entry_work : Store → FileId → List ℕ → Work
-entry_work s d r = enter_work (index_of_empty (file_named s d)) (file_named s d) d.number r
+entry_work s d r = enter_work (index_of_empty (file_named s d)) s d r
 
 -- A record was entered in a directory that was looked through.
 abbrev pub PutsEntry : HomeFields → FileId → List ℕ → Disk → Disk → Type 0
@@ -149,8 +151,12 @@ PutsEntry home d r old new =
     let s = store_of old.image home in
     Does (entry_causes s d) (entry_work s d r) (entry_cost s (file_named s d)) (λ t. Enters s d r t) any_allocation home old new
 
+-- memory may be wanted for that: the index file gets slots first
+abbrev pub entry_wants : Store → FileId → Bool
+entry_wants s d = gets_slots (slots_first s (headers_to_enter (file_named s d)))
+
 -- It was not.
 abbrev pub FailsToPut : HomeFields → FileId → List ℕ → Refusal → Disk → Disk → Type 0
 FailsToPut home d r refusal old new =
     let s = store_of old.image home in
-    FailsToWrite false (entry_causes s d) (entry_cost s (file_named s d)) (entry_work s d r) home refusal old new
+    FailsOrWants (entry_wants s d) false (entry_causes s d) (entry_cost s (file_named s d)) (entry_work s d r) home refusal old new

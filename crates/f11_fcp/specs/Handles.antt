@@ -4,7 +4,7 @@ use Rattle.f11_dev.specs.Disk.{Disk}
 use Rattle.f11_dev.specs.Image.{Image}
 use Rattle.f11_dev.specs.declared.device.Device.{Ghosts}
 use Rattle.f11_home.specs.Home.{HomeFields}
-use Rattle.f11_store.specs.Causes.{Cause, ◌⇐◌, causes_of, growth_causes}
+use Rattle.f11_store.specs.Causes.{Cause, ◌⇐◌, causes_of, extend_causes}
 use Rattle.f11_store.specs.Cost.{cost}
 use Rattle.f11_store.specs.Lags.{Lags}
 use Rattle.f11_store.specs.Refusal.{refusal_number}
@@ -62,11 +62,18 @@ is_failed e = refusal_number e == 1
 abbrev pub is_damage : Refusal → Bool
 is_damage e = refusal_number e == 20
 
+-- want of memory
+abbrev pub memory_cause : List Cause
+memory_cause = (NoMemory ⇐ true) ∷ []
+
 -- what may be answered for a cause: the request's own causes, for Enter those against one block more of the directory too, and want of
--- memory where the index file grows
+-- memory where the index file grows or may grow first
 abbrev pub own_causes : Store → ℕ → Uic → Request → List Cause
-own_causes s task caller (request.Enter d name id) = causes_of s task caller (request.Enter d name id) ++ growth_causes s (file_named s d) 1
-own_causes s task caller (request.GrowIndex n) = causes_of s task caller (request.GrowIndex n) ++ (NoMemory ⇐ true) ∷ []
+own_causes s task caller (request.Create word ident attr) = causes_of s task caller (request.Create word ident attr) ++ memory_cause
+own_causes s task caller (request.Extend lun n) = causes_of s task caller (request.Extend lun n) ++ memory_cause
+own_causes s task caller (request.Enter d name id) =
+    causes_of s task caller (request.Enter d name id) ++ (extend_causes s (file_named s d) 1 ++ memory_cause)
+own_causes s task caller (request.GrowIndex n) = causes_of s task caller (request.GrowIndex n) ++ memory_cause
 own_causes s task caller r = causes_of s task caller r
 
 -- Nothing was changed: not the image, what tasks hold, the counts, nor the block that was lent.

@@ -185,7 +185,7 @@ fn append_in_new_block<D: Device>(
 ///
 /// # Errors
 ///
-/// Where one more block is needed `TooManySegments`, `DeviceFull`, `NoHeader`.
+/// Where one more block is needed `TooManySegments`, `DeviceFull`, `NoHeader`, `NoMemory`.
 pub(crate) fn put_entry<D: Device>(
     files: &mut Files<D>,
     directory: FileId,

@@ -20,7 +20,7 @@ impl Accesses {
     /// # Errors
     ///
     /// `BadArgument`, `SystemFile`, `NoSuchFile`, `Marked`, `NoPrivilege`, `Conflict`, `NotDirectory`, `DuplicateName`, and where one more
-    /// block is needed `TooManySegments`, `DeviceFull`, `NoHeader`.
+    /// block is needed `TooManySegments`, `DeviceFull`, `NoHeader`, `NoMemory`, as extending a file by it.
     pub(crate) fn enter<D: Device>(
         &self,
         files: &mut Files<D>,

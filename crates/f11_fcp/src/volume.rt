@@ -48,8 +48,9 @@ impl<D: Device> Volume<D> {
     /// # Errors
     ///
     /// `VolumeFailed` where an earlier request answered `DeviceFault` or `Damaged`; else the first refusal whose cause holds;
-    /// `NoMemory` for `GrowIndex` where there is none; `DeviceFault` where a transfer failed, and `Damaged` where a device that
-    /// isn't honest gave what no accepted volume has.
+    /// `NoMemory` where there is none for slots of the index file, which grows for `GrowIndex`, and first for `Create`, `Extend` and
+    /// `Enter` where they need a header that isn't free; `DeviceFault` where a transfer failed, and `Damaged` where a device that isn't
+    /// honest gave what no accepted volume has.
     pub fn serve(
         &mut self,
         task: Task,

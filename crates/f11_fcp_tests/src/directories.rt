@@ -324,7 +324,7 @@ pub const TWO_FILES: [Row; 4] = [
     (0, SYSTEM, Ask::Access((7, 1), Mode::Write, 1), DONE),
 ];
 
-/// A file has 102 blocks, and a directory 102 or 103; no header is free.
+/// A file has 102 blocks, and a directory 102, or 103 and the index file one slot more; no header is free.
 const SPACE_OF_102: Answer = Ok(Reply::Space {
     free: 174,
     headers: 0,
@@ -332,24 +332,19 @@ const SPACE_OF_102: Answer = Ok(Reply::Space {
 });
 
 const SPACE_OF_103: Answer = Ok(Reply::Space {
-    free: 173,
+    free: 172,
     headers: 0,
-    slots: 16,
+    slots: 17,
 });
-
-const NO_HEADER: Answer = Err(Refusal::NoHeader);
 
 const IN_SECOND_HEADER: Records = [Z_OF_SIX, Y_OF_EIGHT, EMPTY];
 
-/// Its 102 blocks, each with a pointer of its own, are full of records: the next one needs a header.
-const SECOND_HEADER: [Row; 21] = [
+/// Its 102 blocks, each with a pointer of its own, are full of records: the next one needs a header, for which the index file gets a slot.
+const SECOND_HEADER: [Row; 18] = [
     (0, SYSTEM, Ask::Deaccess(0), DONE),
     (0, SYSTEM, Ask::SetEnd((6, 1), (0, 103, 0)), DONE),
     (0, SYSTEM, Ask::Space, SPACE_OF_102),
-    (0, SYSTEM, Ask::Enter(SIX, X, SEVEN), NO_HEADER),
     (0, SYSTEM, Ask::Find(SIX, SEVENS_NAME), FOUND_SEVENS),
-    (0, SYSTEM, Ask::Find(SIX, X), NO_ENTRY),
-    (0, SYSTEM, Ask::Delete((16, 1)), DONE),
     (0, SYSTEM, Ask::Enter(SIX, X, SEVEN), DONE),
     (0, SYSTEM, Ask::ReadEnd((6, 1), (103, 103, 16)), DONE),
     (0, SYSTEM, Ask::Space, SPACE_OF_103),

@@ -1,7 +1,7 @@
 //! In which order requests write blocks: a contract says of each moment that the image is accepted, which it would be in other orders, too.
 use crate::asks::{Ask, MASTER, Records, Row, SIX, X};
 use crate::directories::{Answer, DONE, NO_ENTRY, Y};
-use crate::steps::Step::{Bitmap, Data, Header, Killed, Slot, Zeros};
+use crate::steps::Step::{Bitmap, Data, Header, HeaderAt, Killed, Slot, Zeros};
 use crate::steps::{Case, Edit, LONG, ROOT, SHORT, Step, first_disordered};
 use f11_fixtures::SYSTEM;
 use f11_store::{FileId, Mode, Refusal, Reply};
@@ -14,13 +14,28 @@ const MADE: Answer = Ok(Reply::Created(FileId {
     volume: 0,
 }));
 
-/// The header, and then its slot's bit.
-const CREATED: [Case; 1] = [Case {
-    edits: &[],
-    begun: &[],
-    request: (0, SYSTEM, Ask::Create, MADE),
-    steps: &[Header(10), Slot(10)],
-}];
+/// The file that is made in a slot which the index file gets for it.
+const MADE_BEHIND: Answer = Ok(Reply::Created(FileId {
+    number: 17,
+    sequence: 1,
+    volume: 0,
+}));
+
+/// The header, and then its slot's bit; where no slot is free, the index file gets one first, as where it grows.
+const CREATED: [Case; 2] = [
+    Case {
+        edits: &[],
+        begun: &[],
+        request: (0, SYSTEM, Ask::Create, MADE),
+        steps: &[Header(10), Slot(10)],
+    },
+    Case {
+        edits: &[Edit::NoneFree],
+        begun: &[],
+        request: (0, SYSTEM, Ask::Create, MADE_BEHIND),
+        steps: &[Bitmap, Zeros(23), Header(1), HeaderAt(17, 23), Slot(17)],
+    },
+];
 
 const LONG_ACCESSED: [Row; 1] = [(0, SYSTEM, Ask::Access(LONG, Mode::Write, 0), DONE)];
 
@@ -28,7 +43,7 @@ const SHORT_ACCESSED: [Row; 1] = [(0, SYSTEM, Ask::Access(SHORT, Mode::Write, 0)
 
 /// The first header without its mark; then for each run the storage bitmap, zeros, and the header that names them. Where that is a new one it,
 /// its slot's bit, and the link to it.
-const EXTENDED: [Case; 5] = [
+const EXTENDED: [Case; 6] = [
     // the run joins the pointer
     Case {
         edits: &[],
@@ -78,6 +93,23 @@ const EXTENDED: [Case; 5] = [
             Bitmap,
             Zeros(26),
             Header(10),
+        ],
+    },
+    // the index file gets a slot first
+    Case {
+        edits: &[Edit::Contiguous(6), Edit::Full(8), Edit::NoneFree],
+        begun: &LONG_ACCESSED,
+        request: (0, SYSTEM, Ask::Extend(0, 1), Ok(Reply::Length(8))),
+        steps: &[
+            Bitmap,
+            Zeros(23),
+            Header(1),
+            Header(6),
+            Bitmap,
+            Zeros(24),
+            HeaderAt(17, 23),
+            Slot(17),
+            Header(8),
         ],
     },
 ];

@@ -22,6 +22,8 @@ pub const ROOT: (u16, u16) = (4, 4);
 pub enum Step {
     /// A header.
     Header(u16),
+    /// A header in a block that the index file got.
+    HeaderAt(u16, u32),
     /// A header that is dead then, and wasn't before.
     Killed(u16),
     /// The index bitmap: the bit of this slot, and none but it.
@@ -41,14 +43,14 @@ impl Step {
             Step::Header(n) | Step::Killed(n) => u32::from(n) + 2,
             Step::Slot(_) => 2,
             Step::Bitmap => 20,
-            Step::Zeros(lbn) | Step::Data(lbn) => lbn,
+            Step::HeaderAt(_, lbn) | Step::Zeros(lbn) | Step::Data(lbn) => lbn,
         }
     }
 
     /// Whether it makes the one block the other.
     fn makes(self, before: &Block, after: &Block) -> bool {
         match self {
-            Step::Header(n) => read_word(after, 2) == n,
+            Step::Header(n) | Step::HeaderAt(n, _) => read_word(after, 2) == n,
             Step::Killed(n) => read_word(before, 2) == n && read_word(after, 2) == 0,
             Step::Slot(n) => is_turned(before, after, n),
             Step::Zeros(_) => *after == ZEROS,
@@ -74,20 +76,22 @@ pub enum Edit {
     Contiguous(u16),
     /// It has one pointer, and no place for another (M.MAX).
     Full(u16),
+    /// Slots 10 to 16 are in use, with dead headers: none is free.
+    NoneFree,
 }
 
 impl Edit {
-    /// The header's number, the byte that is another, and what it is.
-    fn byte(self) -> (u16, usize, u8) {
+    /// Makes it on a device.
+    fn make(self, device: &mut Memory) -> Result<(), DeviceFault> {
         match self {
-            Edit::Contiguous(n) => (n, 12, 0x80),
-            Edit::Full(n) => (n, 101, 2),
+            Edit::Contiguous(n) => Edit::make_byte(device, n, 12, 0x80),
+            Edit::Full(n) => Edit::make_byte(device, n, 101, 2),
+            Edit::NoneFree => put_words(device, 2, &[(0, 0xffff)]),
         }
     }
 
-    /// Makes it on a device, and seals the header.
-    fn make(self, device: &mut Memory) -> Result<(), DeviceFault> {
-        let (n, at, byte) = self.byte();
+    /// Makes a byte of a header another, and seals it.
+    fn make_byte(device: &mut Memory, n: u16, at: usize, byte: u8) -> Result<(), DeviceFault> {
         let lbn = u32::from(n) + 2;
         let mut block = get(device, lbn)?;
         if let Some(old) = block.get_mut(at) {

@@ -1,6 +1,6 @@
 -- What is right to answer.
 use Rattle.std.proofs.Common.{true, ◌≡◌, ◌≢◌, ◌≤◌, ◌+◌, ℕ, Bool, false, IsTrue, List, Some, Result, Ok, Err, sym, ap, subst, ◌∙◌, arith}
-use Rattle.std.specs.Prelude.{IsErrAnd, IfErr}
+use Rattle.std.specs.Prelude.{IsErrAnd, IfErr, OnOk}
 use Rattle.std.proofs.lemmas.Bool.{ltb-true}
 use Rattle.f11_dev.specs.Disk.{Disk}
 use Rattle.f11_dev.specs.Looked.{Looked}
@@ -15,6 +15,16 @@ use Rattle.f11_files.specs.Answers.{FailsToRead, is_among, is_clean, is_fatal, i
 pub handed : {T E : Type 0} (P : E → Type 0) (r : Result T E) (x : E) → IsErrAnd r (λ y. y ≡ x) → P x → IfErr r P
 handed P (Ok y) x is here = absurd is
 handed P (Err y) x is here = subst P (sym is) here
+
+-- what an error tells, and what it tells then
+pub each-err : {T E : Type 0} {P Q : E → Type 0} (r : Result T E) → ((x : E) → P x → Q x) → IfErr r P → IfErr r Q
+each-err (Ok y) more is = is
+each-err (Err x) more is = more x is
+
+-- and what holds of an answer that is none
+pub each-ok : {T E P Q : Type 0} (r : Result T E) → (P → Q) → OnOk r P → OnOk r Q
+each-ok (Ok y) more is = more is
+each-ok (Err x) more is = is
 
 -- a refusal that fails the volume is not a clean one
 pub not-clean : {T P : Type 0} (r : Result T Refusal) (x : Refusal) → IsErrAnd r (λ y. y ≡ x) → is_fatal x ≡ true → is_refused is_clean r ≡ true → P

@@ -1,3 +1,4 @@
 -- A new file, and the slot that it takes.
 pub mod FreeSlot
 pub mod Create
+pub mod Make

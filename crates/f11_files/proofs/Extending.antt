@@ -1,5 +1,6 @@
 -- A file that grows, from the room for it to the header that names its new blocks.
 pub mod Room
+pub mod Again
 pub mod Zero
 pub mod Reserved
 pub mod Written
@@ -21,3 +22,5 @@ pub mod GrowBy
 pub mod Cleared
 pub mod ClearAndGrow
 pub mod Extend
+pub mod Whole
+pub mod WholeConfined

@@ -4,3 +4,6 @@ pub mod SlotGrowth
 pub mod IndexFile
 pub mod Room
 pub mod GrowIndex
+pub mod Grow
+pub mod First
+pub mod Ready

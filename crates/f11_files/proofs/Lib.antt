@@ -9,3 +9,6 @@ pub mod Removing
 pub mod Extending
 pub mod GrowingIndex
 pub mod Rows
+pub mod Readied
+pub mod Overall
+pub mod Behind

@@ -1,10 +1,11 @@
 -- Files that have the blocks that they had after a call that writes, by what it makes of the store and of what headers name.
-use Rattle.std.proofs.Common.{◌≡◌, ◌≢◌, ◌<◌, ◌==◌, ◌||◌, ℕ, Bool, true, false, cond, List, [], ◌∷◌, Option, Some, None, option_map, length, slice_index, take, inl, inr, refl, sym, ap, subst, ◌∙◌, arith}
+use Rattle.std.proofs.Common.{◌≡◌, ◌≢◌, ◌<◌, ◌==◌, ◌||◌, ℕ, zero, suc, Bool, true, false, cond, IsTrue, List, [], ◌∷◌, ◌++◌, Option, Some, None, option_map, length, slice_index, take, inl, inr, refl, sym, ap, subst, ◌∙◌, append_assoc, arith}
 use Rattle.std.specs.Prelude.{Contains}
 use Rattle.std.proofs.lemmas.Bool.{cases_eq, eq-eqb, eqb-false, ne_eqb}
 use Rattle.std.proofs.lemmas.List.{append-nil}
 use Rattle.std.proofs.lemmas.List.Folds.{list_any_none}
 use Rattle.std.proofs.lemmas.Option.{same_Some}
+use Rattle.f11_dev.specs.Disk.{Disk}
 use Rattle.f11_dev.specs.Image.{Image}
 use Rattle.f11_home.specs.Home.{HomeFields}
 use Rattle.f11_map.specs.HeaderBlock.{segment_number}
@@ -14,7 +15,7 @@ use Rattle.f11_index.proofs.ChainLemmas.{file_of-header}
 use Rattle.f11_index.proofs.HeadersLemmas.{chained-apart, header-listed, listed-are, live-some}
 use Rattle.f11_chain.specs.FileHeaders.{file_blocks}
 use Rattle.f11_store.specs.Causes.{is_missing}
-use Rattle.f11_store.specs.Changes.{Grows, Truncates, is_in, with_change, with_file, with_replacement}
+use Rattle.f11_store.specs.Changes.{GetsSlots, Grows, GrowsIndex, Truncates, is_in, with_change, with_file, with_replacement}
 use Rattle.f11_store.specs.File.{File}
 use Rattle.f11_store.specs.Store.{Store, free_slots, least_free}
 use Rattle.f11_store.specs.declared.callers.Uic.{Uic}
@@ -23,12 +24,14 @@ use Rattle.f11_store.specs.declared.files.Change.TheVariants as change
 use Rattle.f11_store.proofs.StoreLemmas.{none_first}
 use Rattle.f11_store.proofs.TakenSlotLemmas.{used-none}
 use Rattle.f11_volume.specs.Sound.{HasSoundVolume}
-use Rattle.f11_volume.specs.Volume.{volume_of, IsLinked}
+use Rattle.f11_volume.specs.Volume.{volume_of, IsLinked, Volume}
 use Rattle.f11_volume.proofs.FileLemmas.{image-files}
 use Rattle.f11_volume.proofs.MemberLemmas.{all-from}
-use Rattle.f11_image_store.specs.Allocation.{named_by, BeginsWith, GainsBlocksAs, KeepsBlocks, LosesBlocks, LosesHeaders, NamesMore}
+use Rattle.f11_image_store.specs.Allocation.{named_by, BeginsWith, GainsBlocksAs, GainsSlots, KeepsBlocks, LosesBlocks, LosesHeaders, NamesMore}
 use Rattle.f11_image_store.specs.StoreOf.{store_of}
 use Rattle.f11_image_store.proofs.KeptBlocksLemmas.{file-keeps-blocks, held-stored, is-stored}
+use Rattle.f11_files.specs.Extending.Runs.{headers_for}
+use Rattle.f11_files.specs.GrowingIndex.Headroom.{AllotsSlots, ReadiesHeaders}
 use Rattle.f11_files.specs.Rows.{AlteredKeepsRows, CreatedKeepsRows, CutKeepsRows, DeletedKeepsRows, ExtendedKeepsRows, GrownKeepsRows, KeepsRows, ReplacedKeepsRows, StoredKeepsRows, no_number, this_number}
 use Rattle.f11_files.proofs.Finding.Windows.{is-there}
 
@@ -191,28 +194,68 @@ pub replaced-rows : ReplacedKeepsRows
 replaced-rows home f change old new sound sound' honest does =
     altered-rows home f (with_replacement change) old new sound sound' honest (replacement-held change) does
 
+-- rows that are kept by one call, and by another after it, are kept by both
+kept-then : (home : HomeFields) (a b c : Image) → KeepsRows no_number home a b → KeepsRows no_number home b c → KeepsRows no_number home a c
+kept-then home a b c one two = record {
+  there = λ f out file. two.there f out (one.there f out file);
+  rows = λ f out file.
+      let first = one.rows f out file in
+      let more = two.rows f out (one.there f out file) in
+      (first.0 ++ more.0, more.1 ∙ ap (λ (l : List ℕ). l ++ more.0) first.1 ∙ append_assoc (file_blocks (table_of a home) f) first.0 more.0);
+}
+
+-- where the index file has n slots more
+index-rows :
+    (home : HomeFields) (n : ℕ) (old new : Image) → HasSoundVolume old home → HasSoundVolume new home → GrowsIndex (store_of old home) n (store_of new home) →
+    GainsSlots n (volume_of old home) (volume_of new home) → KeepsRows no_number home old new
+index-rows home n old new sound sound' grew gains =
+    rows-gain home old new sound sound' 1 n _
+    (λ g away. ap (λ (s : Store). held_of (s.file g)) grew.store_is ∙ held-grown (store_of old home) grew.grown 1 n [] grew.grows g away)
+    gains.blocks
+
+-- which may be none
+slots-rows :
+    (home : HomeFields) (n : ℕ) (old new : Image) → HasSoundVolume old home → HasSoundVolume new home → GetsSlots n (store_of old home) (store_of new home) →
+    AllotsSlots n (volume_of old home) (volume_of new home) → KeepsRows no_number home old new
+slots-rows home zero old new sound sound' same stays =
+    rows-same home old new sound sound' (λ g _. ap (λ (s : Store). held_of (s.file g)) same)
+    (subst (λ (v : Volume). KeepsBlocks (volume_of old home) v) (sym stays) (record { size = refl; names = λ _. refl; free = refl }))
+slots-rows home (suc n) old new sound sound' grew gains = index-rows home (suc n) old new sound sound' grew gains
+
+-- so where headers are readied
+readied-rows :
+    (home : HomeFields) (headers n : ℕ) (old ready : Disk) → HasSoundVolume old.image home → IsTrue old.honest →
+    ReadiesHeaders home headers n old ready → KeepsRows no_number home old.image ready.image
+readied-rows home headers n old ready sound honest readies =
+    slots-rows home _ old.image ready.image sound (readies.sound honest) (readies.does.makes honest) (readies.does.allots honest)
+
 pub created-rows : CreatedKeepsRows
 unfolding store_of
 created-rows home owner protection ident attr f old new sound sound' honest creates =
-    let s : Store = store_of old.image home in
-    rows-same home old.image new.image sound sound'
-    (λ g file. ap (λ (x : Store). held_of (x.file g)) (creates.does.makes honest)
+    let s : Store = store_of creates.ready.image home in
+    let honest' : IsTrue creates.ready.honest = creates.readies.does.writes.went.honest ∙ honest in
+    let does = creates.enters.does in
+    kept-then home old.image creates.ready.image new.image (readied-rows home 1 0 old creates.ready sound honest creates.readies)
+    (rows-same home creates.ready.image new.image (creates.readies.sound honest) sound'
+    (λ g file. ap (λ (x : Store). held_of (x.file g)) (does.makes honest')
     ∙ held-other s (least_free s) g _
-    (not-least (free_slots s) g (none_first _ _ _ (creates.does.no_cause honest)) (used-none s 1 g file.live.in_use)))
-    (creates.does.allots honest)
+    (not-least (free_slots s) g (none_first _ _ _ (does.no_cause honest')) (used-none s 1 g file.live.in_use)))
+    (does.allots honest'))
 
 pub extended-rows : ExtendedKeepsRows
-extended-rows home f n old new sound sound' honest does =
-    rows-gain home old.image new.image sound sound' f.number n _
-    (held-grown (store_of old.image home) (store_of new.image home) f.number n _ (does.makes honest)) (does.allots honest)
+extended-rows home f n old new sound sound' honest extends =
+    let read : extends.read.image ≡ old.image = extends.reads.looked.image in
+    let honest' : IsTrue extends.read.honest = extends.reads.looked.honest ∙ honest in
+    let honest'' : IsTrue extends.ready.honest = extends.readies.does.writes.went.honest ∙ honest' in
+    let does = extends.extends in
+    kept-then home old.image extends.ready.image new.image
+    (subst (λ (i : Image). KeepsRows no_number home i extends.ready.image) read
+    (readied-rows home (headers_for home f n old) n extends.read extends.ready (subst (λ (i : Image). HasSoundVolume i home) (sym read) sound) honest' extends.readies))
+    (rows-gain home extends.ready.image new.image (extends.readies.sound honest') sound' f.number n _
+    (held-grown (store_of extends.ready.image home) (store_of new.image home) f.number n _ (does.makes honest'')) (does.allots honest''))
 
 pub grown-rows : GrownKeepsRows
-grown-rows home n old new sound sound' honest does =
-    let grew = does.makes honest in
-    rows-gain home old.image new.image sound sound' 1 n _
-    (λ g away. ap (λ (x : Store). held_of (x.file g)) grew.store_is
-    ∙ held-grown (store_of old.image home) grew.grown 1 n [] grew.grows g away)
-    (does.allots honest).blocks
+grown-rows home n old new sound sound' honest does = index-rows home n old.image new.image sound sound' (does.makes honest) (does.allots honest)
 
 pub cut-rows : CutKeepsRows
 cut-rows home f to old new sound sound' honest does =

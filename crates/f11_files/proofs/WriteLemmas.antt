@@ -19,7 +19,7 @@ use Rattle.f11_store.specs.declared.refusals.Refusal.TheVariants.{VolumeFailed}
 use Rattle.f11_volume.specs.Sound.{HasSoundVolume}
 use Rattle.f11_volume.specs.Space.{storage_bitmap}
 use Rattle.f11_writes.specs.Kept.{KeepsVolume}
-use Rattle.f11_files.specs.Answers.{ReadsAtMost, WritesAtMost, FailsToRead, FailsToWrite, IsRight, IsUnderWay, Meanwhile, is_fatal, faults_of}
+use Rattle.f11_files.specs.Answers.{ReadsAtMost, WritesAtMost, FailsOrWants, FailsToRead, FailsToWrite, IsRight, IsUnderWay, Meanwhile, is_fatal, faults_of}
 use Rattle.f11_files.specs.Structure.{home_of, FitsOn, IsStructureOf, IsStructureFor, StaysFor}
 use Rattle.f11_files.specs.declared.structure.Structure.{Structure}
 
@@ -132,3 +132,8 @@ had-failed {causes = causes} {work = work} {home = home} old is = record {
   writes = record { transfers = 0; went = went_looked (Meanwhile (work_if (first_of causes) work) home old) (looked_none old); few = λ _. omega arith };
   unchanged = λ _. record { reads = 0; looked = looked_none old; few = λ _. omega arith };
 }
+
+-- a refusal to write that isn't for want of memory, of a call that may want it
+pub as-wanting : {takes failed : Bool} {causes : List Cause} {most : ℕ} {work : Work} {home : HomeFields} {r : Refusal} {old new : Disk} → refusal_number r ≢ 18
+    → FailsToWrite failed causes most work home r old new → FailsOrWants takes failed causes most work home r old new
+as-wanting other fails = record { right = λ _. fails.right; wanting = λ is. absurd (other (ap refusal_number is)); writes = fails.writes; unchanged = fails.unchanged }

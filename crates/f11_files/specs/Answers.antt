@@ -20,7 +20,7 @@ use Rattle.f11_store.specs.Refusal.{refusal_number}
 use Rattle.f11_store.specs.Store.{Store}
 use Rattle.f11_store.specs.declared.files.FileId.{FileId}
 use Rattle.f11_store.specs.declared.refusals.Refusal.{Refusal}
-use Rattle.f11_store.specs.declared.refusals.Refusal.TheVariants.{VolumeFailed, EndOfFile, DeviceFault, Damaged}
+use Rattle.f11_store.specs.declared.refusals.Refusal.TheVariants.{VolumeFailed, EndOfFile, NoMemory, DeviceFault, Damaged}
 use Rattle.f11_volume.specs.Sound.{HasSoundVolume}
 use Rattle.f11_volume.specs.Space.{storage_bitmap}
 use Rattle.f11_volume.specs.Volume.{Volume, volume_of}
@@ -114,6 +114,14 @@ pub record Does
 pub record FailsToWrite (failed : Bool) (causes : List Cause) (most : ℕ) (work : Work) (home : HomeFields) (refusal : Refusal)
     (old new : Disk) : Type 0 where
   pub right : IsRight failed old.honest causes refusal
+  pub writes : WritesAtMost (Meanwhile (work_if (first_of causes) work) home old) most old new (faults_of refusal)
+  pub unchanged : is_fatal refusal ≡ false → ReadsAtMost most old new 0
+
+-- A call that writes, and may take memory, was refused, likewise; or memory was wanting: then there was no cause, and it takes some.
+pub record FailsOrWants (takes : Bool) (failed : Bool) (causes : List Cause) (most : ℕ) (work : Work) (home : HomeFields) (refusal : Refusal)
+    (old new : Disk) : Type 0 where
+  pub right : refusal ≢ NoMemory → IsRight failed old.honest causes refusal
+  pub wanting : refusal ≡ NoMemory → (failed ≡ false) × (IsTrue old.honest → (first_of causes ≡ None) × (takes ≡ true))
   pub writes : WritesAtMost (Meanwhile (work_if (first_of causes) work) home old) most old new (faults_of refusal)
   pub unchanged : is_fatal refusal ≡ false → ReadsAtMost most old new 0
 

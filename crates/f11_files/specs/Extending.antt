@@ -9,3 +9,4 @@ pub mod Growing
 pub mod Take
 pub mod Header
 pub mod Runs
+pub mod Again

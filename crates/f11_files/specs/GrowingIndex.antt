@@ -1,2 +1,4 @@
 -- The index file, which grows: its new blocks are slots.
 pub mod Runs
+pub mod Headroom
+pub mod First

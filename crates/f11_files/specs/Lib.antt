@@ -11,3 +11,4 @@ pub mod Removing
 pub mod Extending
 pub mod GrowingIndex
 pub mod Rows
+pub mod Overall

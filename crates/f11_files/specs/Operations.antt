@@ -1,6 +1,7 @@
 -- The operations on files in the words of the plain store: the causes against each, and what each answers (profile).
 use Rattle.std.specs.Prelude.{◌≡◌, ℕ, ◌+◌, ◌==◌, nat_lt, List, [], ◌∷◌}
 use Rattle.f11_header.specs.Fields.{owner, protection, characteristics, attributes, ident_area}
+use Rattle.f11_store.specs.Causes as causes
 use Rattle.f11_store.specs.Causes.{Cause, ◌⇐◌, is_missing, growth_causes}
 use Rattle.f11_store.specs.File.{File, length_of}
 use Rattle.f11_store.specs.Store.{Store, file_named, index_file, free_headers}
@@ -18,11 +19,15 @@ length_causes s f blocks = (NoSuchFile ⇐ is_missing s f) ∷ (EndOfFile ⇐ na
 
 -- or there is no room for n blocks more of it
 abbrev pub extend_causes : Store → FileId → ℕ → List Cause
-extend_causes s f n = (NoSuchFile ⇐ is_missing s f) ∷ growth_causes s (file_named s f) n
+extend_causes s f n = (NoSuchFile ⇐ is_missing s f) ∷ causes.extend_causes s (file_named s f) n
+
+-- or there is none without slots that come first
+abbrev pub held_causes : Store → FileId → ℕ → List Cause
+held_causes s f n = (NoSuchFile ⇐ is_missing s f) ∷ growth_causes s (file_named s f) n
 
 -- no header is free
-abbrev pub create_causes : Store → List Cause
-create_causes s = (NoHeader ⇐ (free_headers s == 0)) ∷ []
+abbrev pub slot_causes : Store → List Cause
+slot_causes s = (NoHeader ⇐ (free_headers s == 0)) ∷ []
 
 -- the index file may not have n slots more, or there is no room for them
 abbrev pub grow_causes : Store → ℕ → List Cause

@@ -30,3 +30,10 @@ pub(crate) fn is_no_file(refusal: Refusal) -> bool
 {
     matches!(refusal, Refusal::NoSuchFile)
 }
+
+/// Whether a refusal is that no header is free.
+pub(crate) fn is_no_header(refusal: Refusal) -> bool
+    ensures { result ≡ (refusal_number refusal == 17) }
+{
+    matches!(refusal, Refusal::NoHeader)
+}

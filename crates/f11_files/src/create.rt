@@ -2,14 +2,15 @@
 ghost use Rattle.std.specs.Prelude.{◌≡◌, ◌<◌, false, IfErr, IfOk, true};
 ghost use Rattle.f11_files.specs.Answers.{is_fatal, is_clean, is_refused, WritesNewHeaders};
 ghost use Rattle.f11_image_store.specs.Confines.{new_header};
-ghost use Rattle.f11_files.specs.Create.{Creates, FailsToCreate};
+ghost use Rattle.f11_files.specs.Create.{Creates, EntersFile, FailsToCreate, FailsToEnter};
+ghost use Rattle.f11_files.specs.GrowingIndex.Headroom.{WritesAfterSlots};
 ghost use Rattle.f11_image_store.specs.NewFileLaws.{IsNewFirst};
 ghost use Rattle.f11_files.specs.Structure.{counts_of, home_of, index_in, IsStructureFor, StaysFor, WritesParts};
 ghost use Rattle.f11_header.specs.Fields.{file_sequence};
 ghost use Rattle.f11_header.specs.Writing.{blank_header};
 ghost use Rattle.f11_store.specs.Changes.{next_sequence};
 
-use crate::answer::is_fatal;
+use crate::answer::{is_fatal, is_no_header};
 use crate::files::Files;
 use crate::structure::Structure;
 use f11_bytes::{BLOCK_SIZE, Block};
@@ -53,7 +54,7 @@ impl Structure {
     /// # Errors
     ///
     /// `NoHeader` where no slot is free, `DeviceFault` where a transfer failed.
-    pub(crate) fn create<D: Device>(
+    fn enter_file<D: Device>(
         &mut self,
         device: &mut D,
         owner: Uic,
@@ -62,9 +63,9 @@ impl Structure {
         attr: &[u8; 32],
     ) -> Result<FileId, Refusal>
         requires is_for { IsStructureFor self.old (D.disk device.old) }
-        ensures created { IfOk result (λ f. Creates (home_of self.old) owner protection ident.now
+        ensures entered { IfOk result (λ f. EntersFile (home_of self.old) owner protection ident.now
             attr.now f (D.disk device.old) (D.disk device.new)) }
-        ensures refused { IfErr result (λ refusal. FailsToCreate false (home_of self.old) owner
+        ensures refused { IfErr result (λ refusal. FailsToEnter (home_of self.old) owner
             protection ident.now attr.now refusal (D.disk device.old) (D.disk device.new)) }
         ensures stays { StaysFor (is_refused is_fatal result) self.old self.new
             (D.disk device.new) }
@@ -97,19 +98,61 @@ impl Structure {
             Err(_) => Err(Refusal::DeviceFault),
         }
     }
+
+    /// Makes a file without blocks, once there is a header for it.
+    ///
+    /// # Errors
+    ///
+    /// Those of [`Structure::ready_headers`], and of [`Structure::enter_file`].
+    pub(crate) fn create<D: Device>(
+        &mut self,
+        device: &mut D,
+        owner: Uic,
+        protection: u16,
+        ident: &[u8; 46],
+        attr: &[u8; 32],
+    ) -> Result<FileId, Refusal>
+        requires is_for { IsStructureFor self.old (D.disk device.old) }
+        ensures created { IfOk result (λ f. Creates (home_of self.old) owner protection ident.now
+            attr.now f (D.disk device.old) (D.disk device.new)) }
+        ensures refused { IfErr result (λ refusal. FailsToCreate false (home_of self.old) owner
+            protection ident.now attr.now refusal (D.disk device.old) (D.disk device.new)) }
+        ensures stays { StaysFor (is_refused is_fatal result) self.old self.new
+            (D.disk device.new) }
+        ensures counts { is_refused is_clean result ≡ true → counts_of self.new ≡ counts_of
+            self.old }
+        ensures confined { let home = home_of self.old in
+            WritesAfterSlots 1 (WritesNewHeaders home) home (D.disk device.old)
+            (D.disk device.new) }
+    {
+        self.ready_headers(device, 1, 0)?;
+        match self.enter_file(device, owner, protection, ident, attr) {
+            Ok(id) => Ok(id),
+            Err(refusal) => {
+                // a header is free now
+                if is_no_header(refusal) {
+                    return Err(Refusal::Damaged);
+                }
+                Err(refusal)
+            }
+        }
+    }
 }
 
 impl<D: Device> Files<D> {
     ghost use Rattle.f11_files.specs.Open.{disk_in, has_failed, home_in, AnswersCall};
 
     /// Makes a file without blocks in the least free slot from 6 on, with the slot's next sequence number (profile), and gives its
-    /// identification. Its owner, protection, ident area and attributes are those given, and its characteristics 0. The slot's block
-    /// is read, the header is written, and then the slot's bit.
+    /// identification. Its owner, protection, ident area and attributes are those given, and its characteristics 0. Where no slot is
+    /// free, the index file first gets one, as [`Files::grow_index`] says, in its last header. Then the slot's block is read, the header
+    /// is written, and then the slot's bit. Where it is refused, but for `DeviceFault` and `Damaged`, nothing is written.
     ///
     /// # Errors
     ///
-    /// `VolumeFailed` where an earlier call answered `DeviceFault` or `Damaged`, `NoHeader` where no slot is free, `DeviceFault` where
-    /// a transfer failed.
+    /// `VolumeFailed` where an earlier call answered `DeviceFault` or `Damaged`; where no slot is free, `DeviceFull` where no block is free
+    /// for one more, `NoHeader` where the index file may not get it (its last header has no room, or there would be more than there may
+    /// be), and `NoMemory` for want of memory for it; `DeviceFault` where a transfer failed, `Damaged` where a header or a link isn't as
+    /// it should be, or no block is found free though one should be: on no honest device.
     pub fn create(
         &mut self,
         owner: Uic,
@@ -123,7 +166,8 @@ impl<D: Device> Files<D> {
         ensures refused { IfErr result (λ refusal. FailsToCreate (has_failed self.old)
             (home_in self.old) owner protection ident.now attr.now refusal
             (disk_in self.old) (disk_in self.new)) }
-        ensures confined { WritesNewHeaders (home_in self.old) (disk_in self.old) (disk_in self.new) }
+        ensures confined { let home = home_in self.old in
+            WritesAfterSlots 1 (WritesNewHeaders home) home (disk_in self.old) (disk_in self.new) }
     {
         if self.failed {
             return Err(Refusal::VolumeFailed);

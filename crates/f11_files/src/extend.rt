@@ -1,5 +1,6 @@
 //! A file that grows, from the room for it to the header that names its new blocks.
 
+pub(crate) mod again;
 pub(crate) mod header;
 pub(crate) mod link;
 pub(crate) mod mark;

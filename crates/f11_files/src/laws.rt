@@ -1,4 +1,5 @@
 //! Laws of the files of a volume, each the contract of a function that does nothing.
+ghost use Rattle.f11_files.specs.Overall as overall;
 ghost use Rattle.f11_files.specs.Rows as rows;
 
 /// After these calls each file that was there has the blocks that it had.
@@ -15,4 +16,10 @@ pub fn rows_kept()
 pub fn rows_lost()
     ensures cut { rows.CutKeepsRows }
     ensures deleted { rows.DeletedKeepsRows }
+{}
+
+/// A call that readies headers first does so much, from its beginning to its end.
+pub fn overall()
+    ensures creates { overall.CreatesIs }
+    ensures extends { overall.ExtendsIs }
 {}

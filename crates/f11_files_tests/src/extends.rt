@@ -101,20 +101,24 @@ const IN_TURN: [Row; 5] = [
     (Call::Length(A), Ok(Given::Count(103)), None),
 ];
 
-/// No header is left, but for the slots that the index file gains; H.FMAX is 4,000, and 171 blocks are free.
-const ALL_HEADERS: [Row; 12] = [
+/// No header is left, but for the slots that the index file gets: for a file's next header it gets one first, whether or not the file needs
+/// it in the end. H.FMAX is 4,000. The last blocks aren't enough for a slot besides.
+const ALL_HEADERS: [Row; 15] = [
     (Call::CreateIn(6, 16), Ok(Given::Done), None),
     (Call::ExtendInTurn(102), Ok(Given::Done), None),
-    (Call::Extend(A, 1), Err(Refusal::NoHeader), None),
-    (Call::Extend((8, 1), 3), Ok(Given::Count(3)), None),
-    (Call::Extend((9, 1), 103), Err(Refusal::NoHeader), None),
-    (Call::GrowIndex(4000), Err(Refusal::IndexLimit), None),
-    (Call::GrowIndex(3984), Err(Refusal::DeviceFull), None),
-    (Call::GrowIndex(1), Ok(Given::Count(17)), None),
-    (Call::GrowIndex(3984), Err(Refusal::IndexLimit), None),
-    (Call::Space, Ok(Given::Space(170, 1, 17)), Some(0)),
     (Call::Extend(A, 1), Ok(Given::Count(103)), None),
-    (Call::Space, Ok(Given::Space(169, 0, 17)), Some(0)),
+    (Call::Space, Ok(Given::Space(172, 0, 17)), Some(0)),
+    (Call::Extend((8, 1), 3), Ok(Given::Count(3)), None),
+    (Call::Extend((9, 1), 103), Ok(Given::Count(103)), None),
+    (Call::Space, Ok(Given::Space(65, 1, 18)), Some(0)),
+    (Call::GrowIndex(3983), Err(Refusal::IndexLimit), None),
+    (Call::GrowIndex(3982), Err(Refusal::DeviceFull), None),
+    (Call::Extend(A, 1), Ok(Given::Count(104)), None),
+    (Call::Create, Ok(Given::File(18, 1)), None),
+    (Call::Space, Ok(Given::Space(64, 0, 18)), Some(0)),
+    (Call::Extend(B, 64), Err(Refusal::DeviceFull), Some(2)),
+    (Call::Extend(B, 63), Ok(Given::Count(165)), None),
+    (Call::Space, Ok(Given::Space(0, 0, 19)), Some(0)),
 ];
 
 /// Two headers are added at once, where no two of 300 free blocks adjoin. Where the file is deleted, each of its three headers is

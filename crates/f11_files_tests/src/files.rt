@@ -13,7 +13,7 @@ const A: Id = (6, 1);
 const AFTER: Id = (6, 2);
 
 /// Slots in order, each with the next sequence number.
-const SLOTS: [Row; 9] = [
+const SLOTS: [Row; 12] = [
     (Call::Space, Ok(Given::Space(2, 11, 16)), Some(0)),
     (Call::Create, Ok(Given::File(6, 1)), None),
     (Call::Create, Ok(Given::File(7, 6)), None),
@@ -26,7 +26,10 @@ const SLOTS: [Row; 9] = [
     (Call::Create, Ok(Given::File(10, 1)), None),
     (Call::CreateIn(11, 16), Ok(Given::Done), None),
     (Call::Space, Ok(Given::Space(2, 0, 16)), Some(0)),
-    (Call::Create, Err(Refusal::NoHeader), None),
+    (Call::Create, Ok(Given::File(17, 1)), Some(7)),
+    (Call::Space, Ok(Given::Space(1, 0, 17)), Some(0)),
+    (Call::Create, Ok(Given::File(18, 1)), Some(7)),
+    (Call::Create, Err(Refusal::DeviceFull), Some(1)),
 ];
 
 #[test]

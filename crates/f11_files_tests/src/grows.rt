@@ -13,11 +13,29 @@ const IN_TURN: [Row; 2] = [
     (Call::GrowInTurn(17, 119), Ok(Given::Done), None),
 ];
 
-/// None of the new slots was given a sequence number.
+/// None of the new slots was given a sequence number; then one more is added in header 7.
 const NEW_SLOTS: [Row; 2] = [
     (Call::CreateIn(9, 119), Ok(Given::Done), None),
-    (Call::Create, Err(Refusal::NoHeader), None),
+    (Call::Create, Ok(Given::File(120, 1)), None),
 ];
+
+/// The last header of the index file has no place left: it gets no slot by itself, though blocks are free.
+const NO_PLACE: [Row; 6] = [
+    (Call::Create, Ok(Given::File(6, 1)), None),
+    (Call::GrowInTurn(17, 117), Ok(Given::Done), None),
+    (Call::CreateIn(7, 117), Ok(Given::Done), None),
+    (Call::Create, Err(Refusal::NoHeader), Some(1)),
+    (Call::Extend((6, 1), 103), Err(Refusal::NoHeader), Some(2)),
+    (Call::Extend((6, 1), 1), Ok(Given::Count(102)), None),
+];
+
+#[test]
+fn an_index_file_without_a_place_gets_no_slot(rt: HostRuntime) -> Result<(), Fail> {
+    let device = volumes::fresh(rt.alloc(), 400)?;
+    let (_, wrong) = go(rt.alloc(), device, &NO_PLACE)?;
+    assert_eq!(rt; wrong, None);
+    Ok(())
+}
 
 #[test]
 fn the_index_file_gets_a_header(rt: HostRuntime) -> Result<(), Fail> {

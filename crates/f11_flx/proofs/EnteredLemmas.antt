@@ -5,7 +5,7 @@ use Rattle.std.proofs.lemmas.Bool.{and_from, eq-eqb, eqb-true, le-ltb, ne_eqb, o
 use Rattle.f11_store.specs.Causes.{Cause, ◌⇐◌, first_refusal, is_bad, is_missing, lacks_change}
 use Rattle.f11_store.specs.Changes.{EntersAt, EntersAtEnd, Grows, grown_file, with_change, with_end_after, with_entry, with_grown_file}
 use Rattle.f11_store.specs.Directory.{entry_count, index_of_empty, needs_block, record_bytes}
-use Rattle.f11_store.specs.File.{File, is_marked, no_file, zero_blocks}
+use Rattle.f11_store.specs.File.{File, is_marked, need, no_file, zero_blocks}
 use Rattle.f11_store.specs.Rights.{is_of}
 use Rattle.f11_store.specs.Step.{MayRefuse}
 use Rattle.f11_store.specs.Store.{Store, file_named, file_of}
@@ -16,10 +16,12 @@ use Rattle.f11_store.specs.declared.refusals.Refusal.{Refusal}
 use Rattle.f11_store.specs.declared.refusals.Refusal.TheVariants.{BadArgument, Marked, NoPrivilege, NoSuchFile, SystemFile}
 use Rattle.f11_store.specs.declared.requests.Request.TheVariants as request
 use Rattle.f11_store.proofs.FateLaws.{mark-of-cleared}
+use Rattle.f11_store.proofs.SlotsFirst.{gained-is-ready}
 use Rattle.f11_store.proofs.StoreLemmas.{same_number}
 use Rattle.f11_runs.proofs.AccessLemmas.{there-file}
 use Rattle.f11_flx.specs.Asking.{BreaksOff, Who, plain}
 use Rattle.f11_flx.specs.CopyFromRt.{Making, entry}
+use Rattle.f11_flx.proofs.GainedLemmas.{not-index}
 use Rattle.f11_flx.proofs.NewLemmas.{IsNewIn, none-of}
 use Rattle.f11_flx.proofs.SmallLemmas.{bad-not}
 
@@ -64,14 +66,17 @@ own-grown f t u k d n blocks g h = subst (λ x. StaysOwn f x k) (sym g.store_is)
         }
     by false is = record { now = h.now; there = ap (λ x. if x then Some (grown_file t g.before blocks g.added g.pointers g.room) else t.file k) is ∙ h.there; sequence = h.sequence; owner = h.owner; mark = h.mark }
 
-own-entered-at-end : (b : Bool) (f : File) (t u : Store) (k d i : ℕ) (r : List ℕ) → EntersAtEnd b t d i r u → StaysOwn f t k → StaysOwn f u k
-own-entered-at-end false f t u k d i r e h = subst (λ x. StaysOwn f x k) (sym e) (own-changed f t k d (λ g. with_end_after i (with_entry i r g)) (λ g. refl) (λ g. refl) (λ g. refl) h)
-own-entered-at-end true f t u k d i r e h =
-    subst (λ x. StaysOwn f x k) (sym e.2) (own-changed f e.0 k d (λ g. with_end_after i (with_entry i r g)) (λ g. refl) (λ g. refl) (λ g. refl) (own-grown f t e.0 k d 1 (zero_blocks 1) e.1 h))
+own-entered-at-end : (b : Bool) (f : File) (t u : Store) (k : ℕ) (d : FileId) (i : ℕ) (r : List ℕ) → (k == 1) ≡ false → EntersAtEnd b t d i r u → StaysOwn f t k → StaysOwn f u k
+own-entered-at-end false f t u k d i r late e h = subst (λ x. StaysOwn f x k) (sym e) (own-changed f t k d.number (λ g. with_end_after i (with_entry i r g)) (λ g. refl) (λ g. refl) (λ g. refl) h)
+own-entered-at-end true f t u k d i r late (v, longer, e) h =
+    let ready = gained-is-ready t longer.ready (need (file_named t d).room 1) longer.gains in
+    let here : StaysOwn f longer.ready k = record { now = h.now; there = ready.others k late ∙ h.there; sequence = h.sequence; owner = h.owner; mark = h.mark } in
+    subst (λ x. StaysOwn f x k) (sym e)
+    (own-changed f v k d.number (λ g. with_end_after i (with_entry i r g)) (λ g. refl) (λ g. refl) (λ g. refl) (own-grown f longer.ready v k d.number 1 (zero_blocks 1) longer.makes here))
 
-own-entered : (o : Option ℕ) (f : File) (t u : Store) (k : ℕ) (d : FileId) (r : List ℕ) → EntersAt o t d r u → StaysOwn f t k → StaysOwn f u k
-own-entered (Some i) f t u k d r e h = subst (λ x. StaysOwn f x k) (sym e) (own-changed f t k d.number (with_entry i r) (λ g. refl) (λ g. refl) (λ g. refl) h)
-own-entered None f t u k d r e h = own-entered-at-end (needs_block (file_named t d)) f t u k d.number (entry_count (file_named t d)) r e h
+own-entered : (o : Option ℕ) (f : File) (t u : Store) (k : ℕ) (d : FileId) (r : List ℕ) → (k == 1) ≡ false → EntersAt o t d r u → StaysOwn f t k → StaysOwn f u k
+own-entered (Some i) f t u k d r late e h = subst (λ x. StaysOwn f x k) (sym e) (own-changed f t k d.number (with_entry i r) (λ g. refl) (λ g. refl) (λ g. refl) h)
+own-entered None f t u k d r late e h = own-entered-at-end (needs_block (file_named t d)) f t u k d (entry_count (file_named t d)) r late e h
 
 -- so its owner may protect it
 protectable : (id : FileId) (f : File) (word : ℕ) (who : Who) (t : Store) → 6 ≤ id.number → id.volume ≡ 0 → f.sequence ≡ id.sequence → f.owner ≡ who.caller → is_marked f ≡ false → StaysOwn f t id.number →
@@ -98,6 +103,6 @@ pub entry-refused : (making : Making) (who : Who) (id : FileId) (e : Refusal) (s
 entry-refused making who id e s t u h (inl d) = d.2.store_stays
 entry-refused making who id e s t u h (inr (v, g, inl d)) =
     let own : StaysOwn h.file t id.number = record { now = h.file; there = h.there; sequence = refl; owner = refl; mark = refl } in
-    let here = own-entered (index_of_empty (file_named t making.directory)) h.file t v id.number making.directory (record_bytes id making.name) g.3.changes own in
-    absurd (subst (λ o. MayRefuse o (request.WriteAttr id (change.Protect making.protection)) e) (protectable id h.file making.protection who v h.low h.volume h.sequence h.owner h.unmarked here) d.2.may_refuse)
+    let here = own-entered (index_of_empty (file_named t making.directory)) h.file t v id.number making.directory (record_bytes id making.name) (not-index id.number 6 (omega arith) h.low) g.3.changes own in
+    absurd (subst (λ o. MayRefuse o false e) (protectable id h.file making.protection who v h.low h.volume h.sequence h.owner h.unmarked here) d.2.may_refuse)
 entry-refused making who id e s t u h (inr (v, g, inr (w, k, none))) = absurd none

@@ -2,7 +2,6 @@
 use Rattle.std.proofs.Common.{◌≡◌, ℕ, Bool, true, false, List, ◌++◌, Some, refl, sym, subst}
 use Rattle.f11_dev.specs.Disk.{Disk}
 use Rattle.f11_dev.specs.declared.device.Device.{Ghosts}
-use Rattle.f11_store.specs.Step.{next_id}
 use Rattle.f11_store.specs.Store.{Store}
 use Rattle.f11_store.specs.declared.files.FileId.{FileId}
 use Rattle.f11_store.specs.declared.requests.Reply.TheVariants as reply
@@ -10,7 +9,7 @@ use Rattle.rt11_volume.specs.Files.{file_area}
 use Rattle.rt11_volume.specs.Verifying.Verdict.{IsSoundDisk}
 use Rattle.rt11_volume.specs.declared.volume.RtAccepted.{RtAccepted}
 use Rattle.f11_flx.specs.Asking.{Granted, Service, Who, plain}
-use Rattle.f11_flx.specs.CopyFromRt.{CopiesFromRt, HasMaking, Making, as_file, creation, entry, filling, making_of, opening}
+use Rattle.f11_flx.specs.CopyFromRt.{CopiesFromRt, HasMaking, Making, as_file, creation, entry, filling, making_of, new_id, opening}
 use Rattle.f11_flx.specs.FromRt.{CopiesFrom}
 use Rattle.f11_flx.specs.Making.{Fills, MakesCopy, filling_of}
 use Rattle.f11_flx.specs.Passes.{IsCopied}
@@ -26,9 +25,9 @@ use Rattle.f11_flx.specs.Seen.{IsSeenPlain}
 use Rattle.f11_flx.proofs.SeenLemmas.{granted-seen}
 
 -- the file that is created is the next one
-pub created-next : (making : Making) (id : FileId) (who : Who) (s s' : Store) → Granted plain who (creation making id) s s' → id ≡ next_id s
+pub created-next : (making : Making) (id : FileId) (who : Who) (s s' : Store) → Granted plain who (creation making id) s s' → id ≡ new_id s
 created-next making id who s s' h =
-    let is : reply.Created id ≡ reply.Created (next_id s) = h.1.2.reply_is in cc
+    let is : reply.Created id ≡ reply.Created (new_id s) = h.1.2.reply_is in cc
 
 -- the file of a sound volume, and its plan
 pub record Planned (m : CopyMode) (name : List ℕ) (many blocks : ℕ) (attr : List ℕ) {E : Type 0} {met : Ghosts E} (disk : E → Disk) (rt between : RtAccepted E met) : Type 0 where
@@ -89,7 +88,7 @@ module _ {E : Type 0} {met : Ghosts E} (disk : E → Disk) (m : CopyMode) (name 
         let p = planned h.many blocks h.attr rt h.between h.plans s in
         let making : Making = as_file to dir protection h.attr p.plan.pieces in
         let k = h.makes p.plan.pieces in
-        let id : k.id ≡ next_id (view v) = created-next making k.id who (view v) (view k.created) (granted-seen S view is_sound seen who (creation making k.id) v k.created k.creates sound).0 in
+        let id : k.id ≡ new_id (view v) = created-next making k.id who (view v) (view k.created) (granted-seen S view is_sound seen who (creation making k.id) v k.created k.creates sound).0 in
         let all = (granted-seen S view is_sound seen who (making_of making lun k.id) v w (made-as-planned making h.many blocks h.attr rt h.between rt' v w p refl k) sound).0 in
         record {
           attr = h.attr;

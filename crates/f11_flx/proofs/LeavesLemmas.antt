@@ -2,12 +2,11 @@
 use Rattle.std.proofs.Common.{◌≡◌, inl, inr, ℕ, ◌++◌, length, sym, ◌∙◌, subst}
 use Rattle.f11_runs.specs.Standing.{AccessesStand}
 use Rattle.f11_store.specs.Accesses.{FreeIsEmpty}
-use Rattle.f11_store.specs.Step.{next_id}
 use Rattle.f11_store.specs.Store.{Store}
 use Rattle.f11_store.specs.declared.files.FileId.{FileId}
 use Rattle.f11_store.specs.declared.refusals.Refusal.{Refusal}
 use Rattle.f11_flx.specs.Asking.{BreaksOff, Granted, Who, plain}
-use Rattle.f11_flx.specs.CopyFromRt.{IsAsBefore, Making, creation, deletion, filling, giving_up, opening}
+use Rattle.f11_flx.specs.CopyFromRt.{IsAsBefore, Making, creation, deletion, filling, giving_up, new_id, opening}
 use Rattle.f11_flx.specs.MakingLaws.{RefusedCopyLeaves, RefusedMakingLeaves}
 use Rattle.f11_flx.specs.declared.refusal.FlxRefusal.TheVariants.{BadRecord, Files, LineTooLong, Rt}
 use Rattle.f11_flx.proofs.AskingLemmas.{granted-parts}
@@ -38,25 +37,25 @@ access-refused who lun id e t u (inr b) = absurd b.2
 
 pub refused-making-leaves : RefusedMakingLeaves
 refused-making-leaves making who lun e s s' tidy stand (inl h) =
-    subst (λ x. IsAsBefore s x) (sym (h.undoes ∙ one-refused who making (next_id s) e h.reached h.left h.breaks ∙ h.granted)) (as-before s)
+    subst (λ x. IsAsBefore s x) (sym (h.undoes ∙ one-refused who making (new_id s) e h.reached h.left h.breaks ∙ h.granted)) (as-before s)
 refused-making-leaves making who lun e s s' tidy stand (inr (inl h)) =
-    let made = new-made making (next_id s) who s h.reached h.granted in
-    let here = subst (λ x. IsNewIn who.caller (next_id s) s.access s x) (sym (access-refused who lun (next_id s) e h.reached h.left h.breaks)) made in
-    gone who lun s tidy stand (next_id s) h.left s' here h.undoes
+    let made = new-made making (new_id s) who s h.reached h.granted in
+    let here = subst (λ x. IsNewIn who.caller (new_id s) s.access s x) (sym (access-refused who lun (new_id s) e h.reached h.left h.breaks)) made in
+    gone who lun s tidy stand (new_id s) h.left s' here h.undoes
 refused-making-leaves making who lun e s s' tidy stand (inr (inr (inl h))) =
-    let parts = granted-parts plain who (creation making (next_id s)) (opening lun (next_id s)) s h.reached h.granted in
-    let made = new-made making (next_id s) who s parts.0 parts.1 in
-    let o = now-open who lun s tidy stand (next_id s) parts.0 h.reached made parts.2 in
-    let at = filling-breaks who lun (next_id s) s (length making.blocks) making.blocks e h.reached h.left o.0 h.breaks in
-    given-up who lun s tidy stand (next_id s) h.left s' o.1 at h.undoes
+    let parts = granted-parts plain who (creation making (new_id s)) (opening lun (new_id s)) s h.reached h.granted in
+    let made = new-made making (new_id s) who s parts.0 parts.1 in
+    let o = now-open who lun s tidy stand (new_id s) parts.0 h.reached made parts.2 in
+    let at = filling-breaks who lun (new_id s) s (length making.blocks) making.blocks e h.reached h.left o.0 h.breaks in
+    given-up who lun s tidy stand (new_id s) h.left s' o.1 at h.undoes
 refused-making-leaves making who lun e s s' tidy stand (inr (inr (inr h))) =
-    let parts = granted-parts plain who (creation making (next_id s)) (opening lun (next_id s) ++ filling lun making.blocks) s h.reached h.granted in
-    let rest = granted-parts plain who (opening lun (next_id s)) (filling lun making.blocks) parts.0 h.reached parts.2 in
-    let made = new-made making (next_id s) who s parts.0 parts.1 in
-    let o = now-open who lun s tidy stand (next_id s) parts.0 rest.0 made rest.1 in
-    let c = filled-closed who lun (next_id s) s (length making.blocks) making.blocks rest.0 h.reached o.1 o.0 rest.2 in
-    let here = subst (λ x. IsNewIn who.caller (next_id s) s.access s x) (sym (entry-refused making who (next_id s) e s h.reached h.left c h.breaks)) c in
-    gone who lun s tidy stand (next_id s) h.left s' here h.undoes
+    let parts = granted-parts plain who (creation making (new_id s)) (opening lun (new_id s) ++ filling lun making.blocks) s h.reached h.granted in
+    let rest = granted-parts plain who (opening lun (new_id s)) (filling lun making.blocks) parts.0 h.reached parts.2 in
+    let made = new-made making (new_id s) who s parts.0 parts.1 in
+    let o = now-open who lun s tidy stand (new_id s) parts.0 rest.0 made rest.1 in
+    let c = filled-closed who lun (new_id s) s (length making.blocks) making.blocks rest.0 h.reached o.1 o.0 rest.2 in
+    let here = subst (λ x. IsNewIn who.caller (new_id s) s.access s x) (sym (entry-refused making who (new_id s) e s h.reached h.left c h.breaks)) c in
+    gone who lun s tidy stand (new_id s) h.left s' here h.undoes
 
 pub refused-copy-leaves : RefusedCopyLeaves
 refused-copy-leaves (Files e) m name who lun dir to protection disk s s' tidy stand h = refused-making-leaves _ who lun e s s' tidy stand h.fails

@@ -21,6 +21,7 @@ pub mod EnteredLemmas
 pub mod FaredLemmas
 pub mod FromRtLemmas
 pub mod FromVolumeLemmas
+pub mod GainedLemmas
 pub mod GiveLemmas
 pub mod KeptLemmas
 pub mod KeptToRtLemmas

@@ -1,30 +1,35 @@
 -- What a making that is granted makes.
-use Rattle.std.proofs.Common.{◌≡◌, ℕ, suc, ◌-◌, ◌==◌, Bool, true, false, if◌then◌else◌, List, [], ◌∷◌, ◌++◌, All, length, Option, Some, None, option_map, refl, sym, ap, ◌∙◌, subst, append_assoc, length-append, arith}
+use Rattle.std.proofs.Common.{◌≡◌, ℕ, suc, ◌+◌, ◌-◌, ◌==◌, ◌||◌, Bool, true, false, nat_lt, if◌then◌else◌, List, [], ◌∷◌, ◌++◌, All, length, Some, None, option_map, refl, sym, ap, ◌∙◌, subst, append_assoc, length-append, arith}
 use Rattle.std.specs.Prelude.{slice_set}
 use Rattle.std.specs.List.{concat}
 use Rattle.std.proofs.Math.Seq.{set-append_seam}
 use Rattle.std.proofs.lemmas.Bool.{eqb-true, ne_eqb}
-use Rattle.f11_store.specs.Changes.{EntersAt, EntersAtEnd, Grows, file_created, grown_file, with_block, with_change, with_end_after, with_entry, with_replacement}
-use Rattle.f11_store.specs.Directory.{entry_count, index_of_empty, needs_block, record_bytes}
-use Rattle.f11_store.specs.File.{File, zero_blocks}
+use Rattle.f11_store.specs.Changes.{Lengthens, file_created, grown_file, with_block, with_change, with_replacement}
+use Rattle.f11_store.specs.Directory.{index_of_empty, record_bytes}
+use Rattle.f11_store.specs.File.{File, need, zero_blocks}
 use Rattle.f11_store.specs.Ident.{ident_with}
 use Rattle.f11_store.specs.Step.{next_id}
+use Rattle.f11_store.specs.Headroom.{slots_first}
+use Rattle.f11_store.specs.Causes.{first_refusal, is_bad}
 use Rattle.f11_store.specs.Store.{Store, file_named, id_held, id_in, least_free}
 use Rattle.f11_store.specs.declared.callers.Uic.{Uic}
 use Rattle.f11_store.specs.declared.files.Change.TheVariants as change
 use Rattle.f11_store.specs.declared.files.FileId.{FileId}
 use Rattle.f11_store.specs.declared.requests.Request.TheVariants as request
-use Rattle.f11_store.proofs.StoreLemmas.{same_number}
+use Rattle.f11_store.proofs.SlotsFirst.{gained-is-ready, no_index}
+use Rattle.f11_store.proofs.StoreLemmas.{none_first, none_rest, same_number}
+use Rattle.f11_store.specs.declared.refusals.Refusal.TheVariants.{BadArgument, SystemFile}
 use Rattle.f11_runs.proofs.AccessLemmas.{true-false}
 use Rattle.rt11_volume.specs.Files.{file_area}
 use Rattle.rt11_volume.specs.Store.{RtStore}
 use Rattle.f11_flx.specs.Asking.{Granted, Grants, Who, asks, plain, writes, writes_of}
-use Rattle.f11_flx.specs.CopyFromRt.{CopiesFromRt, Making, as_file, creation, entry, filling, giving_up, making_of, opening}
+use Rattle.f11_flx.specs.CopyFromRt.{CopiesFromRt, Making, as_file, creation, entry, filling, giving_up, making_of, new_id, opening}
 use Rattle.f11_flx.specs.Making.{extension}
 use Rattle.f11_flx.specs.MakingLaws.{CopiedHolds, GrantedIsMade, HasCopyOf, HasMadeFile}
 use Rattle.f11_flx.specs.declared.mode.CopyMode.{CopyMode}
 use Rattle.f11_flx.proofs.ApartLemmas.{apart-from, copy-is-none}
 use Rattle.f11_flx.proofs.AskingLemmas.{granted-parts}
+use Rattle.f11_flx.proofs.GainedLemmas.{enters-from, index-stays, index-then, not-index, ready-id, ready-slots}
 use Rattle.f11_flx.proofs.NewLemmas.{IsNewIn, IsOpenIn, closed, given-back, holds, length-zeros, new-made, written}
 use Rattle.f11_flx.proofs.UndoneLemmas.{extension-stays, writes-stay}
 
@@ -40,17 +45,21 @@ record IsSuch (making : Making) (caller : Uic) (blocks : List (List ℕ)) (k : �
 such-stays : (making : Making) (caller : Uic) (blocks : List (List ℕ)) (k : ℕ) (t u : Store) → u.file k ≡ t.file k → IsSuch making caller blocks k t → IsSuch making caller blocks k u
 such-stays making caller blocks k t u same h = record { file = h.file; there = same ∙ h.there; blocks_are = h.blocks_are; attr_is = h.attr_is; ident_is = h.ident_is; owner_is = h.owner_is }
 
-such-created : (making : Making) (who : Who) (s t : Store) → Granted plain who (creation making (next_id s)) s t → IsSuch making who.caller [] (next_id s).number t
+such-created : (making : Making) (who : Who) (s t : Store) → Granted plain who (creation making (new_id s)) s t → IsSuch making who.caller [] (new_id s).number t
 such-created making who s t h =
-    let file : File = file_created s (least_free s) who.caller 0 (ident_with making.name) making.attr in
-    record {
+    let made = h.1.2.changes in
+    let r : Store = made.ready in
+    let file : File = file_created r (least_free r) who.caller 0 (ident_with making.name) making.attr in
+    let is : new_id s ≡ next_id r = ready-id s r (slots_first s 1) (gained-is-ready s r 1 made.gains) in
+    subst (λ (i : FileId). IsSuch making who.caller [] i.number t) (sym is)
+    (record {
       file = file;
-      there = ap (λ (x : Store). x.file (least_free s)) (h.2 ∙ h.1.2.changes) ∙ ap (λ b. if b then Some file else s.file (least_free s)) (same_number (least_free s));
+      there = ap (λ (x : Store). x.file (least_free r)) (h.2 ∙ made.makes) ∙ ap (λ b. if b then Some file else r.file (least_free r)) (same_number (least_free r));
       blocks_are = refl;
       attr_is = refl;
       ident_is = refl;
       owner_is = refl;
-    }
+    })
 
 module _ (making : Making) (who : Who) (lun : ℕ) (id : FileId) (s : Store) where
   -- blocks are allocated
@@ -70,13 +79,17 @@ module _ (making : Making) (who : Who) (lun : ℕ) (id : FileId) (s : Store) whe
           subst (λ l. IsSuch making who.caller l id.number u) (none n (eqb-true n 0 is)) k
       by false is g =
           let at : id_held t who.task lun ≡ id = ap id_in (holds who.caller id s who lun t o) in
-          let grows : Grows t id.number n (zero_blocks n) g.0 = subst (λ (i : FileId). Grows t i.number n (zero_blocks n) g.0) at g.1.3.changes in
-          let before : Some grows.before ≡ Some h.file = sym grows.was ∙ h.there in
+          let longer : Lengthens t id n g.0 = subst (λ (i : FileId). Lengthens t i n g.0) at g.1.3.changes in
+          let r : Store = longer.ready in
+          let grows = longer.makes in
+          let stays : r.file id.number ≡ t.file id.number =
+          (gained-is-ready t r (need (file_named t id).room n) longer.gains).others id.number (not-index id.number 6 (omega arith) o.low) in
+          let before : Some grows.before ≡ Some h.file = sym grows.was ∙ stays ∙ h.there in
           let same : grows.before ≡ h.file = cc in
-          let grown : File = grown_file t grows.before (zero_blocks n) grows.added grows.pointers grows.room in
+          let grown : File = grown_file r grows.before (zero_blocks n) grows.added grows.pointers grows.room in
           record {
             file = grown;
-            there = ap (λ (x : Store). x.file id.number) (g.2 ∙ grows.store_is) ∙ ap (λ b. if b then Some grown else t.file id.number) (same_number id.number);
+            there = ap (λ (x : Store). x.file id.number) (g.2 ∙ grows.store_is) ∙ ap (λ b. if b then Some grown else r.file id.number) (same_number id.number);
             blocks_are = ap (λ (f : File). f.blocks ++ zero_blocks n) same ∙ ap (λ l. l ++ zero_blocks n) h.blocks_are;
             attr_is = ap (λ (f : File). f.attr) same ∙ h.attr_is;
             ident_is = ap (λ (f : File). f.ident) same ∙ h.ident_is;
@@ -114,24 +127,9 @@ module _ (making : Making) (who : Who) (lun : ℕ) (id : FileId) (s : Store) whe
       (subst (λ n. Granted plain who (writes_of lun n more) g.0 u) (sym next) g.2) in
       subst (λ l. IsSuch making who.caller l id.number u) (append_assoc front (x ∷ []) more) rest
 
--- all but the directory stays where a name is entered
-entered-other : (o : Option ℕ) (t u : Store) (d : FileId) (r : List ℕ) (k : ℕ) → (k == d.number) ≡ false → EntersAt o t d r u → u.file k ≡ t.file k
-entered-other (Some i) t u d r k apart e = ap (λ (x : Store). x.file k) e ∙ ap (λ b. if b then option_map (with_entry i r) (t.file d.number) else t.file k) apart
-entered-other None t u d r k apart e = by (needs_block (file_named t d)) e
-  where
-    by : (b : Bool) → EntersAtEnd b t d.number (entry_count (file_named t d)) r u → u.file k ≡ t.file k
-    by false e = ap (λ (x : Store). x.file k) e ∙ ap (λ b. if b then option_map (λ g. with_end_after (entry_count (file_named t d)) (with_entry (entry_count (file_named t d)) r g)) (t.file d.number) else t.file k) apart
-    by true e =
-        let grown : e.0.file k ≡ t.file k = ap (λ (x : Store). x.file k) e.1.store_is ∙ ap (λ b. if b then Some (grown_file t e.1.before (zero_blocks 1) e.1.added e.1.pointers e.1.room) else t.file k) apart in
-        ap (λ (x : Store). x.file k) e.2 ∙ ap (λ b. if b then option_map (λ g. with_end_after (entry_count (file_named t d)) (with_entry (entry_count (file_named t d)) r g)) (e.0.file d.number) else e.0.file k) apart ∙ grown
-
-entered-access : (o : Option ℕ) (t u : Store) (d : FileId) (r : List ℕ) (task lun : ℕ) → EntersAt o t d r u → u.access task lun ≡ t.access task lun
-entered-access (Some i) t u d r task lun e = ap (λ (x : Store). x.access task lun) e
-entered-access None t u d r task lun e = by (needs_block (file_named t d)) e
-  where
-    by : (b : Bool) → EntersAtEnd b t d.number (entry_count (file_named t d)) r u → u.access task lun ≡ t.access task lun
-    by false e = ap (λ (x : Store). x.access task lun) e
-    by true e = ap (λ (x : Store). x.access task lun) e.2 ∙ ap (λ (x : Store). x.access task lun) e.1.store_is
+-- a name isn't entered into the index file
+entered-own : (who : Who) (d : FileId) (name : List ℕ) (id : FileId) (t : Store) → first_refusal t who.task who.caller (request.Enter d name id) ≡ None → (d.number == 1) ≡ false
+entered-own who d name id t none = no_index d (none_first (nat_lt d.number 4) SystemFile _ (none_rest (is_bad d || is_bad id) BadArgument _ none))
 
 -- a file that is filled and closed, and then entered and protected
 made-of : (making : Making) (who : Who) (id : FileId) (s t s' : Store) → (id.number == making.directory.number) ≡ false → IsNewIn who.caller id s.access s t → IsSuch making who.caller making.blocks id.number t →
@@ -139,13 +137,18 @@ made-of : (making : Making) (who : Who) (id : FileId) (s t s' : Store) → (id.n
 made-of making who id s t s' apart h k g =
     let v = g.0 in
     let enters = g.1.3.changes in
-    let o = index_of_empty (file_named t making.directory) in
-    let r = record_bytes id making.name in
+    let d = making.directory in
+    let from = enters-from (index_of_empty (file_named t d)) t v d (record_bytes id making.name) enters in
+    let r : Store = from.ready in
+    let own : (d.number == 1) ≡ false = entered-own who d making.name id t g.1.3.no_cause in
+    let late : (id.number == 1) ≡ false = not-index id.number 6 (omega arith) h.low in
     let protect = with_replacement (change.Protect making.protection) in
     let last : s' ≡ with_change v id.number protect = g.2.2 ∙ g.2.1.3.changes in
     let files : Some k.file ≡ Some h.file = sym k.there ∙ h.there in
     let same : k.file ≡ h.file = cc in
-    let here : v.file id.number ≡ Some k.file = entered-other o t v making.directory r id.number apart enters ∙ k.there in
+    let here : v.file id.number ≡ Some k.file = from.others id.number apart ∙ from.is-ready.others id.number late ∙ k.there in
+    let index-file : s'.file 1 ≡ r.file 1 =
+    ap (λ (x : Store). x.file 1) last ∙ ap (λ b. if b then option_map protect (v.file id.number) else v.file 1) (other-way id.number 1 late) ∙ from.others 1 (other-way d.number 1 own) in
     record {
       file = protect k.file;
       sequence_is = ap (λ (f : File). f.sequence) same ∙ h.sequence;
@@ -159,13 +162,16 @@ made-of making who id s t s' apart h k g =
       entered = record {
         before = t;
         after = v;
-        as_before = h.others making.directory.number (other-way id.number making.directory.number apart);
+        as_before = h.others d.number (other-way id.number d.number apart) own;
         enters = enters;
-        as_after = ap (λ (x : Store). x.file making.directory.number) last ∙ ap (λ b. if b then option_map protect (v.file id.number) else v.file making.directory.number) (other-way id.number making.directory.number apart);
+        as_after = ap (λ (x : Store). x.file d.number) last ∙ ap (λ b. if b then option_map protect (v.file id.number) else v.file d.number) (other-way id.number d.number apart);
       };
-      others = λ n a b.
-          ap (λ (x : Store). x.file n) last ∙ ap (λ c. if c then option_map protect (v.file id.number) else v.file n) a ∙ entered-other o t v making.directory r n b enters ∙ h.others n a;
-      access = λ task lun. ap (λ (x : Store). x.access task lun) last ∙ entered-access o t v making.directory r task lun enters ∙ h.access task lun;
+      others = λ n a b other.
+          ap (λ (x : Store). x.file n) last ∙ ap (λ c. if c then option_map protect (v.file id.number) else v.file n) a ∙ from.others n b ∙ from.is-ready.others n other ∙ h.others n a other;
+      added = h.added + from.added;
+      index = index-stays s r s' (h.added + from.added) index-file (index-then s t r h.added from.added h.index from.index);
+      slots = omega (arith, ap (λ (x : Store). x.slots) last, from.slots, ready-slots t r from.added from.is-ready, h.slots);
+      access = λ task lun. ap (λ (x : Store). x.access task lun) last ∙ ap (λ a. a task lun) (from.access ∙ from.is-ready.access) ∙ h.access task lun;
     }
   where
     other-way : (a b : ℕ) → (a == b) ≡ false → (b == a) ≡ false
@@ -174,13 +180,13 @@ made-of making who id s t s' apart h k g =
 -- what was granted up to the entry: a file was filled and closed
 record IsFilled (making : Making) (who : Who) (s s' : Store) : Type 0 where
   pub before : Store
-  pub new : IsNewIn who.caller (next_id s) s.access s before
-  pub such : IsSuch making who.caller making.blocks (next_id s).number before
-  pub entered : Granted plain who (entry making (next_id s)) before s'
+  pub new : IsNewIn who.caller (new_id s) s.access s before
+  pub such : IsSuch making who.caller making.blocks (new_id s).number before
+  pub entered : Granted plain who (entry making (new_id s)) before s'
 
-granted-is-filled : (making : Making) (who : Who) (lun : ℕ) (s s' : Store) → Granted plain who (making_of making lun (next_id s)) s s' → IsFilled making who s s'
+granted-is-filled : (making : Making) (who : Who) (lun : ℕ) (s s' : Store) → Granted plain who (making_of making lun (new_id s)) s s' → IsFilled making who s s'
 granted-is-filled making who lun s s' g =
-    let id : FileId = next_id s in
+    let id : FileId = new_id s in
     let one = granted-parts plain who (creation making id) (opening lun id ++ (filling lun making.blocks ++ entry making id)) s s' g in
     let two = granted-parts plain who (opening lun id) (filling lun making.blocks ++ entry making id) one.0 s' one.2 in
     let three = granted-parts plain who (filling lun making.blocks) (entry making id) two.0 s' two.2 in
@@ -212,17 +218,17 @@ granted-is-filled making who lun s s' g =
 pub granted-is-made : GrantedIsMade
 granted-is-made making who lun s s' apart g =
     let f = granted-is-filled making who lun s s' g in
-    made-of making who (next_id s) s f.before s' apart f.new f.such f.entered
+    made-of making who (new_id s) s f.before s' apart f.new f.such f.entered
 
 -- a copy is never entered into itself, and what it makes holds it
 pub copy-of : (m : CopyMode) (name : List ℕ) (who : Who) (lun : ℕ) (dir : FileId) (to : List ℕ) (protection blocks : ℕ) (t : RtStore) (s s' : Store) → (h : CopiesFromRt m name who lun dir to protection blocks t s s') →
-    HasCopyOf m name (as_file to dir protection h.attr h.pieces) who.caller (next_id s) blocks t s s'
+    HasCopyOf m name (as_file to dir protection h.attr h.pieces) who.caller (new_id s) blocks t s s'
 copy-of m name who lun dir to protection blocks t s s' h =
     let making = as_file to dir protection h.attr h.pieces in
     let f = granted-is-filled making who lun s s' h.asked in
     let none = copy-is-none m (file_area h.has.file).contents h.has.copy f.such.file h.has.converted (f.such.attr_is ∙ h.has.attr_is) in
-    let apart = apart-from who (next_id s) dir to f.such.file f.before f.entered.0 f.such.there none f.entered.1 in
-    let made = made-of making who (next_id s) s f.before s' apart f.new f.such f.entered in
+    let apart = apart-from who (new_id s) dir to f.such.file f.before f.entered.0 f.such.there none f.entered.1 in
+    let made = made-of making who (new_id s) s f.before s' apart f.new f.such f.entered in
     record {
       source = h.has.file;
       copy = h.has.copy;

@@ -5,13 +5,14 @@ use Rattle.std.proofs.lemmas.Bool.{and_parts, eq-eqb, eqb-true, le-ltb, ltb-fals
 use Rattle.std.proofs.lemmas.List.{length-replicate, length-set}
 use Rattle.f11_bytes.specs.Block.{zero_block}
 use Rattle.f11_store.specs.Accesses.{FreeIsEmpty}
-use Rattle.f11_store.specs.Causes.{Cause, ◌⇐◌, first_of, first_refusal, cannot_write, holds_none, is_bad, is_missing, lacks}
-use Rattle.f11_store.specs.Changes.{Grows, after_giving_up, file_created, grown_file, is_due, is_in, next_sequence, with_access, with_block, with_change, with_grown_file, with_marked_file, with_new_file, without_file, without_file_at}
+use Rattle.f11_store.specs.Causes.{Cause, ◌⇐◌, create_causes, first_of, first_refusal, cannot_write, holds_none, is_bad, is_missing, lacks}
+use Rattle.f11_store.specs.Changes.{Extends, Lengthens, after_giving_up, file_created, grown_file, is_due, is_in, next_sequence, with_access, with_block, with_change, with_grown_file, with_marked_file, with_new_file, without_file, without_file_at}
 use Rattle.f11_store.specs.File.{File, is_marked, length_of, need, no_file, zero_blocks}
+use Rattle.f11_store.specs.Headroom.{slots_first}
 use Rattle.f11_store.specs.Ident.{ident_with}
 use Rattle.f11_store.specs.Rights.{is_of, may}
 use Rattle.f11_store.specs.Step.{MayRefuse, next_id}
-use Rattle.f11_store.specs.Store.{Access, Store, file_named, file_of, free_headers, free_slots, file_held, id_held, id_in, is_accessed, is_held, is_to, least_free}
+use Rattle.f11_store.specs.Store.{Access, Store, file_named, file_of, free_slots, file_held, id_held, id_in, is_accessed, is_held, is_to, least_free}
 use Rattle.f11_store.specs.declared.callers.Uic.{Uic}
 use Rattle.f11_store.specs.declared.files.FileId.{FileId}
 use Rattle.f11_store.specs.declared.files.Mode.{Mode}
@@ -19,20 +20,23 @@ use Rattle.f11_store.specs.declared.files.Mode.TheVariants as mode
 use Rattle.f11_store.specs.declared.protection.Class.TheVariants as class
 use Rattle.f11_store.specs.declared.protection.Right.TheVariants as right
 use Rattle.f11_store.specs.declared.refusals.Refusal.{Refusal}
-use Rattle.f11_store.specs.declared.refusals.Refusal.TheVariants.{BadArgument, DeviceFull, LunInUse, Marked, NoHeader, NoPrivilege, NoSuchAccess, NoSuchFile, SystemFile, TooManySegments}
+use Rattle.f11_store.specs.declared.refusals.Refusal.TheVariants.{BadArgument, DeviceFull, LunInUse, Marked, NoPrivilege, NoSuchAccess, NoSuchFile, SystemFile, TooManySegments}
 use Rattle.f11_store.specs.declared.requests.Request.TheVariants as request
 use Rattle.f11_store.proofs.FateLaws.{mark-of-cleared}
 use Rattle.f11_store.proofs.FileLaws.{least_free_is_free}
+use Rattle.f11_store.proofs.SlotsFirst.{gained-is-ready}
+use Rattle.f11_store.specs.SlotsFirst.{IsReady}
 use Rattle.f11_store.proofs.StoreLemmas.{none_first, none_rest, same_number}
 use Rattle.f11_runs.specs.Standing.{AccessesStand, is_lost}
 use Rattle.f11_runs.proofs.AccessLemmas.{held-none, there-file, there-is, true-false}
 use Rattle.f11_runs.proofs.SlotLists.{in-one, in-two, taken-free}
 use Rattle.f11_flx.specs.Asking.{Denies, Granted, Grants, Who, asks, plain, writes}
-use Rattle.f11_flx.specs.CopyFromRt.{IsAsBefore, Making, creation}
+use Rattle.f11_flx.specs.CopyFromRt.{IndexAfter, IsAsBefore, Making, creation}
 use Rattle.f11_flx.proofs.FromRtLemmas.{created-next}
+use Rattle.f11_flx.proofs.GainedLemmas.{index-gained, index-stays, index-then, not-index, ready-id, ready-last, ready-slots}
 use Rattle.f11_flx.proofs.SmallLemmas.{bad-not}
 
--- A store is s with one file more, which is the caller's and bars nobody; accesses are these.
+-- A store is s with one file more, which is the caller's and bars nobody, and with slots that its index file got first; accesses are these.
 pub record IsNewIn (caller : Uic) (id : FileId) (accesses : ℕ → ℕ → Option Access) (s t : Store) : Type 0 where
   pub file : File
   pub there : t.file id.number ≡ Some file
@@ -41,14 +45,16 @@ pub record IsNewIn (caller : Uic) (id : FileId) (accesses : ℕ → ℕ → Opti
   pub open-to : file.protection ≡ 0
   pub unmarked : is_marked file ≡ false
   pub unused : s.in_use id.number ≡ false
-  pub others : (n : ℕ) → (n == id.number) ≡ false → t.file n ≡ s.file n
-  pub free : t.free + length_of file ≡ s.free
-  pub slots : t.slots ≡ s.slots
+  pub others : (n : ℕ) → (n == id.number) ≡ false → (n == 1) ≡ false → t.file n ≡ s.file n
+  pub added : ℕ
+  pub index : IndexAfter s t added
+  pub free : t.free + (length_of file + added) ≡ s.free
+  pub slots : t.slots ≡ s.slots + added
   pub bitmap-blocks : t.bitmap_blocks ≡ s.bitmap_blocks
   pub index-bitmap-blocks : t.index_bitmap_blocks ≡ s.index_bitmap_blocks
   pub limit : t.limit ≡ s.limit
   pub in-use : (n : ℕ) → (not (is_in file.held n) && t.in_use n) ≡ s.in_use n
-  pub last : (n : ℕ) → s.in_use n ≡ true → t.last n ≡ s.last n
+  pub last : (n : ℕ) → s.in_use n ≡ true → n ≤ s.slots → t.last n ≡ s.last n
   pub low : 6 ≤ id.number
   pub volume : id.volume ≡ 0
   pub access : (task lun : ℕ) → t.access task lun ≡ accesses task lun
@@ -88,48 +94,90 @@ pub unaccessed : (test : Mode → Bool) (s t : Store) (id : FileId) → Accesses
 unaccessed test s t id stand none same =
     held-none test t id (λ task lun low small. ap (λ o. is_to test id o) (same task lun) ∙ unheld test s id stand none task lun low small)
 
+-- the slot of a new file isn't the index file's
+other-index : (n : ℕ) → 6 ≤ n → (1 == n) ≡ false
+other-index n low = ne_eqb 1 n (λ is. omega (arith, is, low))
+
+-- blocks for the slots that come first are free
+create-fits : (s : Store) → first_of (create_causes s) ≡ None → slots_first s 1 ≤ s.free
+create-fits s none = let free : nat_lt s.free (0 + slots_first s 1) ≡ false = none_first (nat_lt s.free (0 + slots_first s 1)) DeviceFull _ none in omega (arith, ltb-false s.free (0 + slots_first s 1) free)
+
 -- the file that was created
 pub new-made : (making : Making) (id : FileId) (who : Who) (s t : Store) → Granted plain who (creation making id) s t → IsNewIn who.caller id s.access s t
 new-made making id who s t h =
     let step = h.1.2 in
-    let is : id ≡ next_id s = created-next making id who s t h in
-    let free = least_free_is_free s (none_first (free_headers s == 0) NoHeader None step.no_cause) in
-    let same : t ≡ with_new_file s (least_free s) (file_created s (least_free s) who.caller 0 (ident_with making.name) making.attr) = h.2 ∙ step.changes in
-    subst (λ i. IsNewIn who.caller i s.access s t) (sym is) (subst (λ x. IsNewIn who.caller (next_id s) s.access s x) (sym same) (record {
-      file = file_created s (least_free s) who.caller 0 (ident_with making.name) making.attr;
-      there = ap (λ b. if b then Some (file_created s (least_free s) who.caller 0 (ident_with making.name) making.attr) else s.file (least_free s)) (same_number (least_free s));
+    let made = step.changes in
+    let r : Store = made.ready in
+    let ready : IsReady s (slots_first s 1) r = gained-is-ready s r 1 made.gains in
+    let is : id ≡ next_id r = created-next making id who s t h ∙ ready-id s r (slots_first s 1) ready in
+    let free = least_free_is_free r made.enough in
+    let fits : slots_first s 1 ≤ s.free = create-fits s step.no_cause in
+    let file : File = file_created r (least_free r) who.caller 0 (ident_with making.name) making.attr in
+    let same : t ≡ with_new_file r (least_free r) file = h.2 ∙ made.makes in
+    let unused : s.in_use (least_free r) ≡ false = sym (ap (λ (used : ℕ → Bool). used (least_free r)) ready.in_use) ∙ free.unused in
+    subst (λ i. IsNewIn who.caller i s.access s t) (sym is) (subst (λ x. IsNewIn who.caller (next_id r) s.access s x) (sym same) (record {
+      file = file;
+      there = ap (λ b. if b then Some file else r.file (least_free r)) (same_number (least_free r));
       sequence = refl;
       owner = refl;
       open-to = refl;
       unmarked = refl;
-      unused = free.unused;
-      others = λ n apart. ap (λ b. if b then Some (file_created s (least_free s) who.caller 0 (ident_with making.name) making.attr) else s.file n) apart;
-      free = omega arith;
-      slots = refl;
-      bitmap-blocks = refl;
-      index-bitmap-blocks = refl;
-      limit = refl;
-      in-use = λ n. used n (is_in (least_free s ∷ []) n) refl free.unused;
-      last = λ n used. kept n (is_in (least_free s ∷ []) n) refl used free.unused;
+      unused = unused;
+      others = λ n apart other. ap (λ b. if b then Some file else r.file n) apart ∙ ready.others n other;
+      added = slots_first s 1;
+      index = index-stays s r (with_new_file r (least_free r) file) (slots_first s 1) (ap (λ b. if b then Some file else r.file 1) (other-index (least_free r) free.low)) (index-gained s r 1 made.gains);
+      free = omega (arith, fits, ready.free);
+      slots = ready-slots s r (slots_first s 1) ready;
+      bitmap-blocks = ready.limits.bitmap_blocks;
+      index-bitmap-blocks = ready.limits.index_bitmap_blocks;
+      limit = ready.limits.limit;
+      in-use = λ n. used r n (is_in (least_free r ∷ []) n) refl free.unused ∙ ap (λ (used : ℕ → Bool). used n) ready.in_use;
+      last = λ n used within. kept r n (is_in (least_free r ∷ []) n) refl (ap (λ (is : ℕ → Bool). is n) ready.in_use ∙ used) free.unused ∙ ready-last s r (slots_first s 1) n ready within;
       low = free.low;
       volume = refl;
-      access = λ task lun. refl;
+      access = λ task lun. ap (λ (a : ℕ → ℕ → Option Access). a task lun) ready.access;
     }))
   where
-    used : (n : ℕ) (b : Bool) → is_in (least_free s ∷ []) n ≡ b → s.in_use (least_free s) ≡ false → (not b && (b || s.in_use n)) ≡ s.in_use n
-    used n true in-it free = sym (ap s.in_use (sym (in-one (least_free s) n in-it)) ∙ free)
-    used n false in-it free = refl
+    used : (r : Store) (n : ℕ) (b : Bool) → is_in (least_free r ∷ []) n ≡ b → r.in_use (least_free r) ≡ false → (not b && (b || r.in_use n)) ≡ r.in_use n
+    used r n true in-it free = sym (ap r.in_use (sym (in-one (least_free r) n in-it)) ∙ free)
+    used r n false in-it free = refl
 
-    kept : (n : ℕ) (b : Bool) → is_in (least_free s ∷ []) n ≡ b → s.in_use n ≡ true → s.in_use (least_free s) ≡ false → (if b then next_sequence (s.last n) else s.last n) ≡ s.last n
-    kept n true in-it used free = absurd (true-false (sym used ∙ ap s.in_use (sym (in-one (least_free s) n in-it)) ∙ free))
-    kept n false in-it used free = refl
+    kept : (r : Store) (n : ℕ) (b : Bool) → is_in (least_free r ∷ []) n ≡ b → r.in_use n ≡ true → r.in_use (least_free r) ≡ false → (if b then next_sequence (r.last n) else r.last n) ≡ r.last n
+    kept r n true in-it used free = absurd (true-false (sym used ∙ ap r.in_use (sym (in-one (least_free r) n in-it)) ∙ free))
+    kept r n false in-it used free = refl
 
--- so many blocks are free as are asked for
-enough-free : (t : Store) (who : Who) (lun n : ℕ) → first_refusal t who.task who.caller (request.Extend lun n) ≡ None → n ≤ t.free
+-- where the index file gets slots, so it is
+gained-new : (caller : Uic) (id : FileId) (accesses : ℕ → ℕ → Option Access) (s t u : Store) (n : ℕ) → n ≤ t.free → IsReady t n u → IndexAfter t u n → IsNewIn caller id accesses s t → IsNewIn caller id accesses s u
+gained-new caller id accesses s t u n fits ready index h = record {
+  file = h.file;
+  there = ready.others id.number (not-index id.number 6 (omega arith) h.low) ∙ h.there;
+  sequence = h.sequence;
+  owner = h.owner;
+  open-to = h.open-to;
+  unmarked = h.unmarked;
+  unused = h.unused;
+  others = λ m apart other. ready.others m other ∙ h.others m apart other;
+  added = h.added + n;
+  index = index-then s t u h.added n h.index index;
+  free = omega (arith, h.free, ready.free, fits);
+  slots = omega (arith, h.slots, ready-slots t u n ready);
+  bitmap-blocks = ready.limits.bitmap_blocks ∙ h.bitmap-blocks;
+  index-bitmap-blocks = ready.limits.index_bitmap_blocks ∙ h.index-bitmap-blocks;
+  limit = ready.limits.limit ∙ h.limit;
+  in-use = λ m. ap (λ (used : ℕ → Bool). not (is_in h.file.held m) && used m) ready.in_use ∙ h.in-use m;
+  last = λ m used within. ready-last t u n m ready (omega (arith, within, h.slots)) ∙ h.last m used within;
+  low = h.low;
+  volume = h.volume;
+  access = λ task lun. ap (λ (a : ℕ → ℕ → Option Access). a task lun) ready.access ∙ h.access task lun;
+}
+
+-- so many blocks are free as are asked for, and as the slots that come first take
+enough-free : (t : Store) (who : Who) (lun n : ℕ) → first_refusal t who.task who.caller (request.Extend lun n) ≡ None → n + slots_first t (need (file_held t who.task lun).room n) ≤ t.free
 enough-free t who lun n none =
+    let headers : ℕ = need (file_held t who.task lun).room n in
     let growth = none_rest (lacks right.Extend who.caller (file_held t who.task lun)) NoPrivilege _ (none_rest (cannot_write t who.task lun) NoSuchAccess _ (none_rest (n == 0) BadArgument _ none)) in
-    let free = none_first (nat_lt t.free n) DeviceFull _ (none_rest (nat_lt 256 (length (file_held t who.task lun).held + need (file_held t who.task lun).room n)) TooManySegments _ growth) in
-    ltb-false t.free n free
+    let free = none_first (nat_lt t.free (n + slots_first t headers)) DeviceFull _ (none_rest (nat_lt 256 (length (file_held t who.task lun).held + headers)) TooManySegments _ growth) in
+    ltb-false t.free (n + slots_first t headers) free
 
 pub length-zeros : (n : ℕ) → length (zero_blocks n) ≡ n
 unfolding zero_blocks
@@ -173,7 +221,7 @@ module _ (caller : Uic) (id : FileId) (s : Store) where
   -- so it isn't refused
   pub undenied-delete : (who : Who) (t u : Store) (e : Refusal) → who.caller ≡ caller → AccessesStand s → IsNewIn caller id s.access s t → Denies plain who (asks (request.Delete id)) e t u → ⊥
   undenied-delete who t u e is stand h d =
-      subst (λ o. MayRefuse o (request.Delete id) e) (subst (λ c. first_refusal t who.task c (request.Delete id) ≡ None) (sym is) (deletable t who.task stand h)) d.2.may_refuse
+      subst (λ o. MayRefuse o false e) (subst (λ c. first_refusal t who.task c (request.Delete id) ≡ None) (sym is) (deletable t who.task stand h)) d.2.may_refuse
 
   pub deleted : (who : Who) (t u : Store) → FreeIsEmpty s → AccessesStand s → IsNewIn caller id s.access s t → Grants plain who (asks (request.Delete id)) t u → IsAsBefore s u
   deleted who t u tidy stand h g =
@@ -182,8 +230,10 @@ module _ (caller : Uic) (id : FileId) (s : Store) where
       let gone : u ≡ without_file_at t id.number = g.3.changes ∙ ap (λ b. if b then with_marked_file t id.number else without_file_at t id.number) nobody in
       let same : u ≡ without_file t id.number h.file = gone ∙ ap (λ o. without_file t id.number (unwrap_or o no_file)) h.there in
       subst (λ x. IsAsBefore s x) (sym same) (record {
-        file = λ n. at n (n == id.number) refl;
-        free = h.free;
+        added = h.added;
+        file = λ n other. at n (n == id.number) refl other;
+        index = index-stays s t (without_file t id.number h.file) h.added (ap (λ b. if b then None else t.file 1) (other-index id.number h.low)) h.index;
+        free = omega (arith, h.free);
         slots = h.slots;
         bitmap_blocks = h.bitmap-blocks;
         index_bitmap_blocks = h.index-bitmap-blocks;
@@ -193,9 +243,9 @@ module _ (caller : Uic) (id : FileId) (s : Store) where
         access = h.access;
       })
     where
-      at : (n : ℕ) (b : Bool) → (n == id.number) ≡ b → (if b then None else t.file n) ≡ s.file n
-      at n true is = sym (ap s.file (eqb-true n id.number is) ∙ tidy id.number h.unused)
-      at n false is = h.others n is
+      at : (n : ℕ) (b : Bool) → (n == id.number) ≡ b → (n == 1) ≡ false → (if b then None else t.file n) ≡ s.file n
+      at n true is other = sym (ap s.file (eqb-true n id.number is) ∙ tidy id.number h.unused)
+      at n false is other = h.others n is other
 
   -- it is accessed to be written, by a lun that held nothing
   pub opened : (who : Who) (lun : ℕ) (t u : Store) → IsNewIn caller id s.access s t → Grants plain who (asks (request.Access id mode.Write lun)) t u →
@@ -211,6 +261,8 @@ module _ (caller : Uic) (id : FileId) (s : Store) where
         unmarked = h.unmarked;
         unused = h.unused;
         others = h.others;
+        added = h.added;
+        index = index-stays s t (with_access t who.task lun (Some (record { file = id; mode = mode.Write }))) h.added refl h.index;
         free = h.free;
         slots = h.slots;
         bitmap-blocks = h.bitmap-blocks;
@@ -244,16 +296,13 @@ module _ (caller : Uic) (id : FileId) (s : Store) where
         ∙ ap (λ b. if b && (lun == lun) then Some (record { file = id; mode = mode.Write }) else s.access who.task lun) (same_number who.task)
         ∙ ap (λ b. if b then Some (record { file = id; mode = mode.Write }) else s.access who.task lun) (same_number lun)
 
-    -- it gets blocks
-    pub extended : (n : ℕ) (t u : Store) → IsOpenIn t → Grants plain who (asks (request.Extend lun n)) t u → IsOpenIn u
-    extended n t u h g =
-        let at : id_held t who.task lun ≡ id = ap id_in (holds t h) in
-        let grows : Grows t id.number n (zero_blocks n) u = subst (λ (i : FileId). Grows t i.number n (zero_blocks n) u) at g.3.changes in
+    -- it gets blocks, where headers for them are free
+    grown-open : (n : ℕ) (t u : Store) → n ≤ t.free → IsOpenIn t → Extends t id.number n u → IsOpenIn u
+    grown-open n t u fits h grows =
         let before : Some grows.before ≡ Some h.file = sym grows.was ∙ h.there in
         let same : grows.before ≡ h.file = cc in
         let grown : u ≡ with_grown_file t id.number h.file n (zero_blocks n) grows.added grows.pointers grows.room =
         grows.store_is ∙ ap (λ f. with_grown_file t id.number f n (zero_blocks n) grows.added grows.pointers grows.room) same in
-        let fits : n ≤ t.free = enough-free t who lun n g.3.no_cause in
         let file : File = grown_file t h.file (zero_blocks n) grows.added grows.pointers grows.room in
         let taken : List ℕ = take grows.added (free_slots t) in
         subst IsOpenIn (sym grown) (record {
@@ -264,18 +313,32 @@ module _ (caller : Uic) (id : FileId) (s : Store) where
           open-to = h.open-to;
           unmarked = ap (λ b. b == 1) (mark-of-cleared h.file.characteristics) ∙ h.unmarked;
           unused = h.unused;
-          others = λ m apart. ap (λ b. if b then Some file else t.file m) apart ∙ h.others m apart;
+          others = λ m apart other. ap (λ b. if b then Some file else t.file m) apart ∙ h.others m apart other;
+          added = h.added;
+          index = index-stays s t (with_grown_file t id.number h.file n (zero_blocks n) grows.added grows.pointers grows.room) h.added
+              (ap (λ b. if b then Some file else t.file 1) (other-index id.number h.low)) h.index;
           free = omega (arith, h.free, fits, length-append h.file.blocks (zero_blocks n), length-zeros n);
           slots = h.slots;
           bitmap-blocks = h.bitmap-blocks;
           index-bitmap-blocks = h.index-bitmap-blocks;
           limit = h.limit;
           in-use = λ m. ap (λ b. not b && (is_in taken m || t.in_use m)) (in-two h.file.held taken m) ∙ used-more (is_in h.file.held m) (is_in taken m) (t.in_use m) (s.in_use m) (taken-free t grows.added m) (h.in-use m);
-          last = λ m used. kept-last (is_in taken m) (is_in h.file.held m) (t.in_use m) (t.last m) (s.last m) (taken-free t grows.added m) (h.in-use m ∙ used) (h.last m used);
+          last = λ m used within. kept-last (is_in taken m) (is_in h.file.held m) (t.in_use m) (t.last m) (s.last m) (taken-free t grows.added m) (h.in-use m ∙ used) (h.last m used within);
           low = h.low;
           volume = h.volume;
           access = h.access;
         })
+
+    -- and where the index file gets slots first
+    pub extended : (n : ℕ) (t u : Store) → IsOpenIn t → Grants plain who (asks (request.Extend lun n)) t u → IsOpenIn u
+    extended n t u h g =
+        let at : id_held t who.task lun ≡ id = ap id_in (holds t h) in
+        let headers : ℕ = need (file_named t id).room n in
+        let grows : Lengthens t id n u = subst (λ (i : FileId). Lengthens t i n u) at g.3.changes in
+        let fits : n + slots_first t headers ≤ t.free = subst (λ (i : FileId). n + slots_first t (need (file_named t i).room n) ≤ t.free) at (enough-free t who lun n g.3.no_cause) in
+        let ready : IsReady t (slots_first t headers) grows.ready = gained-is-ready t grows.ready headers grows.gains in
+        let open-then : IsOpenIn grows.ready = gained-new caller id held-now s t grows.ready (slots_first t headers) (omega (arith, fits)) ready (index-gained t grows.ready headers grows.gains) h in
+        grown-open n grows.ready u (omega (arith, fits, ready.free)) open-then grows.makes
 
     -- one of its blocks is written
     pub written : (vbn : ℕ) (block : List ℕ) (t u : Store) → IsOpenIn t → Grants plain who (writes lun vbn block) t u → IsOpenIn u
@@ -291,7 +354,10 @@ module _ (caller : Uic) (id : FileId) (s : Store) where
           open-to = h.open-to;
           unmarked = h.unmarked;
           unused = h.unused;
-          others = λ m apart. ap (λ b. if b then option_map (with_block vbn block) (t.file id.number) else t.file m) apart ∙ h.others m apart;
+          others = λ m apart other. ap (λ b. if b then option_map (with_block vbn block) (t.file id.number) else t.file m) apart ∙ h.others m apart other;
+          added = h.added;
+          index = index-stays s t (with_change t id.number (with_block vbn block)) h.added
+              (ap (λ b. if b then option_map (with_block vbn block) (t.file id.number) else t.file 1) (other-index id.number h.low)) h.index;
           free = omega (arith, h.free, length-set h.file.blocks (vbn - 1) block);
           slots = h.slots;
           bitmap-blocks = h.bitmap-blocks;
@@ -308,7 +374,7 @@ module _ (caller : Uic) (id : FileId) (s : Store) where
     pub undenied-deaccess : (t u : Store) (e : Refusal) → IsOpenIn t → Denies plain who (asks (request.Deaccess lun)) e t u → ⊥
     undenied-deaccess t u e h d =
         let held : holds_none t who.task lun ≡ false = ap (λ o. is_none o) (holds t h) in
-        subst (λ o. MayRefuse o (request.Deaccess lun) e) (none-of (NoSuchAccess ⇐ holds_none t who.task lun) [] held refl) d.2.may_refuse
+        subst (λ o. MayRefuse o false e) (none-of (NoSuchAccess ⇐ holds_none t who.task lun) [] held refl) d.2.may_refuse
 
     pub given-back : (t u : Store) → IsOpenIn t → Grants plain who (asks (request.Deaccess lun)) t u → u ≡ with_access t who.task lun None
     given-back t u h g =
@@ -328,6 +394,8 @@ module _ (caller : Uic) (id : FileId) (s : Store) where
           unmarked = h.unmarked;
           unused = h.unused;
           others = h.others;
+          added = h.added;
+          index = index-stays s t (with_access t who.task lun None) h.added refl h.index;
           free = h.free;
           slots = h.slots;
           bitmap-blocks = h.bitmap-blocks;

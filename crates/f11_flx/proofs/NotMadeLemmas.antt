@@ -4,7 +4,6 @@ use Rattle.f11_dev.specs.Disk.{Disk}
 use Rattle.f11_dev.specs.declared.device.Device.{Ghosts}
 use Rattle.f11_store.specs.Accesses.{FreeIsEmpty}
 use Rattle.f11_store.specs.Ident.{ident_with}
-use Rattle.f11_store.specs.Step.{next_id}
 use Rattle.f11_store.specs.Store.{Store}
 use Rattle.f11_store.specs.declared.files.FileId.{FileId}
 use Rattle.f11_store.specs.declared.files.Mode.TheVariants as access
@@ -17,7 +16,7 @@ use Rattle.rt11_volume.specs.Verifying.Verdict.{IsSoundDisk}
 use Rattle.rt11_volume.specs.declared.volume.RtAccepted.{RtAccepted}
 use Rattle.f11_flx.specs.Asking.{BreaksOff, Denies, Fails, Granted, Service, Who, asks, plain, writes_of}
 use Rattle.f11_flx.specs.Conversion.{copied_from_rt}
-use Rattle.f11_flx.specs.CopyFromRt.{FailsToCopyFromRt, FailsToMakeFile, IsAsBefore, Making, as_file, creation, deletion, entry, filling, giving_up, opening}
+use Rattle.f11_flx.specs.CopyFromRt.{FailsToCopyFromRt, FailsToMakeFile, IsAsBefore, Making, as_file, creation, deletion, entry, filling, giving_up, new_id, opening}
 use Rattle.f11_flx.specs.FromRt.{FailsToCopyFrom}
 use Rattle.f11_flx.specs.Making.{BreaksFilling, FailsToFill, FailsToFillFile, FailsToMakeCopy, Fills, LacksBlock, LacksCopy, extension, filling_of, is_created}
 use Rattle.f11_flx.specs.Refusal.{is_lethal}
@@ -125,7 +124,7 @@ module _ {V E : Type 0} {met : Ghosts E} (S : Service V) (disk : E → Disk) (m 
       ((e : Refusal) (x y : V) → BreaksFilling S disk m who lun name many n e a b x y → BreaksOff S who (filling lun making.blocks) e x y) →
       ((e : Rattle.rt11_volume.specs.declared.refusal.RtRefusal.RtRefusal) (x y : V) → is_fault e ≡ false → LacksBlock S disk who lun name many n e a b x y → ⊥) →
       ((x y : V) → LacksCopy S disk m who lun name many n a b x y → ⊥) →
-      FailsToMakeCopy S disk m who lun name many n making f' a b v w → (e : Refusal) × (f' ≡ Files e) × FailsToMakeFile making who lun (next_id (view v)) e (view v) (view w)
+      FailsToMakeCopy S disk m who lun name many n making f' a b v w → (e : Refusal) × (f' ≡ Files e) × FailsToMakeFile making who lun (new_id (view v)) e (view v) (view w)
   making-refused f' many n making a b v w clean sound tidy stand filled broken unread uncopied (inl h) =
       let d = not-created S who lun view is_sound seen making h.e v w (calm (Files h.e) f' h.is clean) sound h.fails in
       (h.e, h.is, inl (record { reached = view v; left = view w; granted = refl; breaks = inl d; undoes = refl }))
@@ -137,16 +136,16 @@ module _ {V E : Type 0} {met : Ghosts E} (S : Service V) (disk : E → Disk) (m 
       made : IsNewIn who.caller h.id (view v).access (view v) (view h.created) × (is_sound h.created ≡ true) × Granted plain who (creation making h.id) (view v) (view h.created)
       made = now-new S who lun view is_sound seen making h.id v h.created sound h.creates
 
-      next : h.id ≡ next_id (view v)
+      next : h.id ≡ new_id (view v)
       next = created-next making h.id who (view v) (view h.created) made.2
 
-      as-next : (e : Refusal) → f' ≡ Files e → FailsToMakeFile making who lun h.id e (view v) (view w) → (e : Refusal) × (f' ≡ Files e) × FailsToMakeFile making who lun (next_id (view v)) e (view v) (view w)
+      as-next : (e : Refusal) → f' ≡ Files e → FailsToMakeFile making who lun h.id e (view v) (view w) → (e : Refusal) × (f' ≡ Files e) × FailsToMakeFile making who lun (new_id (view v)) e (view v) (view w)
       as-next e is k = (e, is, subst (λ i. FailsToMakeFile making who lun i e (view v) (view w)) next k)
 
       -- it was opened and being filled, and a request was refused
       broke : (f0 : FlxRefusal) (between left : V) → is_lethal f0 ≡ false → h.f ≡ f0 → is_sound between ≡ true → Granted plain who (opening lun h.id) (view h.created) (view between) →
           FailsToFill S disk m who lun name many n f0 a b between left → Granted plain who (giving_up lun ++ deletion h.id) (view left) (view w) →
-          (e : Refusal) × (f' ≡ Files e) × FailsToMakeFile making who lun (next_id (view v)) e (view v) (view w)
+          (e : Refusal) × (f' ≡ Files e) × FailsToMakeFile making who lun (new_id (view v)) e (view v) (view w)
       broke (Files e) between left clean is calm-now opens fails undoes =
           let d = (breaks-sound S view is_sound seen who (filling lun making.blocks) e between left (broken e between left fails) calm-now clean).0 in
           let front = granted-append plain who (creation making h.id) (opening lun h.id) (view v) (view h.created) (view between) made.2 opens in
@@ -155,7 +154,7 @@ module _ {V E : Type 0} {met : Ghosts E} (S : Service V) (disk : E → Disk) (m 
       broke BadRecord between left clean is calm-now opens fails undoes = absurd fails
       broke LineTooLong between left clean is calm-now opens fails undoes = absurd (uncopied between left fails)
 
-      by : FailsToFillFile S disk m who lun name many n h.id h.f a b h.created h.left → (e : Refusal) × (f' ≡ Files e) × FailsToMakeFile making who lun (next_id (view v)) e (view v) (view w)
+      by : FailsToFillFile S disk m who lun name many n h.id h.f a b h.created h.left → (e : Refusal) × (f' ≡ Files e) × FailsToMakeFile making who lun (new_id (view v)) e (view v) (view w)
       by (inl k) =
           let d = seen.denied who (asks (request.Access h.id access.Write lun)) k.e h.created h.left k.denied made.1 (calm (Files k.e) h.f k.is u.clean) in
           let here = subst (λ y. IsNewIn who.caller h.id (view v).access (view v) y) (sym d.0.2.store_stays) made.0 in

@@ -6,9 +6,9 @@ use Rattle.std.specs.Option.{option_and_then}
 use Rattle.std.proofs.lemmas.Bool.{eqb-true}
 use Rattle.std.proofs.lemmas.List.Elements.{All-take}
 use Rattle.f11_store.specs.File.{File, end_of, no_file}
-use Rattle.f11_store.specs.Step.{next_id}
 use Rattle.f11_store.specs.Store.{Store, file_named, of_sequence}
 use Rattle.f11_store.specs.declared.files.FileId.{FileId}
+use Rattle.f11_store.proofs.SlotsFirst.{no_index}
 use Rattle.f11_runs.proofs.AccessLemmas.{there-file, there-is}
 use Rattle.rt11_volume.specs.Files.{HasFile, file_area}
 use Rattle.rt11_volume.specs.Named.{files_named}
@@ -16,7 +16,7 @@ use Rattle.rt11_volume.specs.Store.{Area, RtStore}
 use Rattle.rt11_volume.proofs.Named.Laws.{file-first}
 use Rattle.f11_flx.specs.Asking.{Who}
 use Rattle.f11_flx.specs.Conversion.{Copy, Holds, copied_from_rt, copied_lines, copied_to_rt}
-use Rattle.f11_flx.specs.CopyFromRt.{CopiesFromRt, as_file}
+use Rattle.f11_flx.specs.CopyFromRt.{CopiesFromRt, as_file, new_id}
 use Rattle.f11_flx.specs.Lines.{has_long_line, in_whole_blocks, lines_of, text_of, without_zeros}
 use Rattle.f11_flx.specs.MakingLaws.{HasCopyOf}
 use Rattle.f11_flx.specs.Records.{records_of}
@@ -50,10 +50,10 @@ record IsCopied (m : CopyMode) (name : List ℕ) (t : RtStore) (blocks : ℕ) (f
   pub whole : All (λ block. length block ≡ 512) file.blocks
 
 is-copied : (m : CopyMode) (name : List ℕ) (who : Who) (lun : ℕ) (dir : FileId) (to : List ℕ) (protection blocks : ℕ) (t : RtStore) (s s' : Store) → CopiesFromRt m name who lun dir to protection blocks t s s' →
-    IsCopied m name t blocks (file_named s' (next_id s))
+    IsCopied m name t blocks (file_named s' (new_id s))
 is-copied m name who lun dir to protection blocks t s s' h =
     let c = copy-of m name who lun dir to protection blocks t s s' h in
-    let named = ap (λ (o : Option File). unwrap_or o no_file) (there-file s' (next_id s) (record { file = c.made.file; is = c.made.there; sequence = c.made.sequence_is })) in
+    let named = ap (λ (o : Option File). unwrap_or o no_file) (there-file s' (new_id s) (record { file = c.made.file; is = c.made.there; sequence = c.made.sequence_is })) in
     subst (λ (f : File). IsCopied m name t blocks f) (sym named) (record { source = c.source; copy = c.copy; converted = c.converted; holds = c.holds; blocks_are = c.blocks_are; whole = c.whole })
 
 module _ (source file : File) (name : List ℕ) (t : RtStore) (content : List ℕ) (back : ℕ) where
@@ -105,31 +105,32 @@ file-comes-back m who who' lun lun' source dir name to day protection blocks bac
     bytes : (found : HasFile name t') → concat (file_area found).contents ≡ there.content
     bytes found = ap (λ (a : Area). concat a.contents) (area found) ∙ there.made.content_is
 
-    by : (m : CopyMode) → copied_to_rt m (file_named s source) ≡ Some there.content → IsCopied m name t' back (file_named u' (next_id u)) → IsBack m (file_named s source) (file_named u' (next_id u)) blocks back
+    by : (m : CopyMode) → copied_to_rt m (file_named s source) ≡ Some there.content → IsCopied m name t' back (file_named u' (new_id u)) → IsBack m (file_named s source) (file_named u' (new_id u)) blocks back
     by Image converted k =
-        image-back (file_named s source) (file_named u' (next_id u)) name t' there.content back blocks converted there.blocks_are k (bytes k.source)
+        image-back (file_named s source) (file_named u' (new_id u)) name t' there.content back blocks converted there.blocks_are k (bytes k.source)
         (ap (λ (a : Area). length a.contents) (area k.source) ∙ there.made.blocks_are)
-    by Text converted k = text-back (file_named s source) (file_named u' (next_id u)) name t' there.content back converted k (bytes k.source)
+    by Text converted k = text-back (file_named s source) (file_named u' (new_id u)) name t' there.content back converted k (bytes k.source)
 
 pub source-is-kept : SourceIsKept
-source-is-kept m who who' lun lun' source dir name to day protection blocks back s s' u t t' tidy apart there h = by (source.number == (next_id s).number) refl
+source-is-kept m who who' lun lun' source dir name to day protection blocks back s s' u t t' tidy apart there h = by (source.number == (new_id s).number) refl
   where
-    c : HasCopyOf m name (as_file to dir protection h.attr h.pieces) who'.caller (next_id s') back t' s' u
+    c : HasCopyOf m name (as_file to dir protection h.attr h.pieces) who'.caller (new_id s') back t' s' u
     c = copy-of m name who' lun' dir to protection back t' s' u h
 
     stays : s' ≡ s
     stays = source_stays m who lun source name day blocks s s' t t' there
 
-    by : (b : Bool) → (source.number == (next_id s).number) ≡ b → file_named u source ≡ file_named s source
+    by : (b : Bool) → (source.number == (new_id s).number) ≡ b → file_named u source ≡ file_named s source
     by true same =
         let here = there-is s source (accessed who lun source s there.asked.0 there.asked.1).0.there in
-        let free : s.in_use (next_id s).number ≡ false = subst (λ (x : Store). x.in_use (next_id x).number ≡ false) stays c.made.was_free in
-        let none : s.file source.number ≡ None = tidy source.number (ap s.in_use (eqb-true source.number (next_id s).number same) ∙ free) in
+        let free : s.in_use (new_id s).number ≡ false = subst (λ (x : Store). x.in_use (new_id x).number ≡ false) stays c.made.was_free in
+        let none : s.file source.number ≡ None = tidy source.number (ap s.in_use (eqb-true source.number (new_id s).number same) ∙ free) in
         let some : Some here.file ≡ None = sym here.is ∙ none in
         absurd (cc)
     by false same =
-        let other : (source.number == (next_id s').number) ≡ false = subst (λ (x : Store). (source.number == (next_id x).number) ≡ false) (sym stays) same in
-        let kept : u.file source.number ≡ s.file source.number = c.made.others source.number other apart ∙ ap (λ (x : Store). x.file source.number) stays in
+        let own : (source.number == 1) ≡ false = no_index source (accessed who lun source s there.asked.0 there.asked.1).0.own in
+        let other : (source.number == (new_id s').number) ≡ false = subst (λ (x : Store). (source.number == (new_id x).number) ≡ false) (sym stays) same in
+        let kept : u.file source.number ≡ s.file source.number = c.made.others source.number other apart own ∙ ap (λ (x : Store). x.file source.number) stays in
         ap (λ (o : Option File). unwrap_or (option_and_then (of_sequence source.sequence) o) no_file) kept
 
 module _ (file : File) (name : List ℕ) (t : RtStore) (content : List ℕ) (blocks : ℕ) where
@@ -161,11 +162,11 @@ rt-file-comes-back m who who' lun lun' dir name name' to day protection blocks b
     let k = is-copied m name who lun dir to protection blocks t s s' h in
     record { source = k.source; file = there.made.file; one = there.made.one; back = by m k there.converted }
   where
-    by : (m : CopyMode) → (k : IsCopied m name t blocks (file_named s' (next_id s))) → copied_to_rt m (file_named s' (next_id s)) ≡ Some there.content →
+    by : (m : CopyMode) → (k : IsCopied m name t blocks (file_named s' (new_id s))) → copied_to_rt m (file_named s' (new_id s)) ≡ Some there.content →
         IsRtBack m (file_area k.source).contents there.made.file.contents
     by Image k converted =
-        let content : AreWhole (file_area k.source).contents → concat there.made.file.contents ≡ concat (file_area k.source).contents = λ whole. there.made.content_is ∙ rt-image-back (file_named s' (next_id s)) name t there.content blocks k converted whole in
+        let content : AreWhole (file_area k.source).contents → concat there.made.file.contents ≡ concat (file_area k.source).contents = λ whole. there.made.content_is ∙ rt-image-back (file_named s' (new_id s)) name t there.content blocks k converted whole in
         record { content_is = content; each = λ whole whole'. same-blocks (file_area k.source).contents there.made.file.contents whole whole' (content whole) }
     by Text k converted =
         subst (λ (l : List ℕ). HasTextOf (file_area k.source).contents l) (sym there.made.content_is)
-        (rt-text-back (file_named s' (next_id s)) name t there.content blocks k converted)
+        (rt-text-back (file_named s' (new_id s)) name t there.content blocks k converted)

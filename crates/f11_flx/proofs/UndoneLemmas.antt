@@ -1,5 +1,5 @@
 -- A copy that isn't made, seen as the plain store: all is as before.
-use Rattle.std.proofs.Common.{◌≡◌, ◌⊎◌, inl, inr, ℕ, suc, ◌==◌, Bool, true, false, if◌then◌else◌, List, [], ◌∷◌, ◌++◌, None, refl, sym, ap, ◌∙◌, subst}
+use Rattle.std.proofs.Common.{◌≡◌, ◌⊎◌, inl, inr, ℕ, suc, ◌==◌, Bool, true, false, if◌then◌else◌, List, [], ◌∷◌, ◌++◌, None, refl, sym, ap, ◌∙◌, subst, arith}
 use Rattle.f11_store.specs.Accesses.{FreeIsEmpty}
 use Rattle.f11_store.specs.Store.{Store}
 use Rattle.f11_store.specs.declared.files.FileId.{FileId}
@@ -9,7 +9,7 @@ use Rattle.f11_store.specs.declared.requests.Request.TheVariants as request
 use Rattle.f11_runs.specs.Standing.{AccessesStand}
 use Rattle.f11_runs.proofs.AccessLemmas.{true-false}
 use Rattle.f11_flx.specs.Asking.{Asking, BreaksOff, Denies, Granted, Grants, Service, Who, asks, plain, writes_of}
-use Rattle.f11_flx.specs.CopyFromRt.{IsAsBefore, giving_up}
+use Rattle.f11_flx.specs.CopyFromRt.{IsAsBefore, as_it_was, giving_up}
 use Rattle.f11_flx.specs.Making.{Undoing, UndoingIf, extension, filling_of}
 use Rattle.f11_flx.specs.Refusal.{is_lethal}
 use Rattle.f11_flx.specs.declared.refusal.FlxRefusal.{FlxRefusal}
@@ -20,11 +20,13 @@ use Rattle.f11_flx.specs.Seen.{IsSeenPlain}
 
 pub as-before : (s : Store) → IsAsBefore s s
 as-before s = record {
-  file = λ n. refl;
-  free = refl;
-  slots = refl;
+  added = 0;
+  file = λ n other. refl;
+  index = as_it_was refl refl;
+  free = omega arith;
+  slots = omega arith;
   in_use = λ n. refl;
-  last = λ n used. refl;
+  last = λ n used within. refl;
   access = λ task lun. refl;
   bitmap_blocks = refl;
   index_bitmap_blocks = refl;

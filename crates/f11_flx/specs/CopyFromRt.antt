@@ -1,6 +1,8 @@
 -- A copy from an RT-11 volume, over the plain stores of both (RSX-11M Utilities manual, FLX; the steps: profile).
-use Rattle.std.specs.Prelude.{◌≡◌, ◌⊎◌, ℕ, ◌==◌, true, All, if◌then◌else◌, List, [], ◌∷◌, ◌++◌, length, Some, None}
+use Rattle.std.specs.Prelude.{◌≡◌, ◌⊎◌, ℕ, ◌+◌, ◌<◌, ◌≤◌, ◌==◌, true, false, All, if◌then◌else◌, List, [], ◌∷◌, ◌++◌, length, Some, None}
 use Rattle.std.specs.List.{concat}
+use Rattle.f11_store.specs.Changes.{with_slots_first}
+use Rattle.f11_store.specs.File.{File, without_contiguous}
 use Rattle.f11_store.specs.Ident.{ident_with}
 use Rattle.f11_store.specs.Step.{next_id}
 use Rattle.f11_store.specs.Store.{Store}
@@ -20,6 +22,10 @@ use Rattle.f11_flx.specs.Conversion.{Copy, copied_from_rt}
 use Rattle.f11_flx.specs.declared.mode.CopyMode.{CopyMode}
 use Rattle.f11_flx.specs.declared.refusal.FlxRefusal.{FlxRefusal}
 use Rattle.f11_flx.specs.declared.refusal.FlxRefusal.TheVariants as refusal
+
+-- the identification of the file that is created next: once there is a slot for it
+abbrev pub new_id : Store → FileId
+new_id s = next_id (with_slots_first s 1)
 
 -- What is made: the file's name and the directory that it is entered into, its protection at the end, its user attributes, and its blocks.
 pub record Making : Type 0 where
@@ -95,7 +101,7 @@ pub record CopiesFromRt (m : CopyMode) (name : List ℕ) (who : Who) (lun : ℕ)
   pub pieces : List (List ℕ)
   pub has : HasMaking m name t (as_file to dir protection attr pieces)
   pub blocks_are : length pieces ≡ blocks
-  pub asked : Granted plain who (making_of (as_file to dir protection attr pieces) lun (next_id s)) s s'
+  pub asked : Granted plain who (making_of (as_file to dir protection attr pieces) lun (new_id s)) s s'
 
 -- It has a conversion, but the file isn't made.
 pub record IsNotMade (m : CopyMode) (name : List ℕ) (who : Who) (lun : ℕ) (dir : FileId) (to : List ℕ) (protection : ℕ) (e : Refusal)
@@ -103,7 +109,7 @@ pub record IsNotMade (m : CopyMode) (name : List ℕ) (who : Who) (lun : ℕ) (d
   pub attr : List ℕ
   pub pieces : List (List ℕ)
   pub has : HasMaking m name t (as_file to dir protection attr pieces)
-  pub fails : FailsToMakeFile (as_file to dir protection attr pieces) who lun (next_id s) e s s'
+  pub fails : FailsToMakeFile (as_file to dir protection attr pieces) who lun (new_id s) e s s'
 
 -- A line of it is too long.
 pub record HasTooLongLine (m : CopyMode) (name : List ℕ) (t : RtStore) : Type 0 where
@@ -128,13 +134,31 @@ FailsToCopySpent (refusal.Rt e) m name disk = IsSoundDisk disk → FailsToFindFi
 FailsToCopySpent refusal.BadRecord m name disk = ⊥
 FailsToCopySpent refusal.LineTooLong m name disk = IsSoundDisk disk → HasTooLongLine m name (rt_store_of disk.image)
 
--- A store is as before, but for the sequence numbers that free slots were last given.
+-- An index file grew in its last header: its contiguous mark is clear, and its pointers and its room may be others.
+pub record IsGrownIndex (f g : File) : Type 0 where
+  pub sequence : g.sequence ≡ f.sequence
+  pub owner : g.owner ≡ f.owner
+  pub protection : g.protection ≡ f.protection
+  pub characteristics : g.characteristics ≡ without_contiguous f.characteristics
+  pub ident : g.ident ≡ f.ident
+  pub attr : g.attr ≡ f.attr
+  pub held : g.held ≡ f.held
+  pub blocks : g.blocks ≡ f.blocks
+
+-- The index file after so many slots more: as it was where there are none.
+pub data IndexAfter (s s' : Store) (added : ℕ) : Type 0 where
+  as_it_was : added ≡ 0 → s'.file 1 ≡ s.file 1 → IndexAfter s s' added
+  grown : 0 < added → (f g : File) → s.file 1 ≡ Some f → s'.file 1 ≡ Some g → IsGrownIndex f g → IndexAfter s s' added
+
+-- A store is as before, but for slots that the index file got first, and for the sequence numbers that free slots were last given.
 pub record IsAsBefore (s s' : Store) : Type 0 where
-  pub file : (n : ℕ) → s'.file n ≡ s.file n
-  pub free : s'.free ≡ s.free
-  pub slots : s'.slots ≡ s.slots
+  pub added : ℕ
+  pub file : (n : ℕ) → (n == 1) ≡ false → s'.file n ≡ s.file n
+  pub index : IndexAfter s s' added
+  pub free : s'.free + added ≡ s.free
+  pub slots : s'.slots ≡ s.slots + added
   pub in_use : (n : ℕ) → s'.in_use n ≡ s.in_use n
-  pub last : (n : ℕ) → s.in_use n ≡ true → s'.last n ≡ s.last n
+  pub last : (n : ℕ) → s.in_use n ≡ true → n ≤ s.slots → s'.last n ≡ s.last n
   pub access : (task lun : ℕ) → s'.access task lun ≡ s.access task lun
   pub bitmap_blocks : s'.bitmap_blocks ≡ s.bitmap_blocks
   pub index_bitmap_blocks : s'.index_bitmap_blocks ≡ s.index_bitmap_blocks

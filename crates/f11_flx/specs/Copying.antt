@@ -127,8 +127,8 @@ pub record ReadsFiles {D T : Type 0} {met : Ghosts D} (result : Result T FlxRefu
   pub asked : AsksOnly is_reading who old new
   pub stays : is_sound old ≡ true → is_whole result ≡ true → store_of_volume new ≡ store_of_volume old
 
--- A file was made, or not, and then the volume is as before unless a device fault or Damaged was met; on one that had failed nothing is done,
--- and nothing is asked of it where the RT-11 volume had.
+-- A file was made, or not, and then the volume is as before, but for slots that its index file got first, unless a device fault or Damaged
+-- was met; on one that had failed nothing is done, and nothing is asked of it where the RT-11 volume had.
 pub record MakesFile {D T : Type 0} {met : Ghosts D} (result : Result T FlxRefusal) (who : Who) (old new : Volume D met) : Type 0 where
   pub fares : FaresFiles result old new
   pub keeps : KeepsSpent result old new

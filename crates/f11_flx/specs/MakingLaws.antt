@@ -1,5 +1,5 @@
 -- Laws of copies from RT-11 volumes, over the plain store of the Files-11 volume (profile).
-use Rattle.std.specs.Prelude.{◌≡◌, ℕ, ◌==◌, false, List, All, length, Some}
+use Rattle.std.specs.Prelude.{◌≡◌, ℕ, ◌+◌, ◌==◌, false, List, All, length, Some}
 use Rattle.f11_dev.specs.Disk.{Disk}
 use Rattle.f11_runs.specs.Standing.{AccessesStand}
 use Rattle.f11_store.specs.Accesses.{FreeIsEmpty}
@@ -7,7 +7,6 @@ use Rattle.f11_store.specs.Changes.{Enters}
 use Rattle.f11_store.specs.Directory.{record_bytes}
 use Rattle.f11_store.specs.File.{File}
 use Rattle.f11_store.specs.Ident.{ident_with}
-use Rattle.f11_store.specs.Step.{next_id}
 use Rattle.f11_store.specs.Store.{Store}
 use Rattle.f11_store.specs.declared.callers.Uic.{Uic}
 use Rattle.f11_store.specs.declared.files.FileId.{FileId}
@@ -16,16 +15,16 @@ use Rattle.rt11_volume.specs.Files.{HasFile, file_area}
 use Rattle.rt11_volume.specs.Store.{RtStore}
 use Rattle.f11_flx.specs.Asking.{Granted, Who, plain}
 use Rattle.f11_flx.specs.Conversion.{Copy, Holds, copied_from_rt}
-use Rattle.f11_flx.specs.CopyFromRt.{CopiesFromRt, FailsToCopyFromRt, FailsToMakeFile, IsAsBefore, Making, as_file, making_of}
+use Rattle.f11_flx.specs.CopyFromRt.{CopiesFromRt, FailsToCopyFromRt, FailsToMakeFile, IndexAfter, IsAsBefore, Making, as_file, making_of, new_id}
 use Rattle.f11_flx.specs.declared.mode.CopyMode.{CopyMode}
 use Rattle.f11_flx.specs.declared.refusal.FlxRefusal.{FlxRefusal}
 
 -- where no file is in a slot that isn't in use, and accesses are to files that are there, a making that is refused and undone leaves all
--- as it was before
+-- as it was before, but for slots that the index file got first
 abbrev pub RefusedMakingLeaves : Type 0
 RefusedMakingLeaves =
     (making : Making) (who : Who) (lun : ℕ) (e : Refusal) (s s' : Store) → FreeIsEmpty s → AccessesStand s →
-    FailsToMakeFile making who lun (next_id s) e s s' → IsAsBefore s s'
+    FailsToMakeFile making who lun (new_id s) e s s' → IsAsBefore s s'
 
 -- and so does a copy
 abbrev pub RefusedCopyLeaves : Type 0
@@ -41,7 +40,8 @@ pub record IsEntered (making : Making) (id : FileId) (s s' : Store) : Type 0 whe
   pub enters : Enters before making.directory (record_bytes id making.name) after
   pub as_after : s'.file making.directory.number ≡ after.file making.directory.number
 
--- A file was made as it was to be, in a free slot, and entered; all other files, and what tasks hold, are as before.
+-- A file was made as it was to be, in a free slot, and entered; all other files, and what tasks hold, are as before, but the index file may
+-- have got slots first.
 pub record HasMadeFile (making : Making) (caller : Uic) (id : FileId) (s s' : Store) : Type 0 where
   pub file : File
   pub there : s'.file id.number ≡ Some file
@@ -53,14 +53,17 @@ pub record HasMadeFile (making : Making) (caller : Uic) (id : FileId) (s s' : St
   pub owner_is : file.owner ≡ caller
   pub protection_is : file.protection ≡ making.protection
   pub entered : IsEntered making id s s'
-  pub others : (n : ℕ) → (n == id.number) ≡ false → (n == making.directory.number) ≡ false → s'.file n ≡ s.file n
+  pub others : (n : ℕ) → (n == id.number) ≡ false → (n == making.directory.number) ≡ false → (n == 1) ≡ false → s'.file n ≡ s.file n
+  pub added : ℕ
+  pub index : IndexAfter s s' added
+  pub slots : s'.slots ≡ s.slots + added
   pub access : (task lun : ℕ) → s'.access task lun ≡ s.access task lun
 
 -- so it is where the requests of a making are granted, in a directory that is another file
 abbrev pub GrantedIsMade : Type 0
 GrantedIsMade =
-    (making : Making) (who : Who) (lun : ℕ) (s s' : Store) → ((next_id s).number == making.directory.number) ≡ false →
-    Granted plain who (making_of making lun (next_id s)) s s' → HasMadeFile making who.caller (next_id s) s s'
+    (making : Making) (who : Who) (lun : ℕ) (s s' : Store) → ((new_id s).number == making.directory.number) ≡ false →
+    Granted plain who (making_of making lun (new_id s)) s s' → HasMadeFile making who.caller (new_id s) s s'
 
 -- The file that was made holds the copy of the RT-11 file, of so many blocks.
 pub record HasCopyOf (m : CopyMode) (name : List ℕ) (making : Making) (caller : Uic) (id : FileId) (blocks : ℕ) (t : RtStore)
@@ -80,4 +83,4 @@ CopiedHolds =
     (m : CopyMode) (name : List ℕ) (who : Who) (lun : ℕ) (dir : FileId) (to : List ℕ) (protection blocks : ℕ) (t : RtStore) (s s' : Store) →
     CopiesFromRt m name who lun dir to protection blocks t s s' →
     (attr : List ℕ) × (pieces : List (List ℕ)) ×
-    HasCopyOf m name (as_file to dir protection attr pieces) who.caller (next_id s) blocks t s s'
+    HasCopyOf m name (as_file to dir protection attr pieces) who.caller (new_id s) blocks t s s'

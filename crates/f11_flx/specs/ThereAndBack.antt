@@ -3,7 +3,6 @@ use Rattle.std.specs.Prelude.{◌≡◌, ℕ, ◌==◌, false, List, [], ◌∷�
 use Rattle.std.specs.List.{concat}
 use Rattle.f11_store.specs.Accesses.{FreeIsEmpty}
 use Rattle.f11_store.specs.File.{File}
-use Rattle.f11_store.specs.Step.{next_id}
 use Rattle.f11_store.specs.Store.{Store, file_named}
 use Rattle.f11_store.specs.declared.files.FileId.{FileId}
 use Rattle.rt11_volume.specs.Files.{HasFile, file_area}
@@ -11,7 +10,7 @@ use Rattle.rt11_volume.specs.Named.{files_named}
 use Rattle.rt11_volume.specs.Store.{Area, RtStore}
 use Rattle.f11_flx.specs.Asking.{Who}
 use Rattle.f11_flx.specs.Conversion.{Holds, copied_lines}
-use Rattle.f11_flx.specs.CopyFromRt.{CopiesFromRt}
+use Rattle.f11_flx.specs.CopyFromRt.{CopiesFromRt, new_id}
 use Rattle.f11_flx.specs.CopyToRt.{CopiesToRt, HasWholeBlocks}
 use Rattle.f11_flx.specs.Laws.{IsOneLine}
 use Rattle.f11_flx.specs.Lines.{in_whole_blocks, lines_of, text_of, without_zeros}
@@ -48,7 +47,7 @@ FileComesBack =
     (m : CopyMode) (who who' : Who) (lun lun' : ℕ) (source dir : FileId) (name to : List ℕ) (day protection blocks back : ℕ)
     (s s' u u' : Store) (t t' : RtStore) →
     CopiesToRt m who lun source name day blocks s s' t t' → CopiesFromRt m name who' lun' dir to protection back t' u u' →
-    IsBack m (file_named s source) (file_named u' (next_id u)) blocks back
+    IsBack m (file_named s source) (file_named u' (new_id u)) blocks back
 
 -- on the volume of the source, whose free slots are empty, the source is then as it was, unless it is the directory of the copy
 abbrev pub SourceIsKept : Type 0
@@ -89,7 +88,7 @@ abbrev pub RtFileComesBack : Type 0
 RtFileComesBack =
     (m : CopyMode) (who who' : Who) (lun lun' : ℕ) (dir : FileId) (name name' to : List ℕ) (day protection blocks back : ℕ)
     (s s' s'' : Store) (t u u' : RtStore) →
-    CopiesFromRt m name who lun dir to protection blocks t s s' → CopiesToRt m who' lun' (next_id s) name' day back s' s'' u u' →
+    CopiesFromRt m name who lun dir to protection blocks t s s' → CopiesToRt m who' lun' (new_id s) name' day back s' s'' u u' →
     HasRtBack m name name' t u'
 
 -- each block of a store's files has 512 bytes

@@ -22,7 +22,8 @@ use f11_store::{FileId, Lun, Task, Uic};
 use rt11_volume::{RtAccepted, RtName};
 
 /// Copies a file of an RT-11 volume to a Files-11 volume, for a task and a user, by a lun that holds no access: how many blocks the copy
-/// has (RSX-11M Utilities manual, FLX). No memory is taken.
+/// has (RSX-11M Utilities manual, FLX). No memory is taken but for slots of the index file, which gets them first where too few headers are
+/// free, and keeps them where the copy is refused.
 ///
 /// The file is found; in mode [`CopyMode::Text`] its lines are walked over; a file is created that bars nobody, accessed to be written, and
 /// gets its blocks; it is given up, entered into the directory, and gets its protection.

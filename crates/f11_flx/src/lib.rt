@@ -5,7 +5,7 @@
 //! told the word at each. [`ToText`] converts a file's bytes into the text of its records, and [`ToRecords`] a text's bytes
 //! into the variable records of its lines; both take the bytes in whatever pieces they come, and fill blocks.
 //! [`text_attributes`] and [`image_attributes`] are the attributes of a copy, and [`image_blocks`] is how many blocks a copy
-//! of a file as it is takes. None of them takes memory.
+//! of a file as it is takes. None of them takes memory, but [`copy_from_rt`] where the index file gets slots first.
 //!
 //! A copy asks requests of a volume, or of whatever else answers them ([`Asked`]).
 #![tactic(auto)]

@@ -1,5 +1,5 @@
 -- A locked file through one step.
-use Rattle.std.proofs.Common.{◌≡◌, ◌≢◌, ℕ, ◌<◌, ◌==◌, ◌&&◌, ◌||◌, Bool, true, false, not, List, [], ◌∷◌, Option, Some, None, Result, Ok, Err, refl, sym, ◌∙◌, ap, subst, arith, ◌⊎◌, inl, inr, is_some, if◌then◌else◌, fold, nat_lt}
+use Rattle.std.proofs.Common.{◌≡◌, ◌≢◌, ℕ, zero, suc, ◌<◌, ◌==◌, ◌&&◌, ◌||◌, Bool, true, false, not, List, [], ◌∷◌, Option, Some, None, Result, Ok, Err, refl, sym, ◌∙◌, ap, subst, arith, ◌⊎◌, inl, inr, is_some, if◌then◌else◌, fold, nat_lt}
 use Rattle.std.specs.List.{range_with_len}
 use Rattle.std.proofs.lemmas.Bool.{eqb-true, and_parts, not-true, ne_eqb, eq-eqb, cases_eq, and_from, and_left, and_right}
 use Rattle.f11_store.specs.declared.callers.Uic.{Uic}
@@ -18,11 +18,13 @@ use Rattle.f11_store.specs.Accesses.{FreeIsEmpty}
 use Rattle.f11_store.specs.File.{File, is_marked}
 use Rattle.f11_store.specs.Store.{Store, Access, file_named, id_in, id_held, least_free, free_headers, is_same, is_held, is_accessed, bars, bars_writing}
 use Rattle.f11_store.specs.Causes.{is_missing, is_no_writer, cannot_write, first_refusal, is_bad, lacks, lacks_for}
-use Rattle.f11_store.specs.Changes.{with_access, with_change, with_replacement, with_delete_mark, without_file_at, with_marked_file, is_due, after_giving_up, after_deaccess, after_delete, Grows, with_more_slots, EntersAt, EntersAtEnd, Changes}
+use Rattle.f11_store.specs.Changes.{with_access, with_change, with_replacement, with_delete_mark, without_file_at, with_marked_file, is_due, after_giving_up, after_deaccess, after_delete, with_grown_file, GetsSlots, Grows, GrowsIndex, with_more_slots, EntersAt, EntersAtEnd, Extends, with_entry_at_end, Changes}
 use Rattle.f11_store.specs.Step.{Step}
-use Rattle.f11_store.proofs.FateLaws.{held-accesses, marked-there}
+use Rattle.f11_store.proofs.FateLaws.{held-accesses, marked-there, Keeps}
+use Rattle.f11_store.proofs.FateLaws as fate
 use Rattle.f11_store.proofs.FileLaws.{least_free_is_free}
-use Rattle.f11_store.proofs.StepFates.{replacement-sequence}
+use Rattle.f11_store.proofs.StepFates.{may-be-made, MayBeMade, replacement-sequence}
+use Rattle.f11_store.specs.Directory.{entry_count, needs_block}
 use Rattle.f11_store.proofs.StoreLemmas.{none_first, none_rest}
 use Rattle.f11_runs.specs.Locked.{IsLocked, gives_up}
 use Rattle.f11_runs.specs.Standing.{AccessesStand, is_lost, lun_of}
@@ -145,17 +147,35 @@ module _ (s : Store) (task lun : ℕ) (id : FileId) (blocks : List (List ℕ)) (
           let apart = barred-apart s task lun id d blocks (λ _. true) refl is low small there e in
           same-accesses (without_file_at s d.number) (set-other (without_file_at s d.number) d.number None apart refl) refl
 
-  -- a record is entered
-  entered-at-end : (b : Bool) (k i : ℕ) (r : List ℕ) (s' : Store) → k ≢ id.number → EntersAtEnd b s k i r s' → IsLocked s' task lun id blocks
-  entered-at-end false k i r s' other e = altered-other s' k _ other e
-  entered-at-end true k i r s' other (grown, grows, e) =
+  -- the index file grows, or does first
+  index-grown : (s' : Store) (n : ℕ) → GrowsIndex s n s' → IsLocked s' task lun id blocks
+  index-grown s' n h =
+      let after : s' ≡ with_more_slots (with_grown_file s 1 h.grows.before n [] h.grows.added h.grows.pointers h.grows.room) n =
+      h.store_is ∙ ap (λ (x : Store). with_more_slots x n) h.grows.store_is in
+      same-accesses s' (set-other s' 1 _ (λ e. omega (arith, e, is.own)) (ap (λ (x : Store). x.file id.number) after)) (ap (λ (x : Store). x.access) after)
+
+  gained : (n : ℕ) (s' : Store) → GetsSlots n s s' → IsLocked s' task lun id blocks
+  gained zero s' e = unchanged s' e
+  gained (suc n) s' e = index-grown s' (suc n) e
+
+  -- a record is entered in a block more
+  entered-in-block : (grown : Store) (d : FileId) (i : ℕ) (r : List ℕ) (s' : Store) → d.number ≢ id.number → Extends s d.number 1 grown →
+      s' ≡ with_entry_at_end grown d.number i r → IsLocked s' task lun id blocks
+  entered-in-block grown d i r s' other grows e =
       same-accesses s'
-      (keeps-other s s' id.number (ap (λ (x : Store). x.file id.number) e ∙ other-there grown k _ other ∙ ap (λ (x : Store). x.file id.number) grows.store_is ∙ other-there s k _ other))
+      (keeps-other s s' id.number (ap (λ (x : Store). x.file id.number) e ∙ other-there grown d.number _ other ∙ ap (λ (x : Store). x.file id.number) grows.store_is ∙ other-there s d.number _ other))
       (ap (λ (x : Store). x.access) e ∙ ap (λ (x : Store). x.access) grows.store_is)
 
-  entered : (o : Option ℕ) (d : FileId) (r : List ℕ) (s' : Store) → d.number ≢ id.number → EntersAt o s d r s' → IsLocked s' task lun id blocks
-  entered (Some i) d r s' other e = altered-other s' d.number _ other e
-  entered None d r s' other e = entered-at-end _ d.number _ r s' other e
+-- a record is entered
+entered : (s : Store) (task lun : ℕ) (id : FileId) (blocks : List (List ℕ)) → task < 8 → lun < 4 → IsLocked s task lun id blocks →
+    (o : Option ℕ) (d : FileId) (r : List ℕ) (s' : Store) → d.number ≢ id.number → EntersAt o s d r s' → IsLocked s' task lun id blocks
+entered s task lun id blocks low small is (Some i) d r s' other e = altered-other s task lun id blocks low small is s' d.number _ other e
+entered s task lun id blocks low small is None d r s' other e = at-end (needs_block (file_named s d)) e
+  where
+    at-end : (b : Bool) → EntersAtEnd b s d (entry_count (file_named s d)) r s' → IsLocked s' task lun id blocks
+    at-end false e = altered-other s task lun id blocks low small is s' d.number _ other e
+    at-end true (grown, h, e) =
+        entered-in-block h.ready task lun id blocks low small (gained s task lun id blocks low small is _ h.ready h.gains) grown d _ r s' other h.makes e
 
 -- what is given up lun after lun by another task
 released : (luns : List ℕ) (s : Store) (task lun t : ℕ) (id : FileId) (blocks : List (List ℕ)) → task < 8 → lun < 4 → t ≢ task → IsLocked s task lun id blocks
@@ -170,15 +190,28 @@ pub locked-served : (s : Store) (task lun : ℕ) (id : FileId) (blocks : List (L
     → (t : ℕ) (caller : Uic) (r : Request) (block : List ℕ) (s' : Store) → t < 8 → lun_of r < 4 → ((t == task) && gives_up lun r) ≡ false
     → first_refusal s t caller r ≡ None → Changes s t caller r block s' → IsLocked s' task lun id blocks
 locked-served s task lun id blocks low small is standing empty t caller (request.Create word ident attr) block s' early few stays none h =
-    same-accesses s task lun id blocks low small is s' (set-other s task lun id blocks low small is s' (least_free s) _ (created-apart (there-is s id is.there)) (ap (λ (x : Store). x.file id.number) h))
-    (ap (λ (x : Store). x.access) h)
+    same-accesses h.ready task lun id blocks low small locked s'
+    (set-other h.ready task lun id blocks low small locked s' (least_free h.ready) _ (created-apart (there-is s id is.there)) (ap (λ (x : Store). x.file id.number) h.makes))
+    (ap (λ (x : Store). x.access) h.makes)
   where
-    created-apart : IsThere s id → least_free s ≢ id.number
-    created-apart here same =
-        absurd (let no : None ≡ Some here.file = sym (empty (least_free s) (least_free_is_free s (none_first (free_headers s == 0) NoHeader None none)).unused) ∙ ap s.file same ∙ here.is in cc)
+    locked : IsLocked h.ready task lun id blocks
+    locked = gained s task lun id blocks low small is _ h.ready h.gains
+
+    made : MayBeMade s h.ready
+    made = may-be-made s h.ready h.gains h.enough empty
+
+    created-apart : IsThere s id → least_free h.ready ≢ id.number
+    created-apart here same = by_kept (made.keeps id.number)
+      where
+        none-there : h.ready.file id.number ≡ None
+        none-there = ap h.ready.file (sym same) ∙ made.empty (least_free h.ready) made.free.unused
+
+        by_kept : Keeps s h.ready id.number → ⊥
+        by_kept (fate.kept e) = let no : None ≡ Some here.file = sym none-there ∙ e ∙ here.is in cc
+        by_kept (fate.changed f g was now alike marked) = let no : None ≡ Some g = sym none-there ∙ now in cc
 locked-served s task lun id blocks low small is standing empty t caller (request.Extend l n) block s' early few stays none h =
-    grown-other s task lun id blocks low small is s' (id_held s t l).number n _
-    (written-apart s task lun id blocks low small is t l early few standing (none_first (cannot_write s t l) _ _ (none_rest (n == 0) _ _ none))) h
+    grown-other h.ready task lun id blocks low small (gained s task lun id blocks low small is _ h.ready h.gains) s' (id_held s t l).number n _
+    (written-apart s task lun id blocks low small is t l early few standing (none_first (cannot_write s t l) _ _ (none_rest (n == 0) _ _ none))) h.makes
 locked-served s task lun id blocks low small is standing empty t caller (request.Truncate l to) block s' early few stays none h =
     same-accesses s task lun id blocks low small is s'
     (set-other s task lun id blocks low small is s' (id_held s t l).number _ (written-apart s task lun id blocks low small is t l early few standing (none_first (cannot_write s t l) _ _ none))
@@ -187,10 +220,7 @@ locked-served s task lun id blocks low small is standing empty t caller (request
     subst (λ (x : Store). IsLocked x task lun id blocks) (sym h)
     (deleted s task lun id blocks low small is d (none_first (is_missing s d) _ _ (none_rest (nat_lt d.number 6) _ _ (none_rest (is_bad d) _ _ none))))
 locked-served s task lun id blocks low small is standing empty t caller (request.GrowIndex n) block s' early few stays none h =
-    let at-grown = grown-other s task lun id blocks low small is h.grown 1 n [] (λ e. omega (arith, e, is.own)) h.grows in
-    same-accesses s task lun id blocks low small is s'
-    (set-other s task lun id blocks low small is s' 1 _ (λ e. omega (arith, e, is.own)) (ap (λ (x : Store). x.file id.number) (h.store_is ∙ ap (λ (x : Store). with_more_slots x n) h.grows.store_is)))
-    (ap (λ (x : Store). x.access) (h.store_is ∙ ap (λ (x : Store). with_more_slots x n) h.grows.store_is))
+    index-grown s task lun id blocks low small is s' n h
 locked-served s task lun id blocks low small is standing empty t caller (request.Access d m l) block s' early few stays none h =
     let one = none_rest (is_bad d) _ _ none in
     let two = none_rest (is_some (s.access t l)) _ _ one in

@@ -1,5 +1,5 @@
 -- A store that stands does so after each request.
-use Rattle.std.proofs.Common.{◌≡◌, ℕ, ◌<◌, ◌==◌, ◌&&◌, ◌||◌, Bool, true, false, List, [], ◌∷◌, Option, Some, None, Result, Ok, Err, refl, sym, ◌∙◌, ap, subst, is_none, is_some, option_map, take, if◌then◌else◌, fold, nat_lt}
+use Rattle.std.proofs.Common.{◌≡◌, ℕ, zero, suc, ◌<◌, ◌==◌, ◌&&◌, ◌||◌, Bool, true, false, List, [], ◌∷◌, Option, Some, None, Result, Ok, Err, refl, sym, ◌∙◌, ap, subst, is_none, is_some, option_map, take, if◌then◌else◌, fold, nat_lt}
 use Rattle.std.specs.List.{range_with_len}
 use Rattle.std.proofs.lemmas.Bool.{eq-eqb, eqb-true}
 use Rattle.f11_store.specs.declared.callers.Uic.{Uic}
@@ -15,10 +15,10 @@ use Rattle.f11_store.specs.Accesses.{FreeIsEmpty}
 use Rattle.f11_store.specs.File.{File}
 use Rattle.f11_store.specs.Store.{Store, Access, id_held, least_free, free_headers, is_same, is_accessed}
 use Rattle.f11_store.specs.Causes.{is_missing, first_refusal, is_bad}
-use Rattle.f11_store.specs.Changes.{is_in, with_access, with_change, with_block, with_replacement, with_delete_mark, without_file_at, with_marked_file, is_due, after_giving_up, after_deaccess, after_delete, Grows, with_more_slots, EntersAt, EntersAtEnd, Changes}
+use Rattle.f11_store.specs.Changes.{is_in, with_access, with_change, with_block, with_replacement, with_delete_mark, without_file_at, with_marked_file, is_due, after_giving_up, after_deaccess, after_delete, GetsSlots, Grows, GrowsIndex, with_more_slots, EntersAt, EntersAtEnd, Changes}
 use Rattle.f11_store.specs.Step.{Step}
 use Rattle.f11_store.specs.Run.{Call, Answer}
-use Rattle.f11_store.proofs.FateLaws.{Fate, stays, altered, new, gone, held-at, fate-given-up, fate-gone, fate-grows}
+use Rattle.f11_store.proofs.FateLaws.{Fate, fate-kept, gained-access, gained-keeps, stays, altered, new, gone, held-at, fate-given-up, fate-gone, fate-grows}
 use Rattle.f11_store.proofs.FileLaws.{least_free_is_free}
 use Rattle.f11_store.proofs.StepFates.{fate-served, fate-create, replacement-sequence}
 use Rattle.f11_store.proofs.StoreLemmas.{none_first, none_rest}
@@ -68,14 +68,24 @@ apart-released : (luns : List ℕ) (s : Store) (task : ℕ) → HoldApart s → 
 apart-released [] s task was = was
 apart-released (l ∷ luns) s task was = apart-released luns (after_deaccess s task l) task (apart-given-up s task l (s.access task l) was)
 
+-- the index file grows, or does first
+apart-index : (s s' : Store) (n : ℕ) → HoldApart s → GrowsIndex s n s' → HoldApart s'
+apart-index s s' n was h =
+    subst HoldApart (sym h.store_is) (apart-stays h.grown (with_more_slots h.grown n) (λ m. refl) (λ m. refl) (apart-grown s h.grown 1 n [] was h.grows))
+
+apart-gained : (n : ℕ) (s s' : Store) → HoldApart s → GetsSlots n s s' → HoldApart s'
+apart-gained zero s s' was e = subst HoldApart (sym e) was
+apart-gained (suc n) s s' was e = apart-index s s' (suc n) was e
+
 -- a record is entered
-apart-entered-at-end : (b : Bool) (s : Store) (k i : ℕ) (r : List ℕ) (s' : Store) → HoldApart s → EntersAtEnd b s k i r s' → HoldApart s'
-apart-entered-at-end false s k i r s' was e = apart-change s s' k _ (λ f. refl) was e
-apart-entered-at-end true s k i r s' was (grown, grows, e) = apart-change grown s' k _ (λ f. refl) (apart-grown s grown k 1 _ was grows) e
+apart-entered-at-end : (b : Bool) (s : Store) (d : FileId) (i : ℕ) (r : List ℕ) (s' : Store) → HoldApart s → EntersAtEnd b s d i r s' → HoldApart s'
+apart-entered-at-end false s d i r s' was e = apart-change s s' d.number _ (λ f. refl) was e
+apart-entered-at-end true s d i r s' was (grown, h, e) =
+    apart-change grown s' d.number _ (λ f. refl) (apart-grown h.ready grown d.number 1 _ (apart-gained _ s h.ready was h.gains) h.makes) e
 
 apart-entered : (o : Option ℕ) (s : Store) (d : FileId) (r : List ℕ) (s' : Store) → HoldApart s → EntersAt o s d r s' → HoldApart s'
 apart-entered (Some i) s d r s' was e = apart-change s s' d.number _ (λ f. refl) was e
-apart-entered None s d r s' was e = apart-entered-at-end _ s d.number _ r s' was e
+apart-entered None s d r s' was e = apart-entered-at-end _ s d _ r s' was e
 
 apart-deleted : (s : Store) (id : FileId) → HoldApart s → HoldApart (after_delete s id)
 apart-deleted s id was = by_test (is_accessed s id)
@@ -92,12 +102,13 @@ replacement-held (change.Protect p) f = refl
 -- the slots after a request that is served
 apart-served : (s : Store) (task : ℕ) (caller : Uic) (r : Request) (block : List ℕ) (s' : Store) → HoldApart s → first_refusal s task caller r ≡ None → Changes s task caller r block s' → HoldApart s'
 apart-served s task caller (request.Create word ident attr) block s' was none h =
-    subst HoldApart (sym h) (apart-made s (least_free s) _ refl (least_free_is_free s (none_first (free_headers s == 0) NoHeader None none)).unused was)
-apart-served s task caller (request.Extend lun n) block s' was none h = apart-grown s s' (id_held s task lun).number n _ was h
+    subst HoldApart (sym h.makes)
+    (apart-made h.ready (least_free h.ready) _ refl (least_free_is_free h.ready h.enough).unused (apart-gained _ s h.ready was h.gains))
+apart-served s task caller (request.Extend lun n) block s' was none h =
+    apart-grown h.ready s' (id_held s task lun).number n _ (apart-gained _ s h.ready was h.gains) h.makes
 apart-served s task caller (request.Truncate lun to) block s' was none h = apart-cut s s' (id_held s task lun).number to was h
 apart-served s task caller (request.Delete id) block s' was none h = subst HoldApart (sym h) (apart-deleted s id was)
-apart-served s task caller (request.GrowIndex n) block s' was none h =
-    subst HoldApart (sym h.store_is) (apart-stays h.grown (with_more_slots h.grown n) (λ m. refl) (λ m. refl) (apart-grown s h.grown 1 n [] was h.grows))
+apart-served s task caller (request.GrowIndex n) block s' was none h = apart-index s s' n was h
 apart-served s task caller (request.Access id m lun) block s' was none h = subst HoldApart (sym h) (apart-stays s _ (λ n. refl) (λ n. refl) was)
 apart-served s task caller (request.Deaccess lun) block s' was none h = subst HoldApart (sym h) (apart-given-up s task lun (s.access task lun) was)
 apart-served s task caller request.Release block s' was none h = subst HoldApart (sym h) (apart-released (range_with_len 0 4) s task was)
@@ -185,13 +196,17 @@ stand-grown : (s s' : Store) (k n : ℕ) (blocks : List (List ℕ)) → Accesses
 stand-grown s s' k n blocks was grows =
     same-stand s s' was (there-by-fate s s' (λ m. fate-grows s s' k n m blocks grows)) (ap (λ (x : Store). x.access) grows.store_is)
 
-stand-entered-at-end : (b : Bool) (s : Store) (k i : ℕ) (r : List ℕ) (s' : Store) → AccessesStand s → EntersAtEnd b s k i r s' → AccessesStand s'
-stand-entered-at-end false s k i r s' was e = stand-changed s s' k _ (λ f. refl) was e
-stand-entered-at-end true s k i r s' was (grown, grows, e) = stand-changed grown s' k _ (λ f. refl) (stand-grown s grown k 1 _ was grows) e
+stand-gained : (n : ℕ) (s s' : Store) → AccessesStand s → GetsSlots n s s' → AccessesStand s'
+stand-gained n s s' was e = same-stand s s' was (there-by-fate s s' (λ m. fate-kept s s' m (gained-keeps s s' n m e))) (gained-access s s' n e)
+
+stand-entered-at-end : (b : Bool) (s : Store) (d : FileId) (i : ℕ) (r : List ℕ) (s' : Store) → AccessesStand s → EntersAtEnd b s d i r s' → AccessesStand s'
+stand-entered-at-end false s d i r s' was e = stand-changed s s' d.number _ (λ f. refl) was e
+stand-entered-at-end true s d i r s' was (grown, h, e) =
+    stand-changed grown s' d.number _ (λ f. refl) (stand-grown h.ready grown d.number 1 _ (stand-gained _ s h.ready was h.gains) h.makes) e
 
 stand-entered : (o : Option ℕ) (s : Store) (d : FileId) (r : List ℕ) (s' : Store) → AccessesStand s → EntersAt o s d r s' → AccessesStand s'
 stand-entered (Some i) s d r s' was e = stand-changed s s' d.number _ (λ f. refl) was e
-stand-entered None s d r s' was e = stand-entered-at-end _ s d.number _ r s' was e
+stand-entered None s d r s' was e = stand-entered-at-end _ s d _ r s' was e
 
 stand-deleted : (s : Store) (id : FileId) → AccessesStand s → is_missing s id ≡ false → AccessesStand (after_delete s id)
 stand-deleted s id was there = by_test (is_accessed s id) refl
@@ -204,9 +219,10 @@ stand-deleted s id was there = by_test (is_accessed s id) refl
 pub accesses-served : (s : Store) (task : ℕ) (caller : Uic) (r : Request) (block : List ℕ) (s' : Store) → FreeIsEmpty s → AccessesStand s → first_refusal s task caller r ≡ None
     → Changes s task caller r block s' → AccessesStand s'
 accesses-served s task caller (request.Create word ident attr) block s' empty was none h =
-    same-stand s s' was (there-by-fate s s' (λ n. fate-create s s' caller word ident attr n (empty (least_free s) (least_free_is_free s (none_first (free_headers s == 0) NoHeader None none)).unused) h))
-    (ap (λ (x : Store). x.access) h)
-accesses-served s task caller (request.Extend lun n) block s' empty was none h = stand-grown s s' (id_held s task lun).number n _ was h
+    same-stand s s' was (there-by-fate s s' (λ n. fate-create s s' caller word ident attr n empty h))
+    (ap (λ (x : Store). x.access) h.makes ∙ gained-access s h.ready _ h.gains)
+accesses-served s task caller (request.Extend lun n) block s' empty was none h =
+    stand-grown h.ready s' (id_held s task lun).number n _ (stand-gained _ s h.ready was h.gains) h.makes
 accesses-served s task caller (request.Truncate lun to) block s' empty was none h =
     same-stand s s' was (there-by-fate s s' (λ n. fate-served s task caller (request.Truncate lun to) block s' n tt h tt)) (ap (λ (x : Store). x.access) h.store_is)
 accesses-served s task caller (request.Delete id) block s' empty was none h =

@@ -32,7 +32,8 @@ impl<D: Device> Serves for Volume<D> {
 ///
 /// An empty line and a comment are passed over, a bad line is answered `bad line`, and a request is served and answered before
 /// the next line is read. The first request is lent a block of zeros, each later one the block as the last one left it. It
-/// takes no memory but what `GrowIndex` takes. A request that fails the volume ends nothing: the later ones are answered so.
+/// takes no memory but for slots of the index file, by `GrowIndex` or first, for headers of others. A request that fails the
+/// volume ends nothing: the later ones are answered so.
 ///
 /// # Errors
 ///

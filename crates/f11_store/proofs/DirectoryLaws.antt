@@ -19,10 +19,11 @@ use Rattle.f11_store.specs.declared.requests.Request.TheVariants as request
 use Rattle.f11_store.specs.File.{File, no_file, is_marked, stated_end, zero_block, zero_blocks}
 use Rattle.f11_store.specs.Store.{Store, file_of, file_named, is_held, bars_writing}
 use Rattle.f11_store.specs.Directory.{is_directory, record_in, record_at, entry_count, entries_of, record_id, record_name, is_empty, has_name, is_entered, index_of_empty, needs_block, word_bytes, long_bytes, record_bytes, empty_record, with_record, with_end}
-use Rattle.f11_store.specs.Causes.{Cause, ◌⇐◌, first_of, is_bad, is_missing, lacks, growth_causes_if, first_refusal}
-use Rattle.f11_store.specs.Changes.{with_change, with_entry, with_end_after, with_entry_at_end, grown_file, with_grown_file, EntersAtEnd, EntersAt}
+use Rattle.f11_store.specs.Causes.{Cause, ◌⇐◌, first_of, is_bad, is_missing, lacks, extend_causes_if, first_refusal}
+use Rattle.f11_store.specs.Changes.{with_change, with_entry, with_end_after, with_entry_at_end, grown_file, with_grown_file, EntersAtEnd, EntersAt, Extends}
 use Rattle.f11_store.specs.Step.{Step, MayRefuse}
 use Rattle.f11_store.specs.Laws.{IsWhole, IsFiveWords, IsFound, EnteredIsFound, StandingIsDuplicate, RemovedIsEmpty}
+use Rattle.f11_store.proofs.SlotsFirst.{gained-is-ready, no_index, of-stays}
 use Rattle.f11_store.proofs.StoreLemmas.{same_number, other_number, file_named-changed, file_named-there}
 use Rattle.f11_store.proofs.RecordLemmas.{record_at-same, record_at-other, none_passes, first_found, some_passes}
 
@@ -48,15 +49,15 @@ pub standing_is_duplicate : StandingIsDuplicate
 standing_is_duplicate s task caller d name id h good =
     duplicate_first (is_bad d) (nat_lt d.number 4) (is_missing s d) (is_marked (file_named s d)) (lacks right.Write caller (file_named s d))
     (is_held bars_writing s d) (not (is_directory (file_named s d))) (is_entered name (file_named s d)) (is_bad id)
-    (growth_causes_if (needs_block (file_named s d)) s (file_named s d) 1) h good
+    (extend_causes_if (needs_block (file_named s d)) s (file_named s d) 1) h good
 
--- what a served Enter tells: the identification is good, the directory is there, the name doesn't stand
+-- what a served Enter tells: the identification is good, the directory is no file of the volume's own, and there, the name doesn't stand
 entered_causes :
     (a bad b c d e f g i : Bool) (rest : List Cause) →
     first_of ((BadArgument ⇐ (a || bad)) ∷ (SystemFile ⇐ b) ∷ (NoSuchFile ⇐ c) ∷ (Marked ⇐ d) ∷ (NoPrivilege ⇐ e) ∷ (Conflict ⇐ f)
     ∷ (NotDirectory ⇐ g) ∷ (DuplicateName ⇐ i) ∷ rest) ≡ None →
-    (bad ≡ false) × (c ≡ false) × (i ≡ false)
-entered_causes false false false false false false false false false rest h = (refl, refl, refl)
+    (bad ≡ false) × (b ≡ false) × (c ≡ false) × (i ≡ false)
+entered_causes false false false false false false false false false rest h = (refl, refl, refl, refl)
 entered_causes true bad b c d e f g i rest h = absurd (cc)
 entered_causes false true b c d e f g i rest h = absurd (cc)
 entered_causes false false true c d e f g i rest h = absurd (cc)
@@ -91,10 +92,10 @@ found_causes false false false false false true true x k h = λ n. cc
 found_causes false false false false false false true x k h = absurd (cc)
 
 pub refused_otherwise :
-    (o : Option Refusal) (d : FileId) (name : List ℕ) (e : Refusal) → ((x : Refusal) → o ≡ Some x → x ≢ NoSuchEntry) →
-    MayRefuse o (request.Find d name) e → e ≢ NoSuchEntry
-refused_otherwise None d name e h k = absurd k
-refused_otherwise (Some x) d name e h k = λ n. h x refl (sym k ∙ n)
+    (o : Option Refusal) (e : Refusal) → ((x : Refusal) → o ≡ Some x → x ≢ NoSuchEntry) →
+    MayRefuse o false e → e ≢ NoSuchEntry
+refused_otherwise None e h k = absurd k
+refused_otherwise (Some x) e h k = λ n. h x refl (sym k ∙ n)
 
 -- the words of a record are read back
 word_read : (n : ℕ) → n % 256 + 256 * (n / 256) ≡ n
@@ -215,7 +216,7 @@ found_answers :
 found_answers s other reader d name id before (Ok a) s' after there k =
     k.reply_is ∙ ap (λ o. reply.Found (record_id (unwrap_or o []))) there.found ∙ ap reply.Found (record_id-record_bytes id name)
 found_answers s other reader d name id before (Err e) s' after there k =
-    refused_otherwise (first_refusal s other reader (request.Find d name)) d name e
+    refused_otherwise (first_refusal s other reader (request.Find d name)) e
     (λ x h. found_causes (is_bad d) (nat_lt d.number 4) (is_missing s d) (is_marked (file_named s d)) (lacks right.Read reader (file_named s d))
     (not (is_directory (file_named s d))) (is_entered name (file_named s d)) x
     (some_passes (has_name name) (entries_of (file_named s d)) (record_bytes id name) there.found) h)
@@ -383,41 +384,63 @@ entered_in_new_block s d name r f added pointers room can was is =
     full : All (λ b. length b ≡ 512) (f.blocks ++ zero_block ∷ [])
     full = All-append (λ b. length b ≡ 512) f.blocks (zero_block ∷ []) (subst (λ (x : File). All (λ b. length b ≡ 512) x.blocks) is can.whole.blocks) (All-replicate (λ b. length b ≡ 512) 1 zero_block length-zero_block)
 
+-- a directory that can be entered in can be once the index file grew
+enterable_then : (s t : Store) (d : FileId) (name r : List ℕ) → file_of t d ≡ file_of s d → Enterable s d name r → Enterable t d name r
+enterable_then s t d name r same can = record {
+  there = ap is_none same ∙ can.there;
+  whole = subst IsWhole (sym named) can.whole;
+  none = ap (is_entered name) named ∙ can.none;
+  has = can.has;
+  sixteen = can.sixteen;
+}
+  where
+    named : file_named t d ≡ file_named s d
+    named = ap (λ (o : Option File). unwrap_or o no_file) same
+
+-- in a block more
+entered_with_block :
+    (s grown : Store) (d : FileId) (name r : List ℕ) (s' : Store) → Enterable s d name r → Extends s d.number 1 grown →
+    s' ≡ with_entry_at_end grown d.number (entry_count (file_named s d)) r → IsThere name (file_named s' d) r
+entered_with_block s grown d name r s' can grows k =
+    let is : file_named s d ≡ grows.before = file_named-there s d grows.before grows.was can.there in
+    subst (λ (x : Store). IsThere name (file_named x d) r) (sym (k ∙ ap (λ t. with_entry_at_end t d.number (entry_count (file_named s d)) r) grows.store_is))
+    (subst (λ (n : ℕ). IsThere name (file_named (with_entry_at_end (with_grown_file s d.number grows.before 1 (zero_blocks 1) grows.added grows.pointers grows.room) d.number n r) d) r)
+    (ap entry_count (sym is))
+    (entered_in_new_block s d name r grows.before grows.added grows.pointers grows.room can grows.was is))
+
 -- wherever the record is entered
 entered_there :
-    (o : Option ℕ) (s : Store) (d : FileId) (name r : List ℕ) (s' : Store) → Enterable s d name r → index_of_empty (file_named s d) ≡ o →
-    EntersAt o s d r s' → IsThere name (file_named s' d) r
-entered_there (Some i) s d name r s' can place h =
+    (o : Option ℕ) (s : Store) (d : FileId) (name r : List ℕ) (s' : Store) → Enterable s d name r → (d.number == 1) ≡ false →
+    index_of_empty (file_named s d) ≡ o → EntersAt o s d r s' → IsThere name (file_named s' d) r
+entered_there (Some i) s d name r s' can other place h =
     subst (λ (x : Store). IsThere name (file_named x d) r) (sym h) (entered_in_place s d name r i can place)
-entered_there None s d name r s' can place h = at_end (needs_block (file_named s d)) refl h
+entered_there None s d name r s' can other place h = at_end (needs_block (file_named s d)) refl h
   where
     no_room : needs_block (file_named s d) ≡ false → 16 * entry_count (file_named s d) < 512 * length (file_named s d).blocks
     no_room e = let t : nat_le (512 * length (file_named s d).blocks) (16 * entry_count (file_named s d)) ≡ false = (rw place at e) in grind (arith, nat_tests)
 
-    at_end : (b : Bool) → needs_block (file_named s d) ≡ b → EntersAtEnd b s d.number (entry_count (file_named s d)) r s' → IsThere name (file_named s' d) r
+    at_end : (b : Bool) → needs_block (file_named s d) ≡ b → EntersAtEnd b s d (entry_count (file_named s d)) r s' → IsThere name (file_named s' d) r
     at_end false e k = subst (λ (x : Store). IsThere name (file_named x d) r) (sym k) (entered_past_end s d name r can (no_room e))
-    at_end true e (grown, grows, k) =
-        let is : file_named s d ≡ grows.before = file_named-there s d grows.before grows.was can.there in
-        subst (λ (x : Store). IsThere name (file_named x d) r) (sym (k ∙ ap (λ t. with_entry_at_end t d.number (entry_count (file_named s d)) r) grows.store_is))
-        (subst (λ (n : ℕ). IsThere name (file_named (with_entry_at_end (with_grown_file s d.number grows.before 1 (zero_blocks 1) grows.added grows.pointers grows.room) d.number n r) d) r)
-        (ap entry_count (sym is))
-        (entered_in_new_block s d name r grows.before grows.added grows.pointers grows.room can grows.was is))
+    at_end true e (grown, h, k) =
+        let same : file_of h.ready d ≡ file_of s d = of-stays s h.ready _ d (gained-is-ready s h.ready _ h.gains) other in
+        entered_with_block h.ready grown d name r s' (enterable_then s h.ready d name r same can) h.makes
+        (k ∙ ap (λ (o : Option File). with_entry_at_end grown d.number (entry_count (unwrap_or o no_file)) r) (sym same))
 
 pub entered_is_found : EnteredIsFound
 entered_is_found s task caller d name id block a s' block' other reader before result s'' after whole five h k =
     found_answers s' other reader d name id before result s'' after
-    (entered_there (index_of_empty (file_named s d)) s d name (record_bytes id name) s' can refl h.changes) k
+    (entered_there (index_of_empty (file_named s d)) s d name (record_bytes id name) s' can (no_index d causes.1) refl h.changes) k
   where
-    causes : (is_bad id ≡ false) × (is_missing s d ≡ false) × (is_entered name (file_named s d) ≡ false)
+    causes : (is_bad id ≡ false) × (nat_lt d.number 4 ≡ false) × (is_missing s d ≡ false) × (is_entered name (file_named s d) ≡ false)
     causes = entered_causes (is_bad d) (is_bad id) (nat_lt d.number 4) (is_missing s d) (is_marked (file_named s d)) (lacks right.Write caller (file_named s d))
         (is_held bars_writing s d) (not (is_directory (file_named s d))) (is_entered name (file_named s d))
-        (growth_causes_if (needs_block (file_named s d)) s (file_named s d) 1) h.no_cause
+        (extend_causes_if (needs_block (file_named s d)) s (file_named s d) 1) h.no_cause
 
     can : Enterable s d name (record_bytes id name)
     can = record {
-      there = causes.1;
+      there = causes.2;
       whole = whole;
-      none = causes.2;
+      none = causes.3;
       has = has_name-record_bytes id name causes.0 five;
       sixteen = length-record_bytes id name five;
     }

@@ -1,5 +1,5 @@
 -- What a step makes of the files that are accessed.
-use Rattle.std.proofs.Common.{◌≡◌, ℕ, ◌+◌, ◌<◌, ◌==◌, ◌&&◌, Bool, true, false, not, List, Option, Some, None, refl, sym, ◌∙◌, ap, subst, arith, option_map, if◌then◌else◌, is_none, unwrap_or}
+use Rattle.std.proofs.Common.{◌≡◌, ℕ, ◌+◌, ◌<◌, ◌==◌, ◌&&◌, Bool, true, false, not, List, Option, Some, None, refl, sym, ◌∙◌, ap, subst, arith, option_map, if◌then◌else◌, is_none, unwrap_or, zero, suc}
 use Rattle.std.specs.List.{range_with_len, list_any}
 use Rattle.std.specs.Option.{option_and_then}
 use Rattle.std.specs.Int.{bit_at}
@@ -12,7 +12,7 @@ use Rattle.f11_store.specs.declared.files.Mode.{Mode}
 use Rattle.f11_store.specs.File.{File, no_file, is_marked, without_contiguous}
 use Rattle.f11_store.specs.Store.{Store, Access, of_sequence, file_of, is_same, is_to, is_held, is_accessed, file_named}
 use Rattle.f11_store.specs.Causes.{is_missing}
-use Rattle.f11_store.specs.Changes.{without_file_at, after_giving_up, is_due, with_change, with_access, Grows, Truncates}
+use Rattle.f11_store.specs.Changes.{without_file_at, after_giving_up, is_due, with_change, with_access, Grows, Truncates, GetsSlots, GrowsIndex, with_more_slots}
 use Rattle.f11_store.specs.Accesses.{mark_of}
 
 -- one of the first numbers settles the answer
@@ -83,13 +83,25 @@ fate-change s s' k n change alike marked is = subst (λ (x : Store). Fate s x n)
     by_test true e = at-file (s.file k) refl (eqb-true n k e) e
     by_test false e = stays (rw e refl)
 
+-- a file that stays, or is changed and keeps its sequence number and its mark
+pub data Keeps (s t : Store) (n : ℕ) : Type 0 where
+  kept : t.file n ≡ s.file n → Keeps s t n
+  changed : (f g : File) → s.file n ≡ Some f → t.file n ≡ Some g → g.sequence ≡ f.sequence → is_marked g ≡ is_marked f → Keeps s t n
+
+pub fate-kept : (s t : Store) (n : ℕ) → Keeps s t n → Fate s t n
+fate-kept s t n (kept e) = stays e
+fate-kept s t n (changed f g was now alike marked) = altered f g was now alike marked
+
 -- a file that is set anew, of one that was there
-pub fate-set : (s s' : Store) (k n : ℕ) (f g : File) → s.file k ≡ Some f → g.sequence ≡ f.sequence → is_marked g ≡ is_marked f → s'.file n ≡ (if n == k then Some g else s.file n) → Fate s s' n
-fate-set s s' k n f g was alike marked is = by_test (n == k) refl is
+keeps-set : (s s' : Store) (k n : ℕ) (f g : File) → s.file k ≡ Some f → g.sequence ≡ f.sequence → is_marked g ≡ is_marked f → s'.file n ≡ (if n == k then Some g else s.file n) → Keeps s s' n
+keeps-set s s' k n f g was alike marked is = by_test (n == k) refl is
   where
-    by_test : (b : Bool) → (n == k) ≡ b → s'.file n ≡ (if b then Some g else s.file n) → Fate s s' n
-    by_test true e h = altered f g (ap s.file (eqb-true n k e) ∙ was) h alike marked
-    by_test false e h = stays h
+    by_test : (b : Bool) → (n == k) ≡ b → s'.file n ≡ (if b then Some g else s.file n) → Keeps s s' n
+    by_test true e h = changed f g (ap s.file (eqb-true n k e) ∙ was) h alike marked
+    by_test false e h = kept h
+
+pub fate-set : (s s' : Store) (k n : ℕ) (f g : File) → s.file k ≡ Some f → g.sequence ≡ f.sequence → is_marked g ≡ is_marked f → s'.file n ≡ (if n == k then Some g else s.file n) → Fate s s' n
+fate-set s s' k n f g was alike marked is = fate-kept s s' n (keeps-set s s' k n f g was alike marked is)
 
 -- bit 15 stays where UC.CON is cleared
 pub mark-of-cleared : (c : ℕ) → bit_at (without_contiguous c) 15 ≡ bit_at c 15
@@ -168,3 +180,37 @@ fate-given-up s task lun n (Some a) = by_test (is_due (with_access s task lun No
     by_test true e =
         let parts = and_parts (is_marked (file_named t a.file)) (not (is_accessed t a.file)) e in
         from-here _ (fate-gone t a.file n (marked-there t a.file parts.0) (not-true (is_accessed t a.file) parts.1))
+
+-- what becomes of a file that was kept
+pub fate-after : (s t u : Store) (n : ℕ) → Keeps s t n → Fate t u n → Fate s u n
+fate-after s t u n (kept e) (stays k) = stays (k ∙ e)
+fate-after s t u n (kept e) (altered f g was now alike marked) = altered f g (sym e ∙ was) now alike marked
+fate-after s t u n (kept e) (new none) = new (sym e ∙ none)
+fate-after s t u n (kept e) (gone f was nobody) = gone f (sym e ∙ was) nobody
+fate-after s t u n (changed f g was now alike marked) (stays k) = altered f g was (k ∙ now) alike marked
+fate-after s t u n (changed f g was now alike marked) (altered f' g' was' now' alike' marked') =
+    let e : g ≡ f' = let o : Some g ≡ Some f' = sym now ∙ was' in cc in
+    altered f g' was now' (alike' ∙ ap (λ (x : File). x.sequence) (sym e) ∙ alike) (marked' ∙ ap is_marked (sym e) ∙ marked)
+fate-after s t u n (changed f g was now alike marked) (new none) = absurd (let no : None ≡ Some g = sym none ∙ now in cc)
+fate-after s t u n (changed f g was now alike marked) (gone f' was' nobody) =
+    let e : g ≡ f' = let o : Some g ≡ Some f' = sym now ∙ was' in cc in
+    gone f was (λ id number sequence. nobody id number (sequence ∙ sym alike ∙ ap (λ (x : File). x.sequence) e))
+
+-- the index file that grows keeps them
+grown-keeps : (s t : Store) (n m : ℕ) → GrowsIndex s n t → Keeps s t m
+grown-keeps s t n m e =
+    keeps-set s t 1 m e.grows.before _ e.grows.was refl (ap (λ b. b == 1) (mark-of-cleared e.grows.before.characteristics))
+    (ap (λ (x : Store). x.file m) (e.store_is ∙ ap (λ (x : Store). with_more_slots x n) e.grows.store_is))
+
+pub fate-grows-index : (s t : Store) (n m : ℕ) → GrowsIndex s n t → Fate s t m
+fate-grows-index s t n m e = fate-kept s t m (grown-keeps s t n m e)
+
+-- and so it does where it grows first
+pub gained-keeps : (s t : Store) (n m : ℕ) → GetsSlots n s t → Keeps s t m
+gained-keeps s t zero m e = kept (ap (λ (x : Store). x.file m) e)
+gained-keeps s t (suc n) m e = grown-keeps s t (suc n) m e
+
+-- and who accesses what stays
+pub gained-access : (s t : Store) (n : ℕ) → GetsSlots n s t → t.access ≡ s.access
+gained-access s t zero e = ap (λ (x : Store). x.access) e
+gained-access s t (suc n) e = ap (λ (x : Store). x.access) (e.store_is ∙ ap (λ (x : Store). with_more_slots x (suc n)) e.grows.store_is)

@@ -1,5 +1,6 @@
 -- Laws of files that are created, deleted, cut and extended.
-use Rattle.std.proofs.Common.{◌≡◌, ℕ, ◌+◌, ◌-◌, ◌<◌, ◌≤◌, ◌==◌, Bool, true, false, List, [], Option, Some, length, take, get_or, refl, sym, ◌∙◌, subst, arith, if◌then◌else◌, IsSomeAnd, ◌∷◌, None, zero, suc, ◌++◌, not, filter}
+use Rattle.std.proofs.Common.{◌≡◌, ℕ, ◌+◌, ◌-◌, ◌<◌, ◌≤◌, ◌==◌, Bool, true, false, List, [], Option, Some, length, take, get_or, refl, sym, ◌∙◌, subst, arith, if◌then◌else◌, IsSomeAnd, ◌∷◌, None, zero, suc, ◌++◌, not, filter, slice_index, ap}
+use Rattle.std.proofs.lemmas.Bool.Decides.{nat_tests}
 use Rattle.std.proofs.lemmas.Bool.{ltb-false}
 use Rattle.std.proofs.lemmas.List.{get_or-replicate, get_or-append_right, length-take}
 use Rattle.f11_store.specs.declared.callers.Uic.{Uic}
@@ -7,12 +8,18 @@ use Rattle.f11_store.specs.declared.files.FileId.{FileId}
 use Rattle.f11_store.specs.declared.requests.Reply.{Reply}
 use Rattle.f11_store.specs.declared.requests.Reply.TheVariants as reply
 use Rattle.f11_store.specs.declared.requests.Request.TheVariants as request
-use Rattle.f11_store.specs.File.{File, length_of, with_mark, zero_block, zero_blocks}
+use Rattle.f11_store.specs.File.{File, need, length_of, with_mark, zero_block, zero_blocks}
 use Rattle.std.specs.List.{range_with_len}
 use Rattle.f11_store.specs.declared.refusals.Refusal.TheVariants.{NoHeader}
 use Rattle.f11_store.specs.Store.{Store, file_named, id_held, file_held, is_accessed, free_slots, free_headers, least_free}
 use Rattle.f11_store.specs.Changes.{Truncates, Grows, next_sequence, with_file, with_marked_file, without_file_at, with_cut_file}
 use Rattle.f11_store.specs.Step.{Serves, next_id, block_at}
+use Rattle.f11_store.specs.Changes.{GetsSlots, Lengthens, with_slots_first, with_slots_if}
+use Rattle.f11_store.specs.Headroom.{slots_first}
+use Rattle.f11_store.specs.Lags.{last_of}
+use Rattle.f11_store.specs.SlotsFirst.{IsReady}
+use Rattle.f11_store.proofs.LagLaws.{last_there}
+use Rattle.f11_store.proofs.SlotsFirst.{free-stays, gained-is-ready, gained-blocks, last-stays}
 use Rattle.f11_store.specs.Laws.{NewSlotWasFree, NewFileIsNext, AccessedKeepsBlocks, CutComesBackZero}
 use Rattle.f11_store.proofs.StoreLemmas.{none_first, none_rest, same_number, kept-with_change, length-file_named}
 
@@ -45,29 +52,44 @@ pub record IsFreeSlot (s : Store) (n : ℕ) : Type 0 where
   pub high : n ≤ s.slots
   pub unused : s.in_use n ≡ false
 
-pub least_free_is_free : (s : Store) → (free_headers s == 0) ≡ false → IsFreeSlot s (least_free s)
+pub least_free_is_free : (s : Store) → 1 ≤ free_headers s → IsFreeSlot s (least_free s)
 unfolding free_slots
 least_free_is_free s h =
-    let l = first_passes (λ n. not (s.in_use n)) 6 (s.slots - 5) h in
+    let l = first_passes (λ n. not (s.in_use n)) 6 (s.slots - 5) (grind (arith, nat_tests, h)) in
     record { low = l.0; high = omega (arith, l.0, l.1); unused = not_in_use (s.in_use (least_free s)) l.2 }
   where
     not_in_use : (b : Bool) → not b ≡ true → b ≡ false
     not_in_use false e = refl
     not_in_use true e = absurd (cc)
 
+-- the identification that Create answers is that of the store in which the file is made
+made_id : (s t : Store) (n : ℕ) → IsReady s n t → next_id (with_slots_if n s) ≡ next_id t
+made_id s t n ready = sym (λ i.
+    let slot : ℕ = slice_index (free-stays s t n ready i) 0 in
+    record { number = slot; sequence = next_sequence (ready.last i slot); volume = 0 })
+
 pub new_slot_was_free : NewSlotWasFree
 new_slot_was_free s task caller word ident attr block id s' block' h =
-    let free : IsFreeSlot s (least_free s) = least_free_is_free s (none_first (free_headers s == 0) NoHeader None h.no_cause) in
-    subst (λ (i : FileId). (6 ≤ i.number) × (i.number ≤ s.slots) × (s.in_use i.number ≡ false))
-    (sym (created_id id (next_id s) h.reply_is)) (free.low, free.high, free.unused)
+    let made = h.changes in
+    let ready : IsReady s (slots_first s 1) made.ready = gained-is-ready s made.ready 1 made.gains in
+    let free : IsFreeSlot made.ready (least_free made.ready) = least_free_is_free made.ready made.enough in
+    subst (λ (i : FileId). (6 ≤ i.number) × (i.number ≤ s'.slots) × (s.in_use i.number ≡ false))
+    (sym (created_id id (next_id (with_slots_first s 1)) h.reply_is ∙ made_id s made.ready _ ready)) (
+      free.low,
+      omega (arith, free.high, ap (λ (x : Store). x.slots) made.makes),
+      sym (ap (λ (used : ℕ → Bool). used (least_free made.ready)) ready.in_use) ∙ free.unused,
+    )
 
 pub new_file_is_next : NewFileIsNext
 new_file_is_next s task caller word ident attr block id s' block' h =
-    subst (λ (i : FileId). (i.sequence ≡ next_sequence (s.last i.number)) × (s'.last i.number ≡ i.sequence))
-    (sym (created_id id (next_id s) h.reply_is)) (
-      refl,
-      subst (λ (x : Store). x.last (next_id s).number ≡ (next_id s).sequence) (sym h.changes)
-          (rw (same_number (next_id s).number) refl),
+    let made = h.changes in
+    let ready : IsReady s (slots_first s 1) made.ready = gained-is-ready s made.ready 1 made.gains in
+    let free : IsFreeSlot made.ready (least_free made.ready) = least_free_is_free made.ready made.enough in
+    subst (λ (i : FileId). (i.sequence ≡ next_sequence (last_of s i.number)) × (s'.last i.number ≡ i.sequence))
+    (sym (created_id id (next_id (with_slots_first s 1)) h.reply_is ∙ made_id s made.ready _ ready)) (
+      ap next_sequence (sym (last_there made.ready (least_free made.ready) free.high) ∙ last-stays s made.ready (slots_first s 1) (least_free made.ready) ready),
+      subst (λ (x : Store). x.last (next_id made.ready).number ≡ (next_id made.ready).sequence) (sym made.makes)
+          (rw (same_number (next_id made.ready).number) refl),
     )
 
 pub accessed_keeps_blocks : AccessedKeepsBlocks
@@ -110,25 +132,36 @@ can_cut s task caller lun to block a s' block' h =
 
 -- a file that was cut and then extended
 cut_then_grown :
-    (s s'' : Store) (k to n vbn : ℕ) (f : File) (headers pointers room : ℕ) →
-    Grows (with_cut_file s k f to headers pointers room) k n (zero_blocks n) s'' →
+    (s t s'' : Store) (k to n vbn more : ℕ) (f : File) (headers pointers room : ℕ) →
+    GetsSlots more (with_cut_file s k f to headers pointers room) t → Grows t k n (zero_blocks n) s'' →
     to ≤ length f.blocks → to < vbn → vbn ≤ to + n → IsSomeAnd (s''.file k) (λ g. block_at g vbn ≡ zero_block)
-cut_then_grown s s'' k to n vbn f headers pointers room grows long above below =
+cut_then_grown s t s'' k to n vbn more f headers pointers room gains grows long above below =
     subst (λ (x : Store). IsSomeAnd (x.file k) (λ g. block_at g vbn ≡ zero_block)) (sym grows.store_is)
-    (rw (same_number k) (subst (λ (g : File). get_or (g.blocks ++ zero_blocks n) (vbn - 1) [] ≡ zero_block) before
+    (rw (same_number k) (subst (λ (bs : List (List ℕ)). get_or (bs ++ zero_blocks n) (vbn - 1) [] ≡ zero_block) before
     (zero_past f.blocks to n vbn long above below)))
   where
-    before : record f { held = take headers f.held; pointers = pointers; room = room; blocks = take to f.blocks } ≡ grows.before
-    before = file_there s k _ grows.before grows.was
+    cut : File
+    cut = record f { held = take headers f.held; pointers = pointers; room = room; blocks = take to f.blocks }
+
+    there : (with_cut_file s k f to headers pointers room).file k ≡ Some cut
+    there = rw (same_number k) refl
+
+    before : take to f.blocks ≡ grows.before.blocks
+    before = sym (gained-blocks (with_cut_file s k f to headers pointers room) t more k cut grows.before gains there grows.was)
 
 pub cut_comes_back_zero : CutComesBackZero
 cut_comes_back_zero s task caller lun to n block a b s' s'' block' block'' vbn h k above below =
-    cut_then_grown s s'' (id_held s task lun).number to n vbn cut.before cut.headers cut.pointers cut.room
-    (subst (λ (x : Store). Grows x (id_held x task lun).number n (zero_blocks n) s'') cut.store_is k.changes)
+    cut_then_grown s grown.ready s'' (id_held s task lun).number to n vbn (slots_first s' (need (file_held s' task lun).room n))
+    cut.before cut.headers cut.pointers cut.room
+    (subst (λ (x : Store). GetsSlots (slots_first s' (need (file_held s' task lun).room n)) x grown.ready) cut.store_is grown.gains)
+    (subst (λ (i : ℕ). Grows grown.ready i n (zero_blocks n) s'') (ap (λ (x : Store). (id_held x task lun).number) cut.store_is) grown.makes)
     long above below
   where
     cut : Truncates s (id_held s task lun).number to s'
     cut = h.changes
+
+    grown : Lengthens s' (id_held s' task lun) n s''
+    grown = k.changes
 
     long : to ≤ length cut.before.blocks
     long =

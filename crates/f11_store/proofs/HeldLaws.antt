@@ -1,11 +1,13 @@
 -- What holds of a store holds with any accesses beside.
-use Rattle.std.proofs.Common.{◌≡◌, ℕ, List, [], ◌∷◌, Option, refl, ◌∙◌, ap, take}
+use Rattle.std.proofs.Common.{◌≡◌, ◌≤◌, ℕ, zero, suc, List, [], ◌∷◌, Option, refl, sym, ◌∙◌, ap, subst, take, arith}
 use Rattle.f11_store.specs.declared.callers.Uic.{Uic}
-use Rattle.f11_store.specs.File.{File}
-use Rattle.f11_store.specs.Store.{Store, Access, free_slots, free_headers}
-use Rattle.f11_store.specs.Causes.{growth_causes}
-use Rattle.f11_store.specs.Changes.{Grows, GrowsIndex, Truncates, after_create}
-use Rattle.f11_store.specs.Lags.{Part, file_changes, file_appears, file_goes, slot_appears, with_part, with_parts, Work, LagsBy}
+use Rattle.f11_store.specs.File.{File, need, zero_blocks}
+use Rattle.f11_store.specs.declared.files.FileId.{FileId}
+use Rattle.f11_store.specs.Store.{Store, Access, file_named, free_slots, free_headers}
+use Rattle.f11_store.specs.Causes.{create_causes, extend_causes, growth_causes}
+use Rattle.f11_store.specs.Headroom.{lacks_headers, slots_first}
+use Rattle.f11_store.specs.Changes.{AfterSlots, Extends, GetsSlots, Lengthens, MakesFile, with_slots_first, with_slots_if, Grows, GrowsIndex, Truncates, after_create}
+use Rattle.f11_store.specs.Lags.{after_slots, extend_work, lengthen_work, make_work, new_file_work, with_headers_first, Part, file_changes, file_appears, file_goes, slot_appears, with_part, with_parts, Work, LagsBy}
 use Rattle.f11_store.specs.Accesses.{with_accesses}
 
 module _ (a : ℕ → ℕ → Option Access) where
@@ -75,3 +77,65 @@ module _ (a : ℕ → ℕ → Option Access) where
     no_header = lags.no_header;
     limits = record { bitmap_blocks = lags.limits.bitmap_blocks; index_bitmap_blocks = lags.limits.index_bitmap_blocks; limit = lags.limits.limit };
   }
+
+  -- the slots that come first
+  pub slots-held : (s : Store) (headers : ℕ) → slots_first (with_accesses a s) headers ≡ slots_first s headers
+  unfolding free_slots lacks_headers slots_first
+  slots-held s headers = refl
+
+  pub extend-causes-held : (s : Store) (f : File) (n : ℕ) → extend_causes (with_accesses a s) f n ≡ extend_causes s f n
+  unfolding free_slots lacks_headers slots_first
+  extend-causes-held s f n = refl
+
+  pub create-causes-held : (s : Store) → create_causes (with_accesses a s) ≡ create_causes s
+  unfolding free_slots lacks_headers slots_first
+  create-causes-held s = refl
+
+  gains-held : (s t : Store) (n : ℕ) → GetsSlots n s t → GetsSlots n (with_accesses a s) (with_accesses a t)
+  gains-held s t zero e = ap (with_accesses a) e
+  gains-held s t (suc n) e = index-grows-held s t (suc n) e
+
+  after-slots-held :
+      (s : Store) (headers : ℕ) (Makes Holds : Store → Type 0) → ((t : Store) → Makes t → Holds (with_accesses a t)) →
+      AfterSlots s headers Makes → AfterSlots (with_accesses a s) headers Holds
+  after-slots-held s headers Makes Holds holds h = record {
+    ready = with_accesses a h.ready;
+    gains = subst (λ (n : ℕ). GetsSlots n (with_accesses a s) (with_accesses a h.ready)) (sym (slots-held s headers)) (gains-held s h.ready _ h.gains);
+    enough = omega (arith, h.enough, free-held h.ready);
+    makes = holds h.ready h.makes;
+  }
+
+  -- and the work after them
+  work-after : (n : ℕ) (s : Store) (w : Work) → after_slots n (with_accesses a s) w ≡ after_slots n s w
+  work-after zero s w = refl
+  work-after (suc n) s w = refl
+
+  first-work-held : (s : Store) (headers : ℕ) (w : Work) → with_headers_first (with_accesses a s) headers w ≡ with_headers_first s headers w
+  first-work-held s headers w = ap (λ (n : ℕ). after_slots n (with_accesses a s) w) (slots-held s headers) ∙ work-after (slots_first s headers) s w
+
+  new-file-after : (n : ℕ) (s : Store) (caller : Uic) (word : ℕ) (ident attr : List ℕ) →
+      new_file_work (with_slots_if n (with_accesses a s)) caller word ident attr ≡ new_file_work (with_slots_if n s) caller word ident attr
+  unfolding free_slots
+  new-file-after zero s caller word ident attr = refl
+  new-file-after (suc n) s caller word ident attr = refl
+
+  pub make-work-held : (s : Store) (caller : Uic) (word : ℕ) (ident attr : List ℕ) →
+      make_work (with_accesses a s) caller word ident attr ≡ make_work s caller word ident attr
+  make-work-held s caller word ident attr =
+      ap (λ (n : ℕ). with_headers_first (with_accesses a s) 1 (new_file_work (with_slots_if n (with_accesses a s)) caller word ident attr)) (slots-held s 1)
+      ∙ ap (with_headers_first (with_accesses a s) 1) (new-file-after (slots_first s 1) s caller word ident attr)
+      ∙ first-work-held s 1 (new_file_work (with_slots_first s 1) caller word ident attr)
+
+  pub makes-held : (s s' : Store) (caller : Uic) (word : ℕ) (ident attr : List ℕ) → MakesFile s caller word ident attr s' →
+      MakesFile (with_accesses a s) caller word ident attr (with_accesses a s')
+  makes-held s s' caller word ident attr =
+      after-slots-held s 1 (λ t. s' ≡ after_create t caller word ident attr) (λ t. with_accesses a s' ≡ after_create t caller word ident attr)
+      (λ t e. ap (with_accesses a) e ∙ sym (created-held t caller word ident attr))
+
+  pub lengthens-held : (s s' : Store) (f : FileId) (n : ℕ) → Lengthens s f n s' → Lengthens (with_accesses a s) f n (with_accesses a s')
+  lengthens-held s s' f n =
+      after-slots-held s (need (file_named s f).room n) (λ t. Extends t f.number n s') (λ t. Extends t f.number n (with_accesses a s'))
+      (λ t grows. grows-held t s' f.number n (zero_blocks n) grows)
+
+  pub lengthen-work-held : (s : Store) (f : FileId) (n : ℕ) → lengthen_work (with_accesses a s) f n ≡ lengthen_work s f n
+  lengthen-work-held s f n = first-work-held s (need (file_named s f).room n) (extend_work f.number (file_named s f).room n)

@@ -15,7 +15,7 @@ use Rattle.f11_store.specs.Directory.{index_of_name, index_of_empty, empty_recor
 use Rattle.f11_store.specs.Causes.{first_refusal}
 use Rattle.std.specs.List.{range_with_len}
 use Rattle.f11_store.specs.Changes.{Changes, with_marked_file, is_in, next_sequence, file_created, after_create, with_first_blocks, with_cut_file, with_grown_file, MayGrow, GrowsIndex, with_more_slots, with_delete_mark, with_end_after, with_entry_at_end, Extends, EntersAtEnd, EntersAt, with_change, with_block, with_entry, with_replacement, with_access, is_due, without_file_at, after_giving_up, after_deaccess, after_release}
-use Rattle.f11_store.specs.Lags.{file_changes, with_parts, with_part, SameLimits, Work, no_work, one_part, create_work, extend_work, grow_work, go_work, mark_work, end_work, append_work, enter_work, give_up_work, deaccess_work, release_work, served_work, work_if, work_of, with_no_mark, grow_parts, extend_parts, AreLike, last_of, LagsBy}
+use Rattle.f11_store.specs.Lags.{file_changes, with_parts, with_part, SameLimits, Work, and_then, no_work, one_part, create_work, extend_work, grow_work, go_work, mark_work, end_work, append_work, enter_work, give_up_work, deaccess_work, release_work, served_work, work_if, work_of, with_no_mark, grow_parts, extend_parts, AreLike, last_of, LagsBy}
 use Rattle.f11_store.specs.Laws.{LagsItself, StepLags}
 use Rattle.f11_store.proofs.Frees.{Frees, same_limits, frees_change, frees_access, frees_without_file, frees_deaccess, frees_release}
 use Rattle.f11_store.proofs.Growth.{alike, headers_taken, last_or_next, stays_unused, grown_alike, extend_and_slots, slots_one_by_one, room-file_named, StoresAlike, entry_at_end_alike}
@@ -40,7 +40,7 @@ lags_itself work s = record {
 }
 
 -- nothing changed
-unchanged_lags : (work : Work) (s t : Store) → t ≡ s → LagsBy work t s
+pub unchanged_lags : (work : Work) (s t : Store) → t ≡ s → LagsBy work t s
 unchanged_lags work s t e = subst (λ (x : Store). LagsBy work x s) (sym e) (lags_itself work s)
 
 -- more free headers where no other slot is in use
@@ -84,7 +84,7 @@ change_lags s k change =
     (λ n. alike ((with_change s k change).file n)) refl (frees_change s k change)
 
 -- the work of a request that is served
-work_served :
+pub work_served :
     (s : Store) (task : ℕ) (caller : Uic) (r : Request) (block : List ℕ) → first_refusal s task caller r ≡ None →
     work_of s task caller r block ≡ served_work s task caller r block
 work_served s task caller r block h = ap (λ o. work_if o (served_work s task caller r block)) h
@@ -195,7 +195,7 @@ gone_lags s k =
 pub none_added : (less room n added : ℕ) → less ≤ room → added ≤ need room n → need less n ≡ 0 → added ≡ 0
 none_added less room n added h k e = omega (arith, need_no_less less room n h, h, k, e)
 
-grown_takes :
+pub grown_takes :
     (s : Store) (k n : ℕ) (f : File) (blocks : List (List ℕ)) (added pointers room less : ℕ) →
     MayGrow f n added pointers room → less ≤ f.room →
     Takes s (λ m. m == k) n (need less n) (with_grown_file s k f n blocks added pointers room)
@@ -217,7 +217,7 @@ grown_takes s k n f blocks added pointers room less may h = record {
 }
 
 -- a file that grew
-extended_lags :
+pub extended_lags :
     (s t : Store) (id : FileId) (n : ℕ) → Extends s id.number n t → LagsBy (extend_work id.number (file_named s id).room n) t s
 extended_lags s t id n grows =
     subst (λ (x : Store). LagsBy (extend_work id.number (file_named s id).room n) x s) (sym grows.store_is)
@@ -230,57 +230,13 @@ extended_lags s t id n grows =
     after : Store
     after = with_grown_file s id.number grows.before n (zero_blocks n) grows.added grows.pointers grows.room
 
--- after what was taken, a change of the file
-takes_then_change :
-    (s t : Store) (k blocks headers : ℕ) (change : File → File) → Takes s (λ n. n == k) blocks headers t →
-    Takes s (λ n. (n == k) || (n == k)) (blocks + 0) (headers + 0) (with_change t k change)
-takes_then_change s t k blocks headers change h = record {
-  others = λ n out. rw (neither (n == k) (n == k) out).0 (h.others n (neither (n == k) (n == k) out).0);
-  free = omega (arith, h.free);
-  slots_free = omega (arith, h.slots_free, free_headers_grow t (with_change t k change) (λ n e. e) refl);
-  last = h.last;
-  no_header = λ e. h.no_header (omega (arith, e));
-  slots = h.slots;
-  same = same_limits h.same.bitmap_blocks h.same.index_bitmap_blocks h.same.limit;
-}
-
-entered_at_end :
-    (b : Bool) (s t : Store) (d : FileId) (i : ℕ) (r : List ℕ) → EntersAtEnd b s d.number i r t →
-    LagsBy (append_work b d.number (file_named s d).room i r) t s
-entered_at_end false s t d i r h =
+-- the record at a directory's end
+pub entered_behind :
+    (s t : Store) (d : FileId) (i : ℕ) (r : List ℕ) → t ≡ with_entry_at_end s d.number i r → LagsBy (end_work d.number i r) t s
+entered_behind s t d i r h =
     subst (λ (x : Store). LagsBy (end_work d.number i r) x s) (sym h)
     (frees_lags (end_work d.number i r) s (with_entry_at_end s d.number i r)
     (entry_at_end_alike s s d.number i r (λ m. alike (s.file m))) refl (frees_change s d.number (λ f. with_end_after i (with_entry i r f))))
-entered_at_end true s t d i r (grown, grows, e) =
-    subst (λ (x : Store). LagsBy work x s) (sym (e ∙ ap (λ u. with_entry_at_end u d.number i r) grows.store_is))
-    (takes_lags work s (with_entry_at_end after d.number i r)
-    (λ m. subst (λ (x : Store). AreLike ((with_entry_at_end after d.number i r).file m) (x.file m)) (sym joined)
-    (entry_at_end_alike after (with_parts s (extend_parts d.number 1)) d.number i r
-    (grown_alike s d.number 1 grows.before grows.added grows.pointers grows.room grows.was) m))
-    (sym (ap (λ x. x.slots) joined ∙ extend_and_slots s d.number 1))
-    (takes_then_change s after d.number 1 (need (file_named s d).room 1) (λ f. with_end_after i (with_entry i r f))
-    (grown_takes s d.number 1 grows.before (zero_blocks 1) grows.added grows.pointers grows.room (file_named s d).room
-    grows.may_grow (room-file_named s d grows.before grows.was))))
-  where
-    work : Work
-    work = append_work true d.number (file_named s d).room i r
-
-    after : Store
-    after = with_grown_file s d.number grows.before 1 (zero_blocks 1) grows.added grows.pointers grows.room
-
-    joined : with_parts s work.parts
-        ≡ with_change (with_change (with_parts s (extend_parts d.number 1)) d.number (with_entry i r)) d.number (with_end_after i)
-    joined = fold-append with_part s (extend_parts d.number 1) (end_work d.number i r).parts
-
--- a record that is entered
-entered_lags :
-    (o : Option ℕ) (s t : Store) (d : FileId) (r : List ℕ) → EntersAt o s d r t →
-    LagsBy (enter_work o (file_named s d) d.number r) t s
-entered_lags (Some i) s t d r h =
-    subst (λ (x : Store). LagsBy (one_part d.number (file_changes d.number (with_entry i r))) x s) (sym h)
-    (change_lags s d.number (with_entry i r))
-entered_lags None s t d r h =
-    entered_at_end (needs_block (file_named s d)) s t d (entry_count (file_named s d)) r h
 
 -- slots that are added have no sequence number yet, and the others keep theirs
 old_slot : (slots n m x : ℕ) → m ≤ slots → (if nat_lt slots m && nat_le m (slots + n) then 0 else x) ≡ x
@@ -309,7 +265,7 @@ unfolding grow_parts
 parts_of_growth s n = slots_one_by_one n (with_change s 1 with_no_mark)
 
 -- the index file that grew
-grown_lags : (s t : Store) (n : ℕ) → GrowsIndex s n t → LagsBy (grow_work (index_file s).room n) t s
+pub grown_lags : (s t : Store) (n : ℕ) → GrowsIndex s n t → LagsBy (grow_work (index_file s).room n) t s
 grown_lags s t n grew =
     subst (λ (x : Store). LagsBy work x s) (sym (grew.store_is ∙ ap (λ u. with_more_slots u n) grew.grows.store_is)) (record {
       done = length work.parts;
@@ -359,98 +315,3 @@ grown_lags s t n grew =
         (if b then Some (with_no_mark grew.grows.before) else o)
     by_test true o = record { sequence = refl; owner = refl; protection = refl; characteristics = refl; ident = refl; attr = refl; blocks = append-nil grew.grows.before.blocks }
     by_test false o = alike o
-
--- two stores have the same files and as many slots
-pub record SameFiles (t s : Store) : Type 0 where
-  pub files : (n : ℕ) → t.file n ≡ s.file n
-  pub slots : t.slots ≡ s.slots
-
--- the parts of giving up make the files of the store after it
-given_up_files :
-    (s t : Store) (task lun : ℕ) (o : Option Access) → SameFiles t s →
-    SameFiles (with_parts t (give_up_work s task lun o).parts) (after_giving_up s task lun o)
-given_up_files s t task lun None h = h
-given_up_files s t task lun (Some a) h = by_test (is_due (with_access s task lun None) a.file)
-  where
-    by_test : (b : Bool) →
-        SameFiles (with_parts t (if b then go_work a.file.number else no_work).parts)
-        (if b then without_file_at (with_access s task lun None) a.file.number else with_access s task lun None)
-    by_test true = record {
-      files = λ n. ap (λ (o : Option File). if n == a.file.number then None else o) (h.files n);
-      slots = h.slots;
-    }
-    by_test false = record { files = h.files; slots = h.slots }
-
--- and so do those of Release
-released_files :
-    (luns : List ℕ) (s t : Store) (task : ℕ) → SameFiles t s →
-    SameFiles (with_parts t (release_work s task luns).parts) (fold (λ u lun. after_deaccess u task lun) s luns)
-released_files [] s t task h = h
-released_files (lun ∷ luns) s t task h =
-    subst (λ (x : Store). SameFiles x (fold (λ u l. after_deaccess u task l) (after_deaccess s task lun) luns))
-    (sym (fold-append with_part t (deaccess_work s task lun).parts (release_work (after_deaccess s task lun) task luns).parts))
-    (released_files luns (after_deaccess s task lun) (with_parts t (deaccess_work s task lun).parts) task
-    (given_up_files s t task lun (s.access task lun) h))
-
--- what takes nothing and makes the files that the parts make lags
-same_files_lag :
-    (work : Work) (s t : Store) → SameFiles (with_parts s work.parts) t → Frees s work.is_meant t → LagsBy work t s
-same_files_lag work s t same frees =
-    frees_lags work s t (λ n. rw same.files (alike (t.file n))) (sym same.slots) frees
-
--- the same store
-same_files : (s : Store) → SameFiles s s
-same_files s = record { files = λ n. refl; slots = refl }
-
--- the store after a request that is served
-served_lags :
-    (s : Store) (task : ℕ) (caller : Uic) (r : Request) (block : List ℕ) (t : Store) → Changes s task caller r block t →
-    LagsBy (served_work s task caller r block) t s
-served_lags s task caller (request.Create word ident attr) block t h =
-    subst (λ (x : Store). LagsBy (served_work s task caller (request.Create word ident attr) block) x s) (sym h)
-    (created_lags s caller word ident attr)
-served_lags s task caller (request.Extend lun n) block t h = extended_lags s t (id_held s task lun) n h
-served_lags s task caller (request.Truncate lun to) block t h =
-    subst (λ (x : Store). LagsBy (served_work s task caller (request.Truncate lun to) block) x s) (sym h.store_is)
-    (cut_lags s (id_held s task lun).number to h.before h.headers h.pointers h.room h.was)
-served_lags s task caller (request.Delete id) block t h =
-    subst (λ (x : Store). LagsBy (served_work s task caller (request.Delete id) block) x s) (sym h) (by_test (is_accessed s id))
-  where
-    by_test : (b : Bool) →
-        LagsBy (if b then mark_work id.number else go_work id.number) (if b then with_marked_file s id.number else without_file_at s id.number) s
-    by_test true = change_lags s id.number with_delete_mark
-    by_test false = gone_lags s id.number
-served_lags s task caller (request.GrowIndex n) block t h = grown_lags s t n h
-served_lags s task caller (request.Access id m lun) block t h =
-    subst (λ (x : Store). LagsBy no_work x s) (sym h)
-    (frees_lags no_work s _ (λ n. alike (s.file n)) refl
-    (frees_access s (λ _. false) task lun (Some (record { file = id; mode = m }))))
-served_lags s task caller (request.Deaccess lun) block t h =
-    subst (λ (x : Store). LagsBy (deaccess_work s task lun) x s) (sym h)
-    (same_files_lag (deaccess_work s task lun) s (after_deaccess s task lun)
-    (given_up_files s s task lun (s.access task lun) (same_files s)) (frees_deaccess s task lun))
-served_lags s task caller request.Release block t h =
-    subst (λ (x : Store). LagsBy (release_work s task (range_with_len 0 4)) x s) (sym h)
-    (same_files_lag (release_work s task (range_with_len 0 4)) s (after_release s task)
-    (released_files (range_with_len 0 4) s s task (same_files s)) (frees_release (range_with_len 0 4) s task))
-served_lags s task caller (request.ReadBlock lun vbn) block t h = unchanged_lags no_work s t h
-served_lags s task caller (request.WriteBlock lun vbn) block t h =
-    subst (λ (x : Store). LagsBy (served_work s task caller (request.WriteBlock lun vbn) block) x s) (sym h)
-    (change_lags s (id_held s task lun).number (with_block vbn block))
-served_lags s task caller (request.Find d name) block t h = unchanged_lags no_work s t h
-served_lags s task caller (request.Enter d name id) block t h =
-    entered_lags (index_of_empty (file_named s d)) s t d (record_bytes id name) h
-served_lags s task caller (request.Remove d name) block t h =
-    subst (λ (x : Store). LagsBy (served_work s task caller (request.Remove d name) block) x s) (sym h)
-    (change_lags s d.number (with_entry (unwrap_or (index_of_name name (file_named s d)) 0) empty_record))
-served_lags s task caller (request.ReadAttr id) block t h = unchanged_lags no_work s t h
-served_lags s task caller (request.WriteAttr id c) block t h =
-    subst (λ (x : Store). LagsBy (served_work s task caller (request.WriteAttr id c) block) x s) (sym h)
-    (change_lags s id.number (with_replacement c))
-served_lags s task caller request.Space block t h = unchanged_lags no_work s t h
-
-pub step_lags : StepLags
-step_lags s task caller r block (Err e) t block' h = unchanged_lags (work_of s task caller r block) s t h.store_stays
-step_lags s task caller r block (Ok a) t block' h =
-    subst (λ (w : Work). LagsBy w t s) (sym (work_served s task caller r block h.no_cause))
-    (served_lags s task caller r block t h.changes)

@@ -23,5 +23,8 @@ pub mod PieceLemmas
 pub mod PieceLagLemmas
 pub mod AddedSlotLemmas
 pub mod IndexPieceLagLemmas
+pub mod Respects
+pub mod SlotsFirst
+pub mod StepLags
 pub mod GrowsLemmas
 pub mod GrowsLagLemmas

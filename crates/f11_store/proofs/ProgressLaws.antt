@@ -1,18 +1,19 @@
 -- Exact progress, and what lags after it.
 use Rattle.std.proofs.Common.{◌≡◌, ◌⊎◌, ℕ, ◌+◌, ◌≤◌, ◌==◌, Bool, true, false, List, [], ◌∷◌, ◌++◌, zero, suc, length, take, min, Option, Some, None, option_map, if◌then◌else◌, refl, sym, ◌∙◌, ap, subst, arith, nat_le, inl}
-use Rattle.std.proofs.lemmas.Bool.{or_parts}
+use Rattle.std.proofs.lemmas.Bool.{leb-true, or_parts}
+use Rattle.std.proofs.lemmas.Bool.Decides.{nat_tests}
 use Rattle.std.proofs.lemmas.List.{take-append-le, take_min}
 use Rattle.std.proofs.lemmas.List.Sums.{fold-append}
 use Rattle.std.proofs.Math.Seq.{take-length}
 use Rattle.f11_store.specs.declared.files.FileId.{FileId}
 use Rattle.f11_store.specs.File.{File, zero_blocks}
 use Rattle.f11_store.specs.Store.{Store, file_named, free_slots, free_headers}
-use Rattle.f11_store.specs.Changes.{next_sequence, with_change, with_grown_file, MayGrow, is_in}
+use Rattle.f11_store.specs.Changes.{next_sequence, with_change, with_grown_file, Extends}
 use Rattle.f11_store.specs.Lags.{Part, file_changes, file_appears, file_goes, slot_appears, with_part, with_parts, Work, no_work, extend_work, AreLike, last_of, LagsBy}
-use Rattle.f11_store.proofs.Frees.{same_limits, same_limits_then}
-use Rattle.f11_store.proofs.Growth.{alike, StoresAlike, headers_taken, last_or_next, stays_unused, grown_alike, extend_and_slots, room-file_named}
-use Rattle.f11_store.proofs.LagLaws.{last_there, need_no_less, none_added, taken_at_most}
-use Rattle.f11_store.specs.Moments.{IsRespectful, AreRespectful, Did, MoreWorkLags, SameChangeLags, DidLags, LagsAfter, DidBoth, ExtendsDid, ChangeDid}
+use Rattle.f11_store.proofs.Frees.{Frees, same_limits, same_limits_then}
+use Rattle.f11_store.proofs.Growth.{alike, StoresAlike, grown_alike, extend_and_slots, room-file_named}
+use Rattle.f11_store.proofs.LagLaws.{free_headers_grow, grown_takes, last_there, Takes}
+use Rattle.f11_store.specs.Moments.{IsRespectful, AreRespectful, Did, MoreWorkLags, SameChangeLags, DidLags, LagsAfter, DidBoth, ChangeDid}
 
 pub more_work_lags : MoreWorkLags
 more_work_lags t s w v rest is meant blocks headers lags =
@@ -59,16 +60,6 @@ same_change_lags t s k f c e was same lags = record {
     slots_at (suc zero) h = h
     slots_at (suc (suc n)) h = h
 
--- what was last given, by the number of slots
-last_alike : (u s : Store) (n : ℕ) → u.slots ≡ s.slots → (u.last n ≡ s.last n) ⊎ (u.last n ≡ next_sequence (s.last n)) →
-    (last_of u n ≡ last_of s n) ⊎ (last_of u n ≡ next_sequence (last_of s n))
-last_alike u s n slots h = rw slots (by_test (nat_le n s.slots) h)
-  where
-    by_test : (b : Bool) → (u.last n ≡ s.last n) ⊎ (u.last n ≡ next_sequence (s.last n)) →
-        ((if b then u.last n else 0) ≡ (if b then s.last n else 0)) ⊎ ((if b then u.last n else 0) ≡ next_sequence (if b then s.last n else 0))
-    by_test true l = l
-    by_test false l = inl refl
-
 pub did_lags : DidLags
 did_lags work u s did = record {
   done = length work.parts;
@@ -77,13 +68,10 @@ did_lags work u s did = record {
   others = did.others;
   free_blocks = did.free_blocks;
   headers = did.headers;
-  last = λ n h k. subst (λ (q : ℕ). (u.last n ≡ q) ⊎ (u.last n ≡ next_sequence q)) (sym (there n h)) (did.last n);
-  no_header = λ e n h. did.no_header e n ∙ sym (there n h);
+  last = λ n h k. did.last n h;
+  no_header = did.no_header;
   limits = did.limits;
 }
-  where
-    there : (n : ℕ) → n ≤ u.slots → last_of s n ≡ s.last n
-    there n h = last_there s n (omega (arith, h, did.no_slots))
 
 -- files that are like the same are alike
 pub alike_then : (o p q : Option File) → AreLike o p → AreLike p q → AreLike o q
@@ -138,23 +126,43 @@ parts_alike [] a b respects h = h
 parts_alike (p ∷ ps) a b respects h = parts_alike ps (with_part a p) (with_part b p) respects.1 (part_alike p a b respects.0 h)
 
 -- the first of them too
-taken_respectful : (n : ℕ) (ps : List Part) → AreRespectful ps → AreRespectful (take n ps)
+pub taken_respectful : (n : ℕ) (ps : List Part) → AreRespectful ps → AreRespectful (take n ps)
 taken_respectful zero ps h = tt
 taken_respectful (suc n) [] h = tt
 taken_respectful (suc n) (p ∷ ps) h = (h.0, taken_respectful n ps h.1)
 
 -- the first of two lists, and some of the second
-take-both : (xs ys : List Part) (n : ℕ) → take (length xs + n) (xs ++ ys) ≡ xs ++ take n ys
+pub take-both : (xs ys : List Part) (n : ℕ) → take (length xs + n) (xs ++ ys) ≡ xs ++ take n ys
 take-both [] ys n = ap (λ k. take k ys) (let e : 0 + n ≡ n = omega arith in e)
 take-both (x ∷ xs) ys n =
     ap (λ k. take k (x ∷ (xs ++ ys))) (let e : length (x ∷ xs) + n ≡ suc (length xs + n) = omega arith in e) ∙ ap (λ zs. x ∷ zs) (take-both xs ys n)
 
 -- after the first work's parts, some of the second's
-some_more : (s u : Store) (w : Work) (ps : List Part) → StoresAlike u (with_parts s w.parts) → u.slots ≡ (with_parts s w.parts).slots → AreRespectful ps →
+pub some_more : (s u : Store) (w : Work) (ps : List Part) → StoresAlike u (with_parts s w.parts) → u.slots ≡ (with_parts s w.parts).slots → AreRespectful ps →
     AreAlike (with_parts u ps) (with_parts s (w.parts ++ ps))
 some_more s u w ps files slots respects =
     subst (λ (x : Store). AreAlike (with_parts u ps) x) (sym (fold-append with_part s w.parts ps))
     (parts_alike ps u (with_parts s w.parts) respects (record { files = files; slots = slots }))
+
+-- what a slot was last given after the first work
+last-done : (w : Work) (u s : Store) (n : ℕ) → Did w u s → (last_of u n ≡ last_of s n) ⊎ (last_of u n ≡ next_sequence (last_of s n))
+last-done w u s n did = by_test (nat_le n u.slots) refl
+  where
+    by_test : (b : Bool) → nat_le n u.slots ≡ b →
+        ((if b then u.last n else 0) ≡ last_of s n) ⊎ ((if b then u.last n else 0) ≡ next_sequence (last_of s n))
+    by_test true there = did.last n (leb-true n u.slots there)
+    by_test false above =
+        let none : nat_le n s.slots ≡ false = grind (arith, nat_tests, above, did.no_fewer) in
+        inl (sym (ap (λ (b : Bool). if b then s.last n else 0) none))
+
+last-kept : (w : Work) (u s : Store) (n : ℕ) → Did w u s → w.headers ≡ 0 → last_of u n ≡ last_of s n
+last-kept w u s n did none = by_test (nat_le n u.slots) refl
+  where
+    by_test : (b : Bool) → nat_le n u.slots ≡ b → (if b then u.last n else 0) ≡ last_of s n
+    by_test true there = did.no_header none n (leb-true n u.slots there)
+    by_test false above =
+        let gone : nat_le n s.slots ≡ false = grind (arith, nat_tests, above, did.no_fewer) in
+        sym (ap (λ (b : Bool). if b then s.last n else 0) gone)
 
 pub lags_after : LagsAfter
 lags_after w v t u s did none respects lags = record {
@@ -165,8 +173,8 @@ lags_after w v t u s did none respects lags = record {
   others = λ n out. lags.others n (or_parts (w.is_meant n) (v.is_meant n) out).1 ∙ did.others n (or_parts (w.is_meant n) (v.is_meant n) out).0;
   free_blocks = omega (arith, lags.free_blocks, did.free_blocks);
   headers = omega (arith, lags.headers, did.headers);
-  last = λ n low fileless. subst (λ (q : ℕ). (q ≡ last_of s n) ⊎ (q ≡ next_sequence (last_of s n))) (sym (lags.no_header none n low)) (last_alike u s n did.no_slots (did.last n));
-  no_header = λ e n low. lags.no_header none n low ∙ last_same (omega (arith, e)) n;
+  last = λ n low fileless. subst (λ (q : ℕ). (q ≡ last_of s n) ⊎ (q ≡ next_sequence (last_of s n))) (sym (lags.no_header none n low)) (last-done w u s n did);
+  no_header = λ e n low. lags.no_header none n low ∙ last-kept w u s n did (omega (arith, e));
   limits = same_limits_then s u t did.limits lags.limits;
 }
   where
@@ -176,66 +184,62 @@ lags_after w v t u s did none respects lags = record {
     more : AreAlike (with_parts u (take lags.done v.parts)) (with_parts s (w.parts ++ take lags.done v.parts))
     more = some_more s u w (take lags.done v.parts) did.files did.slots (taken_respectful lags.done v.parts respects)
 
-    last_same : w.headers ≡ 0 → (n : ℕ) → last_of u n ≡ last_of s n
-    last_same e n = ap (λ (k : ℕ). if nat_le n k then u.last n else 0) did.no_slots ∙ ap (λ (k : ℕ). if nat_le n s.slots then k else 0) (did.no_header e n)
-
 pub did_both : DidBoth
 did_both w v t u s did none respects next = record {
   files = λ n. alike_then (t.file n) ((with_parts u v.parts).file n) ((with_parts s (w.parts ++ v.parts)).file n) (next.files n) (more.files n);
   slots = next.slots ∙ more.slots;
-  no_slots = next.no_slots ∙ did.no_slots;
+  no_fewer = omega (arith, next.no_fewer, did.no_fewer);
   others = λ n out. next.others n (or_parts (w.is_meant n) (v.is_meant n) out).1 ∙ did.others n (or_parts (w.is_meant n) (v.is_meant n) out).0;
   free_blocks = omega (arith, next.free_blocks, did.free_blocks);
   headers = omega (arith, next.headers, did.headers);
-  last = λ n. subst (λ (q : ℕ). (q ≡ s.last n) ⊎ (q ≡ next_sequence (s.last n))) (sym (next.no_header none n)) (did.last n);
-  no_header = λ e n. next.no_header none n ∙ did.no_header (omega (arith, e)) n;
+  last = λ n low. subst (λ (q : ℕ). (q ≡ last_of s n) ⊎ (q ≡ next_sequence (last_of s n))) (sym (next.no_header none n low)) (last-done w u s n did);
+  no_header = λ e n low. next.no_header none n low ∙ last-kept w u s n did (omega (arith, e));
   limits = same_limits_then s u t did.limits next.limits;
 }
   where
     more : AreAlike (with_parts u v.parts) (with_parts s (w.parts ++ v.parts))
     more = some_more s u w v.parts did.files did.slots respects
 
-grown_did :
-    (s : Store) (d : FileId) (n : ℕ) (f : File) (added pointers room : ℕ) → s.file d.number ≡ Some f → MayGrow f n added pointers room →
-    Did (extend_work d.number (file_named s d).room n) (with_grown_file s d.number f n (zero_blocks n) added pointers room) s
-grown_did s d n f added pointers room was may = record {
-  files = grown_alike s d.number n f added pointers room was;
-  slots = sym (extend_and_slots s d.number n);
-  no_slots = refl;
-  others = λ m out. rw out refl;
-  free_blocks = omega arith;
-  headers = omega (
-    arith,
-    may.headers,
-    need_no_less (file_named s d).room f.room n less,
-    taken_at_most added (free_slots s),
-    headers_taken s (with_grown_file s d.number f n (zero_blocks n) added pointers room) (take added (free_slots s))
-        (λ m out unused. stays_unused (is_in (take added (free_slots s)) m) (s.in_use m) out unused) (omega arith),
-  );
-  last = λ m. last_or_next (is_in (take added (free_slots s)) m) (s.last m);
-  no_header = λ e m. rw (none_added (file_named s d).room f.room n added less may.headers e) refl;
-  limits = same_limits refl refl refl;
+-- the work of one that takes what it may, and keeps the slots
+pub did_taking :
+    (work : Work) (s t : Store) → StoresAlike t (with_parts s work.parts) → t.slots ≡ (with_parts s work.parts).slots →
+    Takes s work.is_meant work.blocks work.headers t → Did work t s
+did_taking work s t files slots takes = record {
+  files = files;
+  slots = slots;
+  no_fewer = omega (arith, takes.slots);
+  others = takes.others;
+  free_blocks = takes.free;
+  headers = takes.slots_free;
+  last = λ n h. subst (λ (q : ℕ). (t.last n ≡ q) ⊎ (t.last n ≡ next_sequence q)) (sym (there n h)) (takes.last n);
+  no_header = λ e n h. takes.no_header e n ∙ sym (there n h);
+  limits = takes.same;
 }
   where
-    less : (file_named s d).room ≤ f.room
-    less = room-file_named s d f was
+    there : (n : ℕ) → n ≤ t.slots → last_of s n ≡ s.last n
+    there n h = last_there s n (omega (arith, h, takes.slots))
 
-pub extends_did : ExtendsDid
+-- a file that grew
+pub extends_did : (u s : Store) (d : FileId) (n : ℕ) → Extends s d.number n u → Did (extend_work d.number (file_named s d).room n) u s
 extends_did u s d n grows =
     subst (λ (x : Store). Did (extend_work d.number (file_named s d).room n) x s) (sym grows.store_is)
-    (grown_did s d n grows.before grows.added grows.pointers grows.room grows.was grows.may_grow)
+    (did_taking (extend_work d.number (file_named s d).room n) s (with_grown_file s d.number grows.before n (zero_blocks n) grows.added grows.pointers grows.room)
+    (grown_alike s d.number n grows.before grows.added grows.pointers grows.room grows.was)
+    (sym (extend_and_slots s d.number n))
+    (grown_takes s d.number n grows.before (zero_blocks n) grows.added grows.pointers grows.room (file_named s d).room
+    grows.may_grow (room-file_named s d grows.before grows.was)))
 
 -- nothing was done
 pub nothing_did : (s : Store) → Did no_work s s
 nothing_did s = record {
   files = λ n. alike (s.file n);
   slots = refl;
-  no_slots = refl;
+  no_fewer = omega arith;
   others = λ n out. refl;
   free_blocks = omega arith;
   headers = omega arith;
-  last = λ n. inl refl;
-  no_header = λ e n. refl;
+  last = λ n h. inl (sym (last_there s n h));
+  no_header = λ e n h. sym (last_there s n h);
   limits = same_limits refl refl refl;
 }
 
@@ -248,11 +252,29 @@ pub change_did : ChangeDid
 change_did s k change = record {
   files = λ n. alike ((with_change s k change).file n);
   slots = refl;
-  no_slots = refl;
+  no_fewer = omega arith;
   others = λ n out. rw out refl;
   free_blocks = omega arith;
   headers = omega (arith, same_headers s (with_change s k change) refl refl);
-  last = λ n. inl refl;
-  no_header = λ e n. refl;
+  last = λ n h. inl (sym (last_there s n h));
+  no_header = λ e n h. sym (last_there s n h);
   limits = same_limits refl refl refl;
 }
+
+-- what takes nothing, and makes the files
+pub frees_did :
+    (w : Work) (u s : Store) → StoresAlike u (with_parts s w.parts) → u.slots ≡ (with_parts s w.parts).slots → Frees s w.is_meant u → Did w u s
+frees_did w u s files slots frees = record {
+  files = files;
+  slots = slots;
+  no_fewer = omega (arith, frees.slots);
+  others = frees.others;
+  free_blocks = omega (arith, frees.free);
+  headers = omega (arith, free_headers_grow s u frees.unused frees.slots);
+  last = λ n h. inl (same n h);
+  no_header = λ e n h. same n h;
+  limits = frees.limits;
+}
+  where
+    same : (n : ℕ) → n ≤ u.slots → u.last n ≡ last_of s n
+    same n h = frees.last n ∙ sym (last_there s n (omega (arith, h, frees.slots)))

@@ -11,23 +11,9 @@ use Rattle.f11_store.proofs.Frees.{Frees, frees_given_up}
 use Rattle.f11_store.proofs.Growth.{alike, StoresAlike}
 use Rattle.f11_store.proofs.LagLaws.{free_headers_grow}
 use Rattle.f11_store.specs.Moments.{AreRespectful, Did}
+use Rattle.f11_store.proofs.Respects.{both_respectful}
 use Rattle.f11_store.specs.Release.{released, DeaccessDid, ReleasedDid, ReleaseLags, ReleaseGoesOn, ReleaseEnds, released_cost, ReleaseCostGoesOn, ReleaseFits}
-use Rattle.f11_store.proofs.ProgressLaws.{more_work_lags, lags_after, did_both, nothing_did}
-
--- what takes nothing, and makes the files
-pub frees_did :
-    (w : Work) (u s : Store) → StoresAlike u (with_parts s w.parts) → u.slots ≡ (with_parts s w.parts).slots → Frees s w.is_meant u → Did w u s
-frees_did w u s files slots frees = record {
-  files = files;
-  slots = slots;
-  no_slots = frees.slots;
-  others = frees.others;
-  free_blocks = omega (arith, frees.free);
-  headers = omega (arith, free_headers_grow s u frees.unused frees.slots);
-  last = λ n. inl (frees.last n);
-  no_header = λ e n. frees.last n;
-  limits = frees.limits;
-}
+use Rattle.f11_store.proofs.ProgressLaws.{frees_did, more_work_lags, lags_after, did_both, nothing_did}
 
 -- what is given up
 given_up_did : (s : Store) (task lun : ℕ) (o : Option Access) → Did (give_up_work s task lun o) (after_giving_up s task lun o) s
@@ -58,11 +44,6 @@ plain s task lun (Some a) = by_test (is_due (with_access s task lun None) a.file
 
 plain_deaccess : (s : Store) (task lun : ℕ) → AreRespectful (deaccess_work s task lun).parts × ((deaccess_work s task lun).headers ≡ 0)
 plain_deaccess s task lun = plain s task lun (s.access task lun)
-
--- two lists of parts
-both_respectful : (ps qs : List Part) → AreRespectful ps → AreRespectful qs → AreRespectful (ps ++ qs)
-both_respectful [] qs h k = k
-both_respectful (p ∷ ps) qs h k = (h.0, both_respectful ps qs h.1 k)
 
 plain_release : (luns : List ℕ) (s : Store) (task : ℕ) → AreRespectful (release_work s task luns).parts × ((release_work s task luns).headers ≡ 0)
 plain_release [] s task = (tt, refl)

@@ -150,7 +150,7 @@ found_elsewhere s f other reader d name i before (Err e) s' after first went k =
     by_test : (b : Bool) → is_entered name (file_named s d) ≡ b → e ≡ NoSuchEntry → index_of_name name (file_named s d) ≡ None
     by_test false h missing = none_placed (has_name name) (entries_of (file_named s d)) h
     by_test true h missing =
-        absurd (refused_otherwise (first_refusal s other reader (request.Find d name)) d name e
+        absurd (refused_otherwise (first_refusal s other reader (request.Find d name)) e
         (λ x refused. found_causes (is_bad d) (nat_lt d.number 4) (is_missing s d) (is_marked (file_named s d)) (lacks right.Read reader (file_named s d))
         (not (is_directory (file_named s d))) (is_entered name (file_named s d)) x h refused)
         k.may_refuse missing)

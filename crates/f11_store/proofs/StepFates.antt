@@ -1,5 +1,5 @@
 -- What each request makes of the files: none that somebody accesses goes, and none gets another mark but by its deletion.
-use Rattle.std.proofs.Common.{◌≡◌, ℕ, ◌==◌, Bool, true, false, List, Some, None, Result, Ok, Err, refl, sym, ◌∙◌, ap, subst, if◌then◌else◌}
+use Rattle.std.proofs.Common.{◌≡◌, ℕ, ◌==◌, Bool, true, false, List, Some, None, Result, Ok, Err, refl, sym, ◌∙◌, ◌≤◌, ap, subst, if◌then◌else◌}
 use Rattle.std.proofs.lemmas.Bool.{eqb-true}
 use Rattle.std.specs.Int.{bit_at}
 use Rattle.f11_store.specs.declared.callers.Uic.{Uic}
@@ -13,13 +13,16 @@ use Rattle.f11_store.specs.declared.requests.Request.TheVariants as request
 use Rattle.f11_store.specs.File.{File}
 use Rattle.f11_store.specs.Store.{Store, least_free, free_headers, id_held, is_accessed}
 use Rattle.f11_store.specs.Causes.{first_refusal, is_missing}
-use Rattle.f11_store.specs.Changes.{Changes, with_block, with_replacement, after_create, after_delete, without_file_at, with_marked_file, with_more_slots}
-use Rattle.f11_store.proofs.FileLaws.{least_free_is_free}
+use Rattle.f11_store.specs.Changes.{Changes, GetsSlots, MakesFile, with_block, with_replacement, after_create, after_delete, without_file_at, with_marked_file, with_more_slots}
+use Rattle.f11_store.proofs.FileLaws.{least_free_is_free, IsFreeSlot}
+use Rattle.f11_store.specs.Headroom.{slots_first}
+use Rattle.f11_store.specs.SlotsFirst.{IsReady}
+use Rattle.f11_store.proofs.SlotsFirst.{gained-is-ready}
 use Rattle.f11_store.specs.Step.{Step}
 use Rattle.f11_store.specs.declared.requests.Reply.{Reply}
 use Rattle.f11_store.proofs.StoreLemmas.{none_first}
 use Rattle.f11_store.specs.Accesses.{FreeIsEmpty}
-use Rattle.f11_store.proofs.FateLaws.{Fate, stays, new, fate-none, fate-change, fate-grows, fate-cut, fate-gone, fate-given-up, fate-set, mark-of-cleared}
+use Rattle.f11_store.proofs.FateLaws.{Fate, Keeps, kept, changed, fate-after, fate-grows-index, gained-keeps, stays, new, fate-none, fate-change, fate-grows, fate-cut, fate-gone, fate-given-up, fate-set, mark-of-cleared}
 
 -- a file that is made
 fate-made : (s : Store) (slot n : ℕ) (f : File) (s' : Store) → s.file slot ≡ None → s'.file n ≡ (if n == slot then Some f else s.file n) → Fate s s' n
@@ -46,27 +49,53 @@ Simple s request.Release = ⊥
 Simple s (request.Enter d name id) = ⊥
 Simple s _ = Unit {0}
 
-pub fate-create : (s s' : Store) (caller : Uic) (word : ℕ) (ident attr : List ℕ) (n : ℕ) → s.file (least_free s) ≡ None → s' ≡ after_create s caller word ident attr → Fate s s' n
-fate-create s s' caller word ident attr n empty is = fate-made s (least_free s) n _ s' empty (ap (λ (x : Store). x.file n) is)
+-- it is so once the index file grew
+empty-stays : (s t : Store) (n : ℕ) → IsReady s n t → ((m : ℕ) → Keeps s t m) → FreeIsEmpty s → FreeIsEmpty t
+empty-stays s t n ready keeps empty m free = by_kept (keeps m)
+  where
+    unused : s.in_use m ≡ false
+    unused = sym (ap (λ (used : ℕ → Bool). used m) ready.in_use) ∙ free
+
+    by_kept : Keeps s t m → t.file m ≡ None
+    by_kept (kept e) = e ∙ empty m unused
+    by_kept (changed f g was now alike marked) = absurd (let no : Some f ≡ None = sym was ∙ empty m unused in cc)
+
+-- what is known of a store in which a file is to be made
+pub record MayBeMade (s t : Store) : Type 0 where
+  pub keeps : (m : ℕ) → Keeps s t m
+  pub empty : FreeIsEmpty t
+  pub free : IsFreeSlot t (least_free t)
+
+pub may-be-made : (s t : Store) → GetsSlots (slots_first s 1) s t → 1 ≤ free_headers t → FreeIsEmpty s → MayBeMade s t
+may-be-made s t gains enough empty = record {
+  keeps = λ m. gained-keeps s t _ m gains;
+  empty = empty-stays s t _ (gained-is-ready s t 1 gains) (λ m. gained-keeps s t _ m gains) empty;
+  free = least_free_is_free t enough;
+}
+
+pub fate-create : (s s' : Store) (caller : Uic) (word : ℕ) (ident attr : List ℕ) (n : ℕ) → FreeIsEmpty s → MakesFile s caller word ident attr s' → Fate s s' n
+fate-create s s' caller word ident attr n empty h =
+    let may = may-be-made s h.ready h.gains h.enough empty in
+    fate-after s h.ready s' n (may.keeps n)
+    (fate-made h.ready (least_free h.ready) n _ s' (may.empty (least_free h.ready) may.free.unused) (ap (λ (x : Store). x.file n) h.makes))
 
 pub fate-delete : (s s' : Store) (id : FileId) (n : ℕ) → is_missing s id ≡ false → is_accessed s id ≡ false → s' ≡ after_delete s id → Fate s s' n
 fate-delete s s' id n there nobody is =
     subst (λ (x : Store). Fate s x n) (sym (is ∙ ap (λ b. if b then with_marked_file s id.number else without_file_at s id.number) nobody)) (fate-gone s id n there nobody)
 
--- a slot that a file is made in holds none
+-- where a file is made, no file is in a slot that isn't in use
 abbrev pub IsEmptyFor : Store → Request → Type 0
-IsEmptyFor s (request.Create word ident attr) = s.file (least_free s) ≡ None
+IsEmptyFor s (request.Create word ident attr) = FreeIsEmpty s
 IsEmptyFor s _ = Unit {0}
 
 -- a request that is served, but for those of which more is said
 pub fate-served : (s : Store) (task : ℕ) (caller : Uic) (r : Request) (block : List ℕ) (s' : Store) (n : ℕ) → IsEmptyFor s r → Changes s task caller r block s' → Simple s r → Fate s s' n
 fate-served s task caller (request.Create word ident attr) block s' n empty h k = fate-create s s' caller word ident attr n empty h
-fate-served s task caller (request.Extend lun q) block s' n empty h k = fate-grows s s' (id_held s task lun).number q n _ h
+fate-served s task caller (request.Extend lun q) block s' n empty h k =
+    fate-after s h.ready s' n (gained-keeps s h.ready _ n h.gains) (fate-grows h.ready s' (id_held s task lun).number q n _ h.makes)
 fate-served s task caller (request.Truncate lun to) block s' n empty h k = fate-cut s s' (id_held s task lun).number to n h
 fate-served s task caller (request.Delete id) block s' n empty h k = fate-delete s s' id n k.0 k.1 h
-fate-served s task caller (request.GrowIndex q) block s' n empty h k =
-    fate-set s s' 1 n h.grows.before _ h.grows.was refl (ap (λ b. b == 1) (mark-of-cleared h.grows.before.characteristics))
-    (ap (λ (x : Store). x.file n) (h.store_is ∙ ap (λ (x : Store). with_more_slots x q) h.grows.store_is))
+fate-served s task caller (request.GrowIndex q) block s' n empty h k = fate-grows-index s s' q n h
 fate-served s task caller (request.Access id m lun) block s' n empty h k = stays (ap (λ (x : Store). x.file n) h)
 fate-served s task caller (request.Deaccess lun) block s' n empty h k = subst (λ (x : Store). Fate s x n) (sym h) (fate-given-up s task lun n (s.access task lun))
 fate-served s task caller request.Release block s' n empty h k = absurd k
@@ -92,6 +121,6 @@ pub fate-step : (s : Store) (task : ℕ) (caller : Uic) (r : Request) (block : L
 fate-step s task caller r block (Ok a) s' block' empty simple h n = fate-served s task caller r block s' n (at r h.no_cause) h.changes simple
   where
     at : (r : Request) → first_refusal s task caller r ≡ None → IsEmptyFor s r
-    at (request.Create word ident attr) none = empty (least_free s) (least_free_is_free s (none_first (free_headers s == 0) NoHeader None none)).unused
+    at (request.Create word ident attr) none = empty
     at _ none = tt
 fate-step s task caller r block (Err e) s' block' empty simple h n = fate-none s s' n h.store_stays

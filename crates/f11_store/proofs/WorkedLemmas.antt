@@ -1,5 +1,5 @@
 -- The worked examples, computed.
-use Rattle.std.proofs.Common.{◌≡◌, ℕ, List, Some, None, refl, arith}
+use Rattle.std.proofs.Common.{◌≡◌, ◌≤◌, ℕ, List, [], Some, None, refl, sym, subst, arith}
 use Rattle.f11_store.specs.declared.callers.Uic.{Uic}
 use Rattle.f11_store.specs.declared.refusals.Refusal.{Refusal}
 use Rattle.f11_store.specs.declared.requests.Request.{Request}
@@ -9,12 +9,16 @@ use Rattle.f11_store.specs.Directory.{is_directory, record_at, entries_of, has_n
 use Rattle.f11_store.specs.Causes.{first_refusal}
 use Rattle.f11_store.specs.Changes.{Changes, MayGrow, Grows, with_grown_file}
 use Rattle.f11_store.specs.Step.{MayRefuse, Refuses, Serves, reply_of, block_after}
-use Rattle.f11_store.specs.Worked.{own_records, mfd_block, crowded_block, SequenceNumbers, FullVolume, TooLong, DeferredDelete, TruncatedUnderAReader, Conflicts, EnteredAndRemoved, EnteredInNewBlock, EndMoves, HeadersRunOut, Bounds}
+use Rattle.f11_store.specs.Worked.{own_records, mfd_block, crowded_block, SequenceNumbers, FullVolume, TooLong, DeferredDelete, TruncatedUnderAReader, Conflicts, EnteredAndRemoved, EnteredInNewBlock, EndMoves, HeadersRunOut, SlotsRunOut, Bounds}
+use Rattle.f11_store.specs.Changes.{AfterSlots, GetsSlots, GrowsIndex, with_more_slots}
+use Rattle.f11_store.specs.Headroom.{lacks_headers, slots_first}
+use Rattle.f11_store.specs.Store.{free_headers}
+use Rattle.f11_store.specs.Step.{may_want_memory}
 
 -- a step that is refused
 refused :
     {s : Store} {task : ℕ} {caller : Uic} {r : Request} {block : List ℕ} {e : Refusal} →
-    MayRefuse (first_refusal s task caller r) r e → Refuses s task caller r block e s block
+    MayRefuse (first_refusal s task caller r) (may_want_memory s task r) e → Refuses s task caller r block e s block
 refused h = record { may_refuse = h; store_stays = refl; block_stays = refl }
 
 -- a step that is served
@@ -38,57 +42,80 @@ grows added pointers room h may = record {
   store_is = refl;
 }
 
+-- enough headers are free
+at_once :
+    {s : Store} {headers : ℕ} {Makes : Store → Type 0} → slots_first s headers ≡ 0 → headers ≤ free_headers s → Makes s → AfterSlots s headers Makes
+at_once {s} {headers} {Makes} none enough makes = record { ready = s; gains = subst (λ (n : ℕ). GetsSlots n s s) (sym none) refl; enough = enough; makes = makes }
+
+-- a slot more, which takes a pointer more, of an index file with so many pointers and so much room
+slot_more :
+    {s : Store} {f : File} (pointers room : ℕ) → s.file 1 ≡ Some f → MayGrow f 1 0 pointers room →
+    GrowsIndex s 1 (with_more_slots (with_grown_file s 1 f 1 [] 0 pointers room) 1)
+slot_more pointers room was may = record { grown = _; grows = grows 0 pointers room was may; store_is = refl }
+
+-- too few are, and the index file gets a slot first
+after_slot :
+    {s : Store} {headers : ℕ} {Makes : Store → Type 0} {ready : Store} → slots_first s headers ≡ 1 → GrowsIndex s 1 ready →
+    headers ≤ free_headers ready → Makes ready → AfterSlots s headers Makes
+after_slot {s} {headers} {Makes} {ready} some gains enough makes =
+    record { ready = ready; gains = subst (λ (n : ℕ). GetsSlots n s ready) (sym some) gains; enough = enough; makes = makes }
+
 pub sequence_numbers : SequenceNumbers
-unfolding free_slots is_held zero_blocks
+unfolding free_slots is_held zero_blocks lacks_headers slots_first
 sequence_numbers =
-    (_, (_, served refl refl, (_, served refl refl, (_, served refl refl, (_, refused refl, (_, served refl refl, refl))))))
+    (_, (_, served refl (at_once refl (omega arith) refl), (_, served refl refl, (_, served refl (at_once refl (omega arith) refl), (_, refused refl, (_, served refl refl, refl))))))
 
 pub full_volume : FullVolume
-unfolding free_slots is_held zero_blocks
+unfolding free_slots is_held zero_blocks lacks_headers slots_first
 full_volume =
-    (_, (_, served refl refl, (_, served refl refl, (_, served refl (grows 0 2 100 refl (record { headers = omega arith; no_fewer = omega arith; no_more = omega arith; places = refl; filled = λ h. omega arith })), (_, refused refl, (_, served refl refl, refl))))))
+    (_, (_, served refl (at_once refl (omega arith) refl), (_, served refl refl, (_, served refl (at_once refl (omega arith) (grows 0 2 100 refl (record { headers = omega arith; no_fewer = omega arith; no_more = omega arith; places = refl; filled = λ h. omega arith }))), (_, refused refl, (_, served refl refl, refl))))))
 
 pub too_long : TooLong
-unfolding free_slots is_held zero_blocks
+unfolding free_slots is_held zero_blocks lacks_headers slots_first
 too_long =
-    (_, (_, served refl refl, (_, served refl refl, (_, refused refl, (_, refused refl, (_, refused refl, refl))))))
+    (_, (_, served refl (at_once refl (omega arith) refl), (_, served refl refl, (_, refused refl, (_, refused refl, (_, refused refl, refl))))))
 
 pub deferred_delete : DeferredDelete
-unfolding free_slots is_held zero_blocks
+unfolding free_slots is_held zero_blocks lacks_headers slots_first
 deferred_delete =
-    (_, (_, served refl refl, (_, served refl refl, (_, served refl (grows 0 1 101 refl (record { headers = omega arith; no_fewer = omega arith; no_more = omega arith; places = refl; filled = λ h. omega arith })), (_, served refl refl, (_, served refl refl, (_, served refl refl, (_, served refl refl, (_, refused refl, (_, refused refl, (_, served refl refl, (_, served refl refl, (_, served refl refl, refl)))))))))))))
+    (_, (_, served refl (at_once refl (omega arith) refl), (_, served refl refl, (_, served refl (at_once refl (omega arith) (grows 0 1 101 refl (record { headers = omega arith; no_fewer = omega arith; no_more = omega arith; places = refl; filled = λ h. omega arith }))), (_, served refl refl, (_, served refl refl, (_, served refl refl, (_, served refl refl, (_, refused refl, (_, refused refl, (_, served refl refl, (_, served refl refl, (_, served refl refl, refl)))))))))))))
 
 pub truncated_under_a_reader : TruncatedUnderAReader
-unfolding free_slots is_held zero_blocks
+unfolding free_slots is_held zero_blocks lacks_headers slots_first
 truncated_under_a_reader =
-    (_, (_, served refl refl, (_, served refl refl, (_, served refl (grows 0 1 101 refl (record { headers = omega arith; no_fewer = omega arith; no_more = omega arith; places = refl; filled = λ h. omega arith })), (_, served refl refl, (_, served refl refl, (_, served refl (record { before = _; headers = 1; pointers = 1; room = 101; was = refl; some_header = omega arith; no_more_headers = omega arith; no_more_pointers = omega arith; store_is = refl }), (_, served refl refl, (_, served refl refl, (_, served refl (grows 0 1 101 refl (record { headers = omega arith; no_fewer = omega arith; no_more = omega arith; places = refl; filled = λ h. omega arith })), (_, served refl refl, (_, refused refl, refl))))))))))))
+    (_, (_, served refl (at_once refl (omega arith) refl), (_, served refl refl, (_, served refl (at_once refl (omega arith) (grows 0 1 101 refl (record { headers = omega arith; no_fewer = omega arith; no_more = omega arith; places = refl; filled = λ h. omega arith }))), (_, served refl refl, (_, served refl refl, (_, served refl (record { before = _; headers = 1; pointers = 1; room = 101; was = refl; some_header = omega arith; no_more_headers = omega arith; no_more_pointers = omega arith; store_is = refl }), (_, served refl (at_once refl (omega arith) refl), (_, served refl refl, (_, served refl (at_once refl (omega arith) (grows 0 1 101 refl (record { headers = omega arith; no_fewer = omega arith; no_more = omega arith; places = refl; filled = λ h. omega arith }))), (_, served refl refl, (_, refused refl, refl))))))))))))
 
 pub conflicts : Conflicts
-unfolding free_slots is_held zero_blocks
+unfolding free_slots is_held zero_blocks lacks_headers slots_first
 conflicts =
-    (_, (_, served refl refl, (_, served refl refl, (_, refused refl, (_, served refl refl, (_, served refl refl, (_, refused refl, (_, refused refl, (_, refused refl, (_, refused refl, refl))))))))))
+    (_, (_, served refl (at_once refl (omega arith) refl), (_, served refl refl, (_, refused refl, (_, served refl refl, (_, served refl refl, (_, refused refl, (_, refused refl, (_, refused refl, (_, refused refl, refl))))))))))
 
 pub headers_run_out : HeadersRunOut
-unfolding free_slots is_held zero_blocks
+unfolding free_slots is_held zero_blocks lacks_headers slots_first
 headers_run_out =
-    (_, (_, refused refl, (_, refused refl, (_, served refl (grows 0 1 101 refl (record { headers = omega arith; no_fewer = omega arith; no_more = omega arith; places = refl; filled = λ h. omega arith })), (_, refused refl, (_, served refl (record { grown = _; grows = grows 0 2 100 refl (record { headers = omega arith; no_fewer = omega arith; no_more = omega arith; places = refl; filled = λ h. omega arith }); store_is = refl }), (_, refused refl, (_, refused refl, (_, refused refl, refl)))))))))
+    (_, (_, served refl (after_slot refl (slot_more 2 100 refl (record { headers = omega arith; no_fewer = omega arith; no_more = omega arith; places = refl; filled = λ h. omega arith })) (omega arith) refl), (_, served refl (after_slot refl (slot_more 3 99 refl (record { headers = omega arith; no_fewer = omega arith; no_more = omega arith; places = refl; filled = λ h. omega arith })) (omega arith) (grows 1 103 101 refl (record { headers = omega arith; no_fewer = omega arith; no_more = omega arith; places = refl; filled = λ h. omega arith }))), (_, served refl (at_once refl (omega arith) (grows 0 1 101 refl (record { headers = omega arith; no_fewer = omega arith; no_more = omega arith; places = refl; filled = λ h. omega arith }))), (_, served refl refl, (_, served refl (after_slot refl (slot_more 4 98 refl (record { headers = omega arith; no_fewer = omega arith; no_more = omega arith; places = refl; filled = λ h. omega arith })) (omega arith) (grows 0 2 100 refl (record { headers = omega arith; no_fewer = omega arith; no_more = omega arith; places = refl; filled = λ h. omega arith }))), (_, served refl refl, (_, served refl (record { grown = _; grows = grows 0 5 97 refl (record { headers = omega arith; no_fewer = omega arith; no_more = omega arith; places = refl; filled = λ h. omega arith }); store_is = refl }), (_, refused refl, (_, refused refl, (_, refused refl, refl)))))))))))
+
+pub slots_run_out : SlotsRunOut
+unfolding free_slots is_held zero_blocks lacks_headers slots_first
+slots_run_out =
+    ((_, (_, refused refl, (_, refused refl, refl))), (_, (_, refused refl, (_, refused refl, refl))), (_, (_, refused refl, refl)), (_, (_, refused refl, (_, refused refl, refl))))
 
 pub entered_and_removed : EnteredAndRemoved
-unfolding free_slots is_held zero_blocks stated_end is_directory record_at entries_of has_name record_bytes with_record with_end own_records mfd_block
+unfolding free_slots is_held zero_blocks lacks_headers slots_first stated_end is_directory record_at entries_of has_name record_bytes with_record with_end own_records mfd_block
 entered_and_removed =
     (_, (_, refused refl, (_, served refl refl, (_, served refl refl, (_, refused refl, (_, served refl refl, (_, refused refl, (_, served refl refl, (_, refused refl, (_, refused refl, refl))))))))))
 
 pub entered_in_new_block : EnteredInNewBlock
-unfolding free_slots is_held zero_blocks zero_block stated_end is_directory record_at entries_of has_name record_bytes with_record with_end own_records crowded_block
+unfolding free_slots is_held zero_blocks lacks_headers slots_first zero_block stated_end is_directory record_at entries_of has_name record_bytes with_record with_end own_records crowded_block
 entered_in_new_block =
-    (_, (_, refused refl, (_, served refl (_, grows 0 2 100 refl (record { headers = omega arith; no_fewer = omega arith; no_more = omega arith; places = refl; filled = λ h. omega arith }), refl), (_, served refl refl, (_, served refl refl, (_, served refl refl, refl))))))
+    (_, (_, refused refl, (_, served refl (_, at_once refl (omega arith) (grows 0 2 100 refl (record { headers = omega arith; no_fewer = omega arith; no_more = omega arith; places = refl; filled = λ h. omega arith })), refl), (_, served refl refl, (_, served refl refl, (_, served refl refl, refl))))))
 
 pub end_moves : EndMoves
 unfolding with_end
 end_moves = refl
 
 pub bounds : Bounds
-unfolding stated_end with_end is_held
+unfolding stated_end with_end is_held free_slots is_directory entries_of record_at mfd_block own_records record_bytes
 bounds = record {
   create = refl;
   find = refl;

@@ -38,6 +38,7 @@ use Rattle.f11_store.specs.File.{File, length_of, is_marked, need}
 use Rattle.f11_store.specs.Store.{Store, Access, file_of, file_named, file_held, index_file}
 use Rattle.f11_store.specs.Store.{free_headers, is_held, is_accessed, bars, bars_writing}
 use Rattle.f11_store.specs.Directory.{is_directory, is_entered, needs_block}
+use Rattle.f11_store.specs.Headroom.{lacks_headers, slots_first}
 
 -- a refusal, and whether its cause holds
 pub record Cause : Type 0 where
@@ -96,7 +97,7 @@ lacks_change (change.Protect _) caller f = not (is_of caller f.owner class.Syste
 abbrev pub is_missing : Store → FileId → Bool
 is_missing s id = is_none (file_of s id)
 
--- the causes against n more blocks of a file: over 256 headers, too few blocks, too few headers
+-- the causes against n more slots of the index file, as a file f: over 256 headers, too few blocks, too few headers
 abbrev pub growth_causes : Store → File → ℕ → List Cause
 growth_causes s f n =
     (TooManySegments ⇐ nat_lt 256 (length f.held + need f.room n))
@@ -104,21 +105,35 @@ growth_causes s f n =
     ∷ (NoHeader ⇐ nat_lt (free_headers s) (need f.room n))
     ∷ []
 
+-- the causes against taking so many headers, and n blocks: too few blocks for these and for the slots that come first, headers that
+-- can't be had
+abbrev pub header_causes : Store → ℕ → ℕ → List Cause
+header_causes s headers n =
+    (DeviceFull ⇐ nat_lt s.free (n + slots_first s headers))
+    ∷ (NoHeader ⇐ lacks_headers s headers)
+    ∷ []
+
+-- the causes against n more blocks of a file: over 256 headers, and those
+abbrev pub extend_causes : Store → File → ℕ → List Cause
+extend_causes s f n = (TooManySegments ⇐ nat_lt 256 (length f.held + need f.room n)) ∷ header_causes s (need f.room n) n
+
 -- the same, where they are asked for
-abbrev pub growth_causes_if : Bool → Store → File → ℕ → List Cause
-growth_causes_if true s f n = growth_causes s f n
-growth_causes_if false s f n = []
+abbrev pub extend_causes_if : Bool → Store → File → ℕ → List Cause
+extend_causes_if true s f n = extend_causes s f n
+extend_causes_if false s f n = []
+
+-- the causes against a new file, which takes one header and no block
+abbrev pub create_causes : Store → List Cause
+create_causes s = header_causes s 1 0
 
 -- the causes of each request; a file number of 0 is refused before files 1 to 3 (or 5) are judged by number alone
 abbrev pub causes_of : Store → ℕ → Uic → Request → List Cause
-causes_of s task caller (request.Create _ _ _) =
-    (NoHeader ⇐ (free_headers s == 0))
-    ∷ []
+causes_of s task caller (request.Create _ _ _) = create_causes s
 causes_of s task caller (request.Extend lun n) =
     (BadArgument ⇐ (n == 0))
     ∷ (NoSuchAccess ⇐ cannot_write s task lun)
     ∷ (NoPrivilege ⇐ lacks right.Extend caller (file_held s task lun))
-    ∷ growth_causes s (file_held s task lun) n
+    ∷ extend_causes s (file_held s task lun) n
 causes_of s task caller (request.Truncate lun to) =
     (NoSuchAccess ⇐ cannot_write s task lun)
     ∷ (EndOfFile ⇐ nat_lt (length_of (file_held s task lun)) to)
@@ -176,7 +191,7 @@ causes_of s task caller (request.Enter d name id) =
     ∷ (Conflict ⇐ is_held bars_writing s d)
     ∷ (NotDirectory ⇐ not (is_directory (file_named s d)))
     ∷ (DuplicateName ⇐ is_entered name (file_named s d))
-    ∷ growth_causes_if (needs_block (file_named s d)) s (file_named s d) 1
+    ∷ extend_causes_if (needs_block (file_named s d)) s (file_named s d) 1
 causes_of s task caller (request.Remove d name) =
     (BadArgument ⇐ is_bad d)
     ∷ (SystemFile ⇐ nat_lt d.number 4)

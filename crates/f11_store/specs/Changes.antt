@@ -3,6 +3,8 @@
 use Rattle.std.specs.Prelude.{
   ◌≡◌,
   ℕ,
+  zero,
+  suc,
   ◌+◌,
   ◌-◌,
   ◌*◌,
@@ -31,7 +33,8 @@ use Rattle.f11_store.specs.declared.files.Change.TheVariants as change
 use Rattle.f11_store.specs.declared.requests.Request.{Request}
 use Rattle.f11_store.specs.declared.requests.Request.TheVariants as request
 use Rattle.f11_store.specs.File.{File, no_file, length_of, is_marked, with_mark, without_contiguous, need, zero_blocks}
-use Rattle.f11_store.specs.Store.{Store, Access, file_named, id_held, free_slots, least_free, is_accessed}
+use Rattle.f11_store.specs.Store.{Store, Access, file_named, id_held, free_slots, free_headers, least_free, is_accessed}
+use Rattle.f11_store.specs.Headroom.{slots_first}
 use Rattle.f11_store.specs.Directory.{
   index_of_name,
   index_of_empty,
@@ -150,6 +153,34 @@ pub record GrowsIndex (s : Store) (n : ℕ) (s' : Store) : Type 0 where
   pub grows : Grows s 1 n [] grown
   pub store_is : s' ≡ with_more_slots grown n
 
+-- the index file has n slots more, where n isn't 0; else nothing is done
+abbrev pub GetsSlots : ℕ → Store → Store → Type 0
+GetsSlots zero s t = t ≡ s
+GetsSlots (suc n) s t = GrowsIndex s (suc n) t
+
+-- What is made of a store once so many headers are free: where fewer are, the index file has grown first, by those that lack.
+pub record AfterSlots (s : Store) (headers : ℕ) (Makes : Store → Type 0) : Type 0 where
+  pub ready : Store
+  pub gains : GetsSlots (slots_first s headers) s ready
+  pub enough : headers ≤ free_headers ready
+  pub makes : Makes ready
+
+-- Create: a new file in the least free slot, once there is one
+abbrev pub MakesFile : Store → Uic → ℕ → List ℕ → List ℕ → Store → Type 0
+MakesFile s owner protection ident attr s' = AfterSlots s 1 (λ t. s' ≡ after_create t owner protection ident attr)
+
+-- Extend: n blocks of zeros more for a file, once there are headers for them
+abbrev pub Lengthens : Store → FileId → ℕ → Store → Type 0
+Lengthens s f n s' = AfterSlots s (need (file_named s f).room n) (λ t. Extends t f.number n s')
+
+-- as much of it as each such growth makes: the slots that are there then
+abbrev pub with_slots_if : ℕ → Store → Store
+with_slots_if zero s = s
+with_slots_if (suc n) s = with_more_slots s (suc n)
+
+abbrev pub with_slots_first : Store → ℕ → Store
+with_slots_first s headers = with_slots_if (slots_first s headers) s
+
 -- the file with its first blocks alone
 abbrev pub with_first_blocks : ℕ → File → File
 with_first_blocks to f = record f { blocks = take to f.blocks }
@@ -238,14 +269,14 @@ abbrev pub with_entry_at_end : Store → ℕ → ℕ → List ℕ → Store
 with_entry_at_end s k i r = with_change s k (λ f. with_end_after i (with_entry i r f))
 
 -- Enter where no record is empty: at the end, with one more block where the allocation ends there
-abbrev pub EntersAtEnd : Bool → Store → ℕ → ℕ → List ℕ → Store → Type 0
-EntersAtEnd false s k i r s' = s' ≡ with_entry_at_end s k i r
-EntersAtEnd true s k i r s' = (grown : Store) × (Extends s k 1 grown) × (s' ≡ with_entry_at_end grown k i r)
+abbrev pub EntersAtEnd : Bool → Store → FileId → ℕ → List ℕ → Store → Type 0
+EntersAtEnd false s d i r s' = s' ≡ with_entry_at_end s d.number i r
+EntersAtEnd true s d i r s' = (grown : Store) × (Lengthens s d 1 grown) × (s' ≡ with_entry_at_end grown d.number i r)
 
 -- Enter: in place of the first empty record, or at the end
 abbrev pub EntersAt : Option ℕ → Store → FileId → List ℕ → Store → Type 0
 EntersAt (Some i) s d r s' = s' ≡ with_change s d.number (with_entry i r)
-EntersAt None s d r s' = EntersAtEnd (needs_block (file_named s d)) s d.number (entry_count (file_named s d)) r s'
+EntersAt None s d r s' = EntersAtEnd (needs_block (file_named s d)) s d (entry_count (file_named s d)) r s'
 
 -- Enter
 abbrev pub Enters : Store → FileId → List ℕ → Store → Type 0
@@ -264,8 +295,8 @@ with_replacement (change.Protect word) f = record f { protection = word }
 
 -- the store after a request that is served; ReadBlock, Find, ReadAttr and Space change nothing
 abbrev pub Changes : Store → ℕ → Uic → Request → List ℕ → Store → Type 0
-Changes s task caller (request.Create protection ident attr) block s' = s' ≡ after_create s caller protection ident attr
-Changes s task caller (request.Extend lun n) block s' = Extends s (id_held s task lun).number n s'
+Changes s task caller (request.Create protection ident attr) block s' = MakesFile s caller protection ident attr s'
+Changes s task caller (request.Extend lun n) block s' = Lengthens s (id_held s task lun) n s'
 Changes s task caller (request.Truncate lun to) block s' = Truncates s (id_held s task lun).number to s'
 Changes s task caller (request.Delete id) block s' = s' ≡ after_delete s id
 Changes s task caller (request.GrowIndex n) block s' = GrowsIndex s n s'

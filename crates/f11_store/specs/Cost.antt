@@ -1,9 +1,10 @@
 -- The most block transfers that a request may take, refused or not (profile).
-use Rattle.std.specs.Prelude.{ℕ, ◌+◌, ◌*◌, ◌/◌, List, [], ◌∷◌, length, max, Option, Some, None, if◌then◌else◌}
+use Rattle.std.specs.Prelude.{ℕ, ◌+◌, ◌*◌, ◌/◌, ◌==◌, List, [], ◌∷◌, length, max, Option, Some, None, if◌then◌else◌}
 use Rattle.std.specs.List.{range_with_len}
 use Rattle.f11_store.specs.declared.requests.Request.{Request}
 use Rattle.f11_store.specs.declared.requests.Request.TheVariants as request
-use Rattle.f11_store.specs.File.{File, end_of}
+use Rattle.f11_store.specs.File.{File, end_of, need}
+use Rattle.f11_store.specs.Headroom.{lacking, headers_to_enter}
 use Rattle.f11_store.specs.Store.{Store, Access, file_named, file_held, index_file}
 use Rattle.f11_store.specs.Changes.{is_due, with_access, after_deaccess}
 
@@ -15,9 +16,17 @@ header_count f = max 1 (length f.held)
 abbrev pub end_blocks : File → ℕ
 end_blocks f = (end_of f + 511) / 512
 
--- n more blocks
+-- n more blocks, with headers that are free
 abbrev pub growth_cost : Store → File → ℕ → ℕ
 growth_cost s f n = header_count f + s.bitmap_blocks + 5 * n + (s.index_bitmap_blocks + 8) * ((n + 101) / 102 + 1)
+
+-- the slots that the index file gets first, so that so many headers are free: as many as lack, refused or not
+abbrev pub slots_cost : Store → ℕ → ℕ
+slots_cost s headers = if lacking s headers == 0 then 0 else growth_cost s (index_file s) (lacking s headers)
+
+-- n more blocks, and the slots that come first
+abbrev pub lengthen_cost : Store → File → ℕ → ℕ
+lengthen_cost s f n = slots_cost s (need f.room n) + growth_cost s f n
 
 -- fewer blocks, or none
 abbrev pub cut_cost : File → ℕ
@@ -43,8 +52,8 @@ release_cost s task (lun ∷ luns) = deaccess_cost s task lun + release_cost (af
 
 -- the bound for each request
 abbrev pub cost : Store → ℕ → Request → ℕ
-cost s task (request.Create _ _ _) = s.index_bitmap_blocks + 3
-cost s task (request.Extend lun n) = growth_cost s (file_held s task lun) n
+cost s task (request.Create _ _ _) = slots_cost s 1 + (s.index_bitmap_blocks + 3)
+cost s task (request.Extend lun n) = lengthen_cost s (file_held s task lun) n
 cost s task (request.Truncate lun to) = cut_cost (file_held s task lun)
 cost s task (request.Delete id) = cut_cost (file_named s id)
 cost s task (request.GrowIndex n) = growth_cost s (index_file s) n
@@ -55,7 +64,8 @@ cost s task (request.ReadBlock lun vbn) = header_count (file_held s task lun) + 
 cost s task (request.WriteBlock lun vbn) = header_count (file_held s task lun) + 1
 cost s task (request.Find d name) = find_cost (file_named s d)
 cost s task (request.Enter d name id) =
-    find_cost (file_named s d) + growth_cost s (file_named s d) 1 + header_count (file_named s d) + 4
+    slots_cost s (headers_to_enter (file_named s d))
+    + (find_cost (file_named s d) + growth_cost s (file_named s d) 1 + header_count (file_named s d) + 4)
 cost s task (request.Remove d name) = (end_blocks (file_named s d) + 2) * (header_count (file_named s d) + 1)
 cost s task (request.ReadAttr id) = 1
 cost s task (request.WriteAttr id c) = 3

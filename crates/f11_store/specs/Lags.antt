@@ -1,8 +1,9 @@
 -- What work that was cut short may leave: the store before it with some first parts of the work done (profile).
-use Rattle.std.specs.Prelude.{◌≡◌, ℕ, ◌+◌, ◌≤◌, ◌⊎◌, ◌==◌, ◌||◌, nat_le, Bool, true, false, List, [], ◌∷◌, ◌++◌, take}
+use Rattle.std.specs.Prelude.{◌≡◌, ℕ, zero, suc, ◌+◌, ◌≤◌, ◌⊎◌, ◌==◌, ◌||◌, nat_le, Bool, true, false, List, [], ◌∷◌, ◌++◌, take}
 use Rattle.std.specs.Prelude.{Option, Some, None, IfSome, fold, unwrap_or, if◌then◌else◌, replicate}
 use Rattle.std.specs.List.{range_with_len}
 use Rattle.f11_store.specs.declared.callers.Uic.{Uic}
+use Rattle.f11_store.specs.declared.files.FileId.{FileId}
 use Rattle.f11_store.specs.declared.refusals.Refusal.{Refusal}
 use Rattle.f11_store.specs.declared.requests.Request.{Request}
 use Rattle.f11_store.specs.declared.requests.Request.TheVariants as request
@@ -10,7 +11,8 @@ use Rattle.f11_store.specs.File.{File, without_contiguous, need, zero_blocks}
 use Rattle.f11_store.specs.Store.{Store, Access, file_named, id_held, file_held, index_file, least_free, free_headers, is_accessed}
 use Rattle.f11_store.specs.Directory.{index_of_empty, entry_count, needs_block, record_bytes, empty_record, index_of_name}
 use Rattle.f11_store.specs.Causes.{first_refusal}
-use Rattle.f11_store.specs.Changes.{is_in, next_sequence, with_file, with_change, file_created, with_access, is_due, after_deaccess}
+use Rattle.f11_store.specs.Changes.{is_in, next_sequence, with_file, with_change, file_created, with_access, is_due, after_deaccess, with_slots_first}
+use Rattle.f11_store.specs.Headroom.{slots_first}
 use Rattle.f11_store.specs.Changes.{with_delete_mark, with_first_blocks, with_block, with_entry, with_end_after, with_replacement}
 
 -- a part of the work: a change of the files that is made at once
@@ -88,6 +90,15 @@ grow_parts n = file_changes 1 with_no_mark ∷ replicate n slot_appears
 abbrev pub grow_work : ℕ → ℕ → Work
 grow_work room n = record { parts = grow_parts n; is_meant = λ m. m == 1; blocks = n; headers = need room n }
 
+-- first the index file has n slots more, where n isn't 0, and then the work is done
+abbrev pub after_slots : ℕ → Store → Work → Work
+after_slots zero s work = work
+after_slots (suc n) s work = and_then (grow_work (index_file s).room (suc n)) work
+
+-- work that takes so many headers: first the index file gets slots for those that aren't free
+abbrev pub with_headers_first : Store → ℕ → Work → Work
+with_headers_first s headers work = after_slots (slots_first s headers) s work
+
 -- file k is marked for delete, or goes
 abbrev pub mark_work : ℕ → Work
 mark_work k = one_part k (file_changes k with_delete_mark)
@@ -104,15 +115,29 @@ end_work k i r = record {
   headers = 0;
 }
 
--- a record at the end of directory k: first one more block, where it is needed
-abbrev pub append_work : Bool → ℕ → ℕ → ℕ → List ℕ → Work
-append_work true k room i r = and_then (extend_work k room 1) (end_work k i r)
-append_work false k room i r = end_work k i r
+-- n blocks more for a file, and the slots that come first
+abbrev pub lengthen_work : Store → FileId → ℕ → Work
+lengthen_work s f n = with_headers_first s (need (file_named s f).room n) (extend_work f.number (file_named s f).room n)
+
+-- a record at a directory's end: first one more block, where it is needed
+abbrev pub append_work : Bool → Store → FileId → ℕ → List ℕ → Work
+append_work true s d i r = and_then (lengthen_work s d 1) (end_work d.number i r)
+append_work false s d i r = end_work d.number i r
 
 -- a record in an empty place at once, or at the end
-abbrev pub enter_work : Option ℕ → File → ℕ → List ℕ → Work
-enter_work (Some i) d k r = one_part k (file_changes k (with_entry i r))
-enter_work None d k r = append_work (needs_block d) k d.room (entry_count d) r
+abbrev pub enter_work : Option ℕ → Store → FileId → List ℕ → Work
+enter_work (Some i) s d r = one_part d.number (file_changes d.number (with_entry i r))
+enter_work None s d r = append_work (needs_block (file_named s d)) s d (entry_count (file_named s d)) r
+
+-- a new file appears in the least free slot
+abbrev pub new_file_work : Store → Uic → ℕ → List ℕ → List ℕ → Work
+new_file_work s owner protection ident attr =
+    create_work (least_free s) (file_created s (least_free s) owner protection ident attr)
+
+-- and the slot that comes first
+abbrev pub make_work : Store → Uic → ℕ → List ℕ → List ℕ → Work
+make_work s owner protection ident attr =
+    with_headers_first s 1 (new_file_work (with_slots_first s 1) owner protection ident attr)
 
 -- what is held is given up: a marked file whose last access this was goes
 abbrev pub give_up_work : Store → ℕ → ℕ → Option Access → Work
@@ -130,9 +155,8 @@ release_work s task (lun ∷ luns) = and_then (deaccess_work s task lun) (releas
 
 -- the work of a request that is served
 abbrev pub served_work : Store → ℕ → Uic → Request → List ℕ → Work
-served_work s task caller (request.Create protection ident attr) block =
-    create_work (least_free s) (file_created s (least_free s) caller protection ident attr)
-served_work s task caller (request.Extend lun n) block = extend_work (id_held s task lun).number (file_held s task lun).room n
+served_work s task caller (request.Create protection ident attr) block = make_work s caller protection ident attr
+served_work s task caller (request.Extend lun n) block = lengthen_work s (id_held s task lun) n
 served_work s task caller (request.Truncate lun to) block =
     one_part (id_held s task lun).number (file_changes (id_held s task lun).number (with_first_blocks to))
 served_work s task caller (request.Delete id) block = if is_accessed s id then mark_work id.number else go_work id.number
@@ -145,7 +169,7 @@ served_work s task caller (request.WriteBlock lun vbn) block =
     one_part (id_held s task lun).number (file_changes (id_held s task lun).number (with_block vbn block))
 served_work s task caller (request.Find d name) block = no_work
 served_work s task caller (request.Enter d name id) block =
-    enter_work (index_of_empty (file_named s d)) (file_named s d) d.number (record_bytes id name)
+    enter_work (index_of_empty (file_named s d)) s d (record_bytes id name)
 served_work s task caller (request.Remove d name) block =
     one_part d.number (file_changes d.number (with_entry (unwrap_or (index_of_name name (file_named s d)) 0) empty_record))
 served_work s task caller (request.ReadAttr id) block = no_work

@@ -1,5 +1,5 @@
 -- Laws of the plain store, which show that its definitions say what is meant (profile).
-use Rattle.std.specs.Prelude.{◌≡◌, ◌≢◌, ℕ, ◌+◌, ◌<◌, ◌≤◌, List, [], length, All, true, false, Some, None, Result, Ok, Err, IsSomeAnd}
+use Rattle.std.specs.Prelude.{◌≡◌, ◌≢◌, ℕ, ◌+◌, ◌<◌, ◌≤◌, ◌==◌, List, [], length, All, true, false, Some, None, Result, Ok, Err, IsSomeAnd}
 use Rattle.f11_store.specs.declared.callers.Uic.{Uic}
 use Rattle.f11_store.specs.declared.files.FileId.{FileId}
 use Rattle.f11_store.specs.declared.refusals.Refusal.{Refusal}
@@ -13,7 +13,7 @@ use Rattle.f11_store.specs.Store.{Store, file_named, id_held, file_held, is_acce
 use Rattle.f11_store.specs.Directory.{record_at, entry_count, record_id, record_bytes, index_of_name, index_of_empty, empty_record}
 use Rattle.f11_store.specs.Causes.{is_bad, first_refusal}
 use Rattle.f11_store.specs.Changes.{next_sequence}
-use Rattle.f11_store.specs.Lags.{Work, AreLike, LagsBy, Lags}
+use Rattle.f11_store.specs.Lags.{Work, AreLike, last_of, LagsBy, Lags}
 use Rattle.f11_store.specs.Step.{Step, block_at}
 
 -- a request that is refused leaves store and block as they were
@@ -77,19 +77,19 @@ pub record AgreeEverywhere (s t : Store) : Type 0 where
 abbrev pub AgreeingAreOne : Type 0
 AgreeingAreOne = (s t : Store) → AgreeEverywhere s t → s ≡ t
 
--- a new file's slot was free: it isn't one of the first five, it is one of the index file's, and it wasn't in use
+-- a new file's slot was free: it isn't one of the first five, it is one of the index file's then, and it wasn't in use
 abbrev pub NewSlotWasFree : Type 0
 NewSlotWasFree =
     (s : Store) (task : ℕ) (caller : Uic) (word : ℕ) (ident attr block : List ℕ) (id : FileId) (s' : Store) (block' : List ℕ) →
     Step s task caller (request.Create word ident attr) block (Ok (reply.Created id)) s' block' →
-    (6 ≤ id.number) × (id.number ≤ s.slots) × (s.in_use id.number ≡ false)
+    (6 ≤ id.number) × (id.number ≤ s'.slots) × (s.in_use id.number ≡ false)
 
 -- a new file has the next sequence number of its slot
 abbrev pub NewFileIsNext : Type 0
 NewFileIsNext =
     (s : Store) (task : ℕ) (caller : Uic) (word : ℕ) (ident attr block : List ℕ) (id : FileId) (s' : Store) (block' : List ℕ) →
     Step s task caller (request.Create word ident attr) block (Ok (reply.Created id)) s' block' →
-    (id.sequence ≡ next_sequence (s.last id.number)) × (s'.last id.number ≡ id.sequence)
+    (id.sequence ≡ next_sequence (last_of s id.number)) × (s'.last id.number ≡ id.sequence)
 
 -- a file that is deleted while somebody accesses it keeps its blocks, and every access to it
 abbrev pub AccessedKeepsBlocks : Type 0
@@ -111,11 +111,15 @@ CutComesBackZero =
 abbrev pub LagsItself : Type 0
 LagsItself = (work : Work) (s : Store) → LagsBy work s s
 
+-- no task holds an access to the index file
+abbrev pub NoneHoldsIndex : Store → Type 0
+NoneHoldsIndex s = (task lun : ℕ) → ((id_held s task lun).number == 1) ≡ false
+
 -- the store after a step lags the one before it: all is done, or nothing
 abbrev pub StepLags : Type 0
 StepLags =
     (s : Store) (task : ℕ) (caller : Uic) (r : Request) (block : List ℕ) (result : Result Reply Refusal) (s' : Store) (block' : List ℕ) →
-    Step s task caller r block result s' block' → Lags s' s task caller r block
+    NoneHoldsIndex s → Step s task caller r block result s' block' → Lags s' s task caller r block
 
 -- a file that the work doesn't mean is as it was
 abbrev pub OthersAreEqual : Type 0

@@ -4,6 +4,7 @@ pub mod Changes
 pub mod Cost
 pub mod Directory
 pub mod File
+pub mod Headroom
 pub mod Ident
 pub mod Lags
 pub mod Laws
@@ -18,3 +19,4 @@ pub mod Text
 pub mod Worked
 pub mod WorkedLags
 pub mod Pieces
+pub mod SlotsFirst

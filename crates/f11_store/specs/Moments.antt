@@ -1,11 +1,11 @@
 -- What work in several steps leaves: exact progress by the steps that are done, and then what lags by the next (profile).
-use Rattle.std.specs.Prelude.{◌≡◌, ℕ, ◌+◌, ◌≤◌, ◌⊎◌, false, List, [], ◌∷◌, ◌++◌, Some}
+use Rattle.std.specs.Prelude.{◌≡◌, ℕ, ◌+◌, ◌≤◌, ◌==◌, ◌⊎◌, false, List, [], ◌∷◌, ◌++◌, Some}
 use Rattle.f11_store.specs.declared.files.FileId.{FileId}
 use Rattle.f11_store.specs.File.{File}
 use Rattle.f11_store.specs.Store.{Store, file_named, free_headers}
-use Rattle.f11_store.specs.Changes.{next_sequence, with_change, Extends}
+use Rattle.f11_store.specs.Changes.{next_sequence, with_change, Lengthens}
 use Rattle.f11_store.specs.Lags.{Part, file_changes, file_appears, file_goes, slot_appears, with_parts, Work, one_part}
-use Rattle.f11_store.specs.Lags.{and_then, extend_work, IsLike, AreLike, SameLimits, LagsBy}
+use Rattle.f11_store.specs.Lags.{and_then, last_of, lengthen_work, IsLike, AreLike, SameLimits, LagsBy}
 
 -- a change that makes files alike of files that are alike
 abbrev pub Respects : (File → File) → Type 0
@@ -27,12 +27,12 @@ AreRespectful (p ∷ ps) = IsRespectful p × AreRespectful ps
 pub record Did (work : Work) (u s : Store) : Type 0 where
   pub files : (n : ℕ) → AreLike (u.file n) ((with_parts s work.parts).file n)
   pub slots : u.slots ≡ (with_parts s work.parts).slots
-  pub no_slots : u.slots ≡ s.slots
+  pub no_fewer : s.slots ≤ u.slots
   pub others : (n : ℕ) → work.is_meant n ≡ false → u.file n ≡ s.file n
   pub free_blocks : s.free ≤ u.free + work.blocks
   pub headers : free_headers s ≤ free_headers u + work.headers
-  pub last : (n : ℕ) → (u.last n ≡ s.last n) ⊎ (u.last n ≡ next_sequence (s.last n))
-  pub no_header : work.headers ≡ 0 → (n : ℕ) → u.last n ≡ s.last n
+  pub last : (n : ℕ) → n ≤ u.slots → (u.last n ≡ last_of s n) ⊎ (u.last n ≡ next_sequence (last_of s n))
+  pub no_header : work.headers ≡ 0 → (n : ℕ) → n ≤ u.slots → u.last n ≡ last_of s n
   pub limits : SameLimits s u
 
 -- what lags by work lags by more work
@@ -61,8 +61,8 @@ abbrev pub DidBoth : Type 0
 DidBoth = (w v : Work) (t u s : Store) → Did w u s → v.headers ≡ 0 → AreRespectful v.parts → Did v t u → Did (and_then w v) t s
 
 -- Extend does its work
-abbrev pub ExtendsDid : Type 0
-ExtendsDid = (u s : Store) (d : FileId) (n : ℕ) → Extends s d.number n u → Did (extend_work d.number (file_named s d).room n) u s
+abbrev pub LengthensDid : Type 0
+LengthensDid = (u s : Store) (f : FileId) (n : ℕ) → (f.number == 1) ≡ false → Lengthens s f n u → Did (lengthen_work s f n) u s
 
 -- a change of a file does its work
 abbrev pub ChangeDid : Type 0

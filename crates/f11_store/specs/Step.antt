@@ -1,5 +1,5 @@
 -- One request: what it may answer, and the store and the block after it (profile).
-use Rattle.std.specs.Prelude.{◌≡◌, ℕ, ◌+◌, ◌-◌, List, [], Option, Some, None, Result, Ok, Err, slice_index_or}
+use Rattle.std.specs.Prelude.{◌≡◌, ℕ, ◌+◌, ◌-◌, ◌==◌, Bool, true, false, not, List, [], Option, Some, None, Result, Ok, Err, slice_index_or}
 use Rattle.f11_store.specs.declared.callers.Uic.{Uic}
 use Rattle.f11_store.specs.declared.files.FileId.{FileId}
 use Rattle.f11_store.specs.declared.files.Attr.{Attr}
@@ -9,11 +9,12 @@ use Rattle.f11_store.specs.declared.requests.Request.{Request}
 use Rattle.f11_store.specs.declared.requests.Request.TheVariants as request
 use Rattle.f11_store.specs.declared.requests.Reply.{Reply}
 use Rattle.f11_store.specs.declared.requests.Reply.TheVariants as reply
-use Rattle.f11_store.specs.File.{File, length_of}
+use Rattle.f11_store.specs.File.{File, length_of, need}
 use Rattle.f11_store.specs.Store.{Store, file_named, file_held, free_headers, least_free}
 use Rattle.f11_store.specs.Directory.{record_of, record_id}
 use Rattle.f11_store.specs.Causes.{first_refusal}
-use Rattle.f11_store.specs.Changes.{Changes, next_sequence}
+use Rattle.f11_store.specs.Changes.{Changes, next_sequence, with_slots_first}
+use Rattle.f11_store.specs.Headroom.{slots_first, headers_to_enter}
 
 -- the attributes of a file
 abbrev pub attributes_of : File → Attr
@@ -31,7 +32,7 @@ next_id s = record { number = least_free s; sequence = next_sequence (s.last (le
 
 -- the reply to a request that is served
 abbrev pub reply_of : Store → ℕ → Request → Reply
-reply_of s task (request.Create _ _ _) = reply.Created (next_id s)
+reply_of s task (request.Create _ _ _) = reply.Created (next_id (with_slots_first s 1))
 reply_of s task (request.Extend lun n) = reply.Length (length_of (file_held s task lun) + n)
 reply_of s task (request.Truncate lun to) = reply.Length to
 reply_of s task (request.Delete id) = reply.Done
@@ -57,16 +58,28 @@ abbrev pub block_after : Store → ℕ → Request → List ℕ → List ℕ
 block_after s task (request.ReadBlock lun vbn) block = block_at (file_held s task lun) vbn
 block_after s task _ block = block
 
--- the refusal may be the answer: the first one whose cause holds, or NoMemory to GrowIndex where none does
-abbrev pub MayRefuse : Option Refusal → Request → Refusal → Type 0
+-- the index file grows by that many slots, for which memory is taken
+abbrev pub gets_slots : ℕ → Bool
+gets_slots n = not (n == 0)
+
+-- the request may want memory: it is that the index file grows, or it does first
+abbrev pub may_want_memory : Store → ℕ → Request → Bool
+may_want_memory s task (request.GrowIndex _) = true
+may_want_memory s task (request.Create _ _ _) = gets_slots (slots_first s 1)
+may_want_memory s task (request.Extend lun n) = gets_slots (slots_first s (need (file_held s task lun).room n))
+may_want_memory s task (request.Enter d _ _) = gets_slots (slots_first s (headers_to_enter (file_named s d)))
+may_want_memory s task _ = false
+
+-- the refusal may be the answer: the first one whose cause holds; where none does, want of memory if the request takes any
+abbrev pub MayRefuse : Option Refusal → Bool → Refusal → Type 0
 MayRefuse (Some first) _ r = r ≡ first
-MayRefuse None (request.GrowIndex _) r = r ≡ NoMemory
-MayRefuse None _ r = ⊥
+MayRefuse None true r = r ≡ NoMemory
+MayRefuse None false r = ⊥
 
 -- the request is refused, and changes nothing
 pub record Refuses (s : Store) (task : ℕ) (caller : Uic) (r : Request) (block : List ℕ) (refusal : Refusal) (s' : Store)
     (block' : List ℕ) : Type 0 where
-  pub may_refuse : MayRefuse (first_refusal s task caller r) r refusal
+  pub may_refuse : MayRefuse (first_refusal s task caller r) (may_want_memory s task r) refusal
   pub store_stays : s' ≡ s
   pub block_stays : block' ≡ block
 

@@ -290,16 +290,30 @@ crowded_volume = record small_volume {
 abbrev pub other_asks : Request → Call
 other_asks r = record { task = 0; caller = other_user; request = r; block = [] }
 
--- no header is free: files with room grow, others don't, until the index file has a slot more
+-- no header is free: the index file gets a slot where a request needs one, and no slot where it doesn't
 abbrev pub HeadersRunOut : Type 0
 HeadersRunOut =
     MayAnswer crowded_volume
-    (asks 0 create ∷ asks 0 (request.Extend 0 1) ∷ asks 0 (request.Extend 2 3) ∷ asks 0 (request.Extend 3 103)
-    ∷ asks 0 (request.GrowIndex 1) ∷ asks 0 (request.GrowIndex 4000) ∷ asks 0 (request.GrowIndex 3983)
-    ∷ other_asks (request.GrowIndex 3983) ∷ [])
-    (no refusal.NoHeader ∷ no refusal.NoHeader ∷ gets (reply.Length 3) ∷ no refusal.NoHeader
-    ∷ gets (reply.Slots 17) ∷ no refusal.IndexLimit ∷ no refusal.DeviceFull
+    (asks 0 create ∷ asks 0 (request.Extend 0 1) ∷ asks 0 (request.Extend 2 3) ∷ asks 0 request.Space
+    ∷ asks 0 (request.Extend 3 103) ∷ asks 0 request.Space
+    ∷ asks 0 (request.GrowIndex 1) ∷ asks 0 (request.GrowIndex 4000) ∷ asks 0 (request.GrowIndex 3980)
+    ∷ other_asks (request.GrowIndex 3980) ∷ [])
+    (gets (reply.Created (id 17 1)) ∷ gets (reply.Length 1) ∷ gets (reply.Length 3) ∷ gets (reply.Space 168 0 18)
+    ∷ gets (reply.Length 103) ∷ gets (reply.Space 64 1 19)
+    ∷ gets (reply.Slots 20) ∷ no refusal.IndexLimit ∷ no refusal.DeviceFull
     ∷ no refusal.NoPrivilege ∷ [])
+
+-- with so many slots at most, and so many blocks free
+abbrev pub crowded_with : ℕ → ℕ → Store
+crowded_with limit free = record crowded_volume { limit = limit; free = free }
+
+-- where there may be no more slots there is no header, and where no block is free the volume is full; there may be no memory for a slot
+abbrev pub SlotsRunOut : Type 0
+SlotsRunOut =
+    MayAnswer (crowded_with 16 174) (asks 0 create ∷ asks 0 (request.Extend 0 1) ∷ []) (no refusal.NoHeader ∷ no refusal.NoHeader ∷ [])
+    × MayAnswer (crowded_with 4000 0) (asks 0 create ∷ asks 0 (request.Extend 2 1) ∷ []) (no refusal.DeviceFull ∷ no refusal.DeviceFull ∷ [])
+    × MayAnswer (crowded_with 4000 1) (asks 0 (request.Extend 0 1) ∷ []) (no refusal.DeviceFull ∷ [])
+    × MayAnswer crowded_volume (asks 0 create ∷ asks 0 (request.Extend 0 1) ∷ []) (no refusal.NoMemory ∷ no refusal.NoMemory ∷ [])
 
 -- bounds on the transfers of requests: one bitmap block, one index bitmap block, files of one header, a
 -- directory of one block
@@ -310,7 +324,7 @@ pub record Bounds : Type 0 where
   pub remove : cost small_volume 0 (request.Remove (id 4 4) a_txt) ≡ 6
   pub delete : cost small_volume 0 (request.Delete (id 4 4)) ≡ 10
   pub grow : cost small_volume 0 (request.GrowIndex 1) ≡ 25
-  pub extend : cost crowded_volume 0 (request.Extend 2 103) ≡ 544
+  pub extend : cost crowded_volume 0 (request.Extend 2 103) ≡ 569
   pub read : cost crowded_volume 0 (request.ReadBlock 0 1) ≡ 2
   pub close : cost crowded_volume 0 (request.Deaccess 0) ≡ 0
   pub release : cost crowded_volume 0 request.Release ≡ 0

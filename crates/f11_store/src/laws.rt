@@ -3,6 +3,7 @@
 
 ghost use Rattle.f11_store.specs.Laws as laws;
 ghost use Rattle.f11_store.specs.Pieces as pieces;
+ghost use Rattle.f11_store.specs.SlotsFirst as slots_first;
 
 /// What a store is: its values, and nothing else.
 pub fn stores()
@@ -87,4 +88,18 @@ pub fn cleared_marks()
 pub fn growth()
     ensures extends { pieces.GrowsAsExtends }
     ensures index { pieces.GrowsAsIndex }
+{}
+
+/// An index file that grows before headers are taken.
+pub fn slots_first()
+    ensures ready { slots_first.GainedIsReady }
+    ensures gaining { slots_first.GainingLags }
+    ensures lags { slots_first.ReadyLags }
+{}
+
+/// What may be done then: the slots added, and after them what takes headers.
+pub fn headers_for()
+    ensures added { slots_first.FirstMayBeAdded }
+    ensures enough { slots_first.EnoughAreFree }
+    ensures extend { slots_first.ReadyMayExtend }
 {}

@@ -38,9 +38,9 @@ pub enum Refusal {
     IndexLimit,
     /// The file would have more than 256 headers.
     TooManySegments,
-    /// Fewer blocks are free than asked for.
+    /// Fewer blocks are free than asked for, with those of slots that the index file is to get first.
     DeviceFull,
-    /// Fewer headers are free than needed.
+    /// Fewer headers are free than needed, and the index file may not get slots for those that lack.
     NoHeader,
     /// Memory was refused.
     NoMemory,

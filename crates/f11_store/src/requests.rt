@@ -7,7 +7,7 @@ use f11_rad50::Name;
 /// A request of a task (profile). Blocks have 512 bytes; VBNs count a file's blocks from 1.
 #[derive(Clone, Copy, PartialEq, Eq, Debug)]
 pub enum Request {
-    /// A new file without blocks, owned by the caller.
+    /// A new file without blocks, owned by the caller. Where no slot is free, the index file gets one first.
     Create {
         /// Its protection word.
         protection: u16,
@@ -16,7 +16,7 @@ pub enum Request {
         /// Its user attributes.
         attr: [u8; 32],
     },
-    /// So many blocks of zeros more at the end of the file accessed by the lun.
+    /// So many blocks of zeros more at the end of the file accessed by the lun. The index file first gets a slot for each header that lacks.
     Extend(Lun, u32),
     /// The file accessed by the lun keeps its first so many blocks.
     Truncate(Lun, u32),
@@ -36,7 +36,7 @@ pub enum Request {
     WriteBlock(Lun, u32),
     /// The identification that the directory has under the name.
     Find(FileId, Name),
-    /// The directory gets a record with the name and the identification after it.
+    /// The directory gets a record with the name and the identification after it, and where it needs one, a block first, as `Extend`.
     Enter(FileId, Name, FileId),
     /// The directory loses its first record with the name.
     Remove(FileId, Name),

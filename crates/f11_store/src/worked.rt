@@ -3,18 +3,31 @@
 ghost use Rattle.f11_store.specs.Worked as worked;
 ghost use Rattle.f11_store.specs.WorkedLags as lags;
 
-/// What requests on a small volume are answered.
-pub fn examples()
+/// What requests on files of a small volume are answered.
+pub fn files()
     ensures sequence_numbers { worked.SequenceNumbers }
     ensures full_volume { worked.FullVolume }
-    ensures too_long { worked.TooLong }
     ensures deferred_delete { worked.DeferredDelete }
     ensures truncated_under_a_reader { worked.TruncatedUnderAReader }
     ensures conflicts { worked.Conflicts }
+{}
+
+/// What they are answered where headers, or slots, run out.
+pub fn headers()
+    ensures too_long { worked.TooLong }
     ensures headers_run_out { worked.HeadersRunOut }
+    ensures slots_run_out { worked.SlotsRunOut }
+{}
+
+/// What requests on directories are answered.
+pub fn directories()
     ensures entered_and_removed { worked.EnteredAndRemoved }
     ensures entered_in_new_block { worked.EnteredInNewBlock }
     ensures end_moves { worked.EndMoves }
+{}
+
+/// How many transfers requests may take.
+pub fn transfers()
     ensures bounds { worked.Bounds }
 {}
 

@@ -20,7 +20,7 @@ use Rattle.f11_index.specs.IndexFile.{Index, index_of, header_lbn, free_slots_in
 use Rattle.f11_index.specs.Slots.{IsLeastFree}
 use Rattle.f11_store.specs.Causes.{first_of}
 use Rattle.f11_store.specs.Changes.{next_sequence}
-use Rattle.f11_store.specs.Lags.{Work, LagsBy}
+use Rattle.f11_store.specs.Lags.{Work, LagsBy, new_file_work}
 use Rattle.f11_store.specs.Store.{Store, free_slots, free_headers}
 use Rattle.f11_store.specs.declared.callers.Uic.{Uic}
 use Rattle.f11_store.specs.declared.files.FileId.{FileId}
@@ -32,9 +32,9 @@ use Rattle.f11_volume.specs.Space.{storage_bitmap}
 use Rattle.f11_volume.specs.Volume.{volume_of}
 use Rattle.f11_image_store.specs.Allocation.{KeepsBlocks}
 use Rattle.f11_files.specs.Answers.{Meanwhile, IsUnderWay}
-use Rattle.f11_files.specs.Create.{Creates, FailsToCreate, new_work}
+use Rattle.f11_files.specs.Create.{EntersFile, FailsToEnter}
 use Rattle.f11_image_store.specs.NewFileLaws.{IsNewFirst, WritesNewFirst, EntersNewFile}
-use Rattle.f11_files.specs.Operations.{create_causes}
+use Rattle.f11_files.specs.Operations.{slot_causes}
 use Rattle.f11_image_store.specs.SlotLaws.{with_last}
 use Rattle.f11_image_store.specs.StoreOf.{store_of}
 use Rattle.f11_files.specs.Structure.{index_in, bitmap_in, home_of, store_on, FitsOn, IsStructureOf, IsStructureFor, StaysFor}
@@ -46,9 +46,9 @@ use Rattle.f11_image_store.proofs.NewFileLemmas.{free-stored, least-stored, writ
 use Rattle.f11_files.proofs.WriteLemmas.{keeps-storage, breaks-off, failed-stays, sound-went, writes-behind, writes-within}
 
 -- a slot that was given its next sequence number
-numbered : (s : Store) (owner : Uic) (protection : ℕ) (ident attr : List ℕ) (n sequence : ℕ) → sequence ≡ next_sequence (s.last n) → LagsBy (new_work s owner protection ident attr) (with_last s n sequence) s
+numbered : (s : Store) (owner : Uic) (protection : ℕ) (ident attr : List ℕ) (n sequence : ℕ) → sequence ≡ next_sequence (s.last n) → LagsBy (new_file_work s owner protection ident attr) (with_last s n sequence) s
 unfolding free_slots
-numbered s owner protection ident attr n sequence next = taken_lags (new_work s owner protection ident attr) s (with_last s n sequence) (λ m. refl) (record {
+numbered s owner protection ident attr n sequence next = taken_lags (new_file_work s owner protection ident attr) s (with_last s n sequence) (λ m. refl) (record {
   others = λ m out. refl;
   free = omega arith;
   slots_free = let same : free_headers (with_last s n sequence) ≡ free_headers s = refl in omega (arith, same);
@@ -77,7 +77,7 @@ lies-bit s t value n blocks bitmap bit lies =
     }
 
 -- no slot is free
-pub none-free : (s : Structure) (disk : Disk) → IsStructureFor s disk → IsTrue disk.honest → free_in_index (index_in s) ≡ [] → first_of (create_causes (store_on s disk)) ≡ Some NoHeader
+pub none-free : (s : Structure) (disk : Disk) → IsStructureFor s disk → IsTrue disk.honest → free_in_index (index_in s) ≡ [] → first_of (slot_causes (store_on s disk)) ≡ Some NoHeader
 none-free s disk for honest none =
     let count : free_headers (store_on s disk) ≡ 0 = ap (λ (l : List ℕ). length l) (free-stored disk.image (home_of s) ∙ ap free_in_index (sym (for.keeps honest).index_is) ∙ none) in
     ap (λ (b : Bool). cond b (Some NoHeader) None) (eq-eqb (free_headers (store_on s disk)) 0 count)
@@ -92,7 +92,7 @@ module _ (s : Structure) (owner : Uic) (protection : ℕ) (ident attr : List ℕ
   home = home_of s
 
   abbrev work : Work
-  work = new_work st owner protection ident attr
+  work = new_file_work st owner protection ident attr
 
   abbrev P : Image → Type 0
   P = Meanwhile work home old
@@ -104,7 +104,7 @@ module _ (s : Structure) (owner : Uic) (protection : ℕ) (ident attr : List ℕ
   slot = read-at s n lbn was sequence old mid for least at counts gives next
 
   -- a header is free
-  some-free : IsTrue old.honest → first_of (create_causes st) ≡ None
+  some-free : IsTrue old.honest → first_of (slot_causes st) ≡ None
   some-free honest =
       let stored = ap (λ (l : List ℕ). length l) (free-stored old.image home) in
       let within : 0 < length (free_in_index (index_of old.image home)) = slice_get_within _ _ n (slot honest).least.first in
@@ -151,7 +151,7 @@ module _ (s : Structure) (owner : Uic) (protection : ℕ) (ident attr : List ℕ
 
     module _ (one : Disk) where
       -- the header couldn't be written
-      pub fails-first : (one ≡ with_transfer false mid) ⊎ (one ≡ with_transfer false (with_block_at lbn block mid)) → FailsToCreate false home owner protection ident attr DeviceFault old one
+      pub fails-first : (one ≡ with_transfer false mid) ⊎ (one ≡ with_transfer false (with_block_at lbn block mid)) → FailsToEnter home owner protection ident attr DeviceFault old one
       fails-first is =
           breaks-off some-free refl (right-fault _ _)
           (writes-within (omega arith) (writes-behind (reads-looked (looked_read old mid counts)) (went_failed_write P mid one lbn block is first-moment)))
@@ -169,7 +169,7 @@ module _ (s : Structure) (owner : Uic) (protection : ℕ) (ident attr : List ℕ
             (went_weaker _ P (λ image has. second-moment image (subst (λ (i : Image). HasBitWritten true n (index_in s) i image) image-one has)) went)
 
         -- nor could its bit
-        pub fails-bit : (new : Disk) → FailsToWriteBit true n (index_in s) one new → FailsToCreate false home owner protection ident attr DeviceFault old new
+        pub fails-bit : (new : Disk) → FailsToWriteBit true n (index_in s) one new → FailsToEnter home owner protection ident attr DeviceFault old new
         fails-bit new fails = breaks-off some-free refl (right-fault _ _) (writes-behind (reads-looked (looked_read old mid counts)) (behind new 1 fails))
 
         pub fails-bit-stays : (t : Structure) (new : Disk) → home_of t ≡ home → FailsToWriteBit true n (index_in s) one new → StaysFor true s t new
@@ -179,7 +179,7 @@ module _ (s : Structure) (owner : Uic) (protection : ℕ) (ident attr : List ℕ
         image-two after new wrote_bit = wrote_bit.image ∙ ap (λ (i : Image). with_bitmap_block i after n) image-one
 
         -- the file is there
-        pub creates : (after : Index) (new : Disk) → WritesBit true n (index_in s) after one new → Creates home owner protection ident attr id old new
+        pub creates : (after : Index) (new : Disk) → WritesBit true n (index_in s) after one new → EntersFile home owner protection ident attr id old new
         creates after new wrote_bit = record {
           does = record {
             no_cause = some-free;

@@ -24,17 +24,16 @@ use Rattle.f11_volume.specs.Volume.{volume_of}
 use Rattle.f11_image_store.specs.Allocation.{AddsZeroSlots, GainsBlocks, GainsBlocksAs, ownership_in}
 use Rattle.f11_image_store.specs.StoreOf.{store_of}
 use Rattle.f11_image_store.proofs.AllocationLemmas.{gains-add}
-use Rattle.f11_files.specs.Answers.{Breaks, Meanwhile, ReadsAtMost, WritesAtMost, faults_of}
+use Rattle.f11_files.specs.Answers.{Breaks, Meanwhile, WritesAtMost, faults_of}
 use Rattle.f11_files.specs.Extending.Mark.{Clearing, ClearsMark}
-use Rattle.f11_files.specs.Extending.Room.{FindsRoom}
+use Rattle.f11_files.specs.Extending.Room.{HoldsEnd}
 use Rattle.f11_files.specs.Extending.Runs.{GrowingByRuns, GrowsByRuns, IsTailOf}
 use Rattle.f11_files.specs.Extending.Tail.{ownership_of}
 use Rattle.f11_files.specs.Structure.{home_of, store_on, IsStructureFor}
 use Rattle.f11_files.specs.declared.extend.tail.Tail.{Tail}
 use Rattle.f11_files.specs.declared.structure.Structure.{Structure}
-use Rattle.f11_files.proofs.Extending.Cleared.{enough, fewer-needed, covered, image-read, honest-read, honest-cleared, tail-ownership}
+use Rattle.f11_files.proofs.Extending.Cleared.{enough, fewer-needed, covered, tail-ownership}
 use Rattle.f11_files.proofs.GrowingIndex.ZeroSlots.{zero-then}
-use Rattle.f11_files.proofs.WriteLemmas.{writes-behind}
 
 -- a file has the room that it had where its mark is cleared
 cleared-room : (s : Store) (k : ℕ) → (file_numbered (with_change s k with_no_mark) k).room ≡ (file_numbered s k).room
@@ -45,19 +44,14 @@ cleared-room s k = go (eqb k k) (s.file k)
     go true (Some f) = refl
     go false o = refl
 
--- clearing the mark is within the cost
-pub clear-cost : (s : Store) (f : File) (n : ℕ) → header_count f + 1 ≤ growth_cost s f n - 1
-clear-cost s f n = let many = enough s.index_bitmap_blocks ((n + 101) / 102) in omega (arith, many)
-
--- File k, which is this one in the store, has room for n blocks more, and nothing is against them; its headers were read.
-pub record HasRoomFor (s : Structure) (k n : ℕ) (file : File) (old read : Disk) : Type 0 where
+-- File k, which is this one in the store, has room for n blocks more, and nothing is against them.
+pub record HasRoomFor (s : Structure) (k n : ℕ) (file : File) (old : Disk) : Type 0 where
   pub is_file : IsTrue old.honest → (store_on s old).file k ≡ Some file
   pub no_cause : IsTrue old.honest → first_of (growth_causes (store_on s old) file n) ≡ None
   pub within : IsTrue old.honest → IsTrue (k == 1) → (store_on s old).slots + n ≤ (store_on s old).limit
-  pub reads : ReadsAtMost (header_count file) old read 0
 
-module _ (s : Structure) (f : FileId) (n : ℕ) (end : FileEnd) (was last : List ℕ) (old read : Disk) (for : IsStructureFor s old) (finds : FindsRoom s f n end was last old read) (file : File)
-    (has : HasRoomFor s f.number n file old read) where
+module _ (s : Structure) (f : FileId) (n : ℕ) (end : FileEnd) (was last : List ℕ) (old : Disk) (for : IsStructureFor s old) (ends : HoldsEnd s f end was last old) (file : File)
+    (has : HasRoomFor s f.number n file old) where
   abbrev home : HomeFields
   home = home_of s
 
@@ -76,11 +70,9 @@ module _ (s : Structure) (f : FileId) (n : ℕ) (end : FileEnd) (was last : List
   abbrev cleared_store : Store
   cleared_store = with_change st k with_no_mark
 
-  honest-then : read.honest ≡ old.honest
-  honest-then = honest-read s f n end was last old read for finds
-
-  image-then : read.image ≡ old.image
-  image-then = image-read s f n end was last old read for finds
+  -- what is left of the cost: but for a look at the file's right, at each of its headers, and again at the first and the last
+  abbrev most : ℕ
+  most = growth_cost st file n - 1 - header_count file - 2
 
   module _ (honest : IsTrue old.honest) where
     numbered : file_numbered st k ≡ file
@@ -90,38 +82,36 @@ module _ (s : Structure) (f : FileId) (n : ℕ) (end : FileEnd) (was last : List
     is-numbered = has.is_file honest ∙ ap Some (sym numbered)
 
   -- the mark is cleared
-  clear-moment : (image : Image) → Clearing s f read image → P image
+  clear-moment : (image : Image) → Clearing s f old image → P image
   clear-moment image is honest =
-      let there = is (honest-then ∙ honest) in
+      let there = is honest in
       record {
         sound = there.sound;
-        lags = subst (λ (x : Store). LagsBy work x st) (sym (there.store ∙ ap (λ (i : Image). with_change (store_of i home) k with_no_mark) image-then))
-            (growth-cleared-lags st cleared_store k file.room n (lags_itself work cleared_store));
+        lags = subst (λ (x : Store). LagsBy work x st) (sym there.store) (growth-cleared-lags st cleared_store k file.room n (lags_itself work cleared_store));
       }
 
-  writes-clearing : {faults : ℕ} {new : Disk} → Went (Clearing s f read) read new 1 faults → WritesAtMost P (header_count file + 1) old new faults
-  writes-clearing went = writes-behind has.reads (went_weaker (Clearing s f read) P clear-moment went)
+  pub breaks-clearing : {faults : ℕ} {new : Disk} → Went (Clearing s f old) old new 1 faults → WritesAtMost P most old new faults
+  breaks-clearing went = record {
+    transfers = 1;
+    went = went_weaker (Clearing s f old) P clear-moment went;
+    few = λ honest. let many = enough st.index_bitmap_blocks ((n + 101) / 102) in omega (arith, many);
+  }
 
-  pub breaks-clearing : {new : Disk} → Went (Clearing s f read) read new 1 1 → WritesAtMost P (growth_cost st file n - 1) old new 1
-  breaks-clearing went =
-      let writes = writes-clearing went in
-      record { transfers = writes.transfers; went = writes.went; few = λ honest. let few = writes.few honest in let cost = clear-cost st file n in omega (arith, few, cost) }
-
-  module _ (block : List ℕ) (cleared : Disk) (clears : ClearsMark s f was block read cleared) where
+  module _ (block : List ℕ) (cleared : Disk) (clears : ClearsMark s f was block old cleared) where
     still-honest : cleared.honest ≡ old.honest
-    still-honest = honest-cleared s f n end was last old read for finds block cleared clears
+    still-honest = clears.went.honest
 
     abbrev after : Store
     after = store_on s cleared
 
     store-cleared : IsTrue old.honest → after ≡ cleared_store
-    store-cleared honest = (clears.store (honest-then ∙ honest)).store ∙ ap (λ (i : Image). with_change (store_of i home) k with_no_mark) image-then
+    store-cleared honest = (clears.store honest).store
 
     room-cleared : IsTrue old.honest → (file_numbered after k).room ≡ file.room
     room-cleared honest = ap (λ (x : Store). (file_numbered x k).room) (store-cleared honest) ∙ cleared-room st k ∙ ap (λ (g : File). g.room) (numbered honest)
 
-    writes-cleared : WritesAtMost P (header_count file + 1) old cleared 0
-    writes-cleared = writes-clearing clears.went
+    cleared-went : Went P old cleared 1 0
+    cleared-went = went_weaker (Clearing s f old) P clear-moment clears.went
 
     pub may-grow : IsTrue cleared.honest → MayGrowAs after k n
     may-grow there =
@@ -140,17 +130,16 @@ module _ (s : Structure) (f : FileId) (n : ℕ) (end : FileEnd) (was last : List
         }
 
     pub breaks-growing : {r : Refusal} {new : Disk} → Breaks (GrowingByRuns s k n cleared) (after.bitmap_blocks + 5 * n + 3 * need (file_numbered after k).room n + 3) r cleared new
-        → WritesAtMost P (growth_cost st file n - 1) old new (faults_of r)
+        → WritesAtMost P most old new (faults_of r)
     breaks-growing breaks = record {
-      transfers = writes-cleared.transfers + breaks.writes.transfers;
-      went = went_more P writes-cleared.went (went_weaker (GrowingByRuns s k n cleared) P grown-moment breaks.writes.went);
+      transfers = 1 + breaks.writes.transfers;
+      went = went_more P cleared-went (went_weaker (GrowingByRuns s k n cleared) P grown-moment breaks.writes.went);
       few = λ honest.
-          let first = writes-cleared.few honest in
           let then = breaks.writes.few (still-honest ∙ honest) in
           let blocks = ap (λ (x : Store). x.bitmap_blocks) (store-cleared honest) in
           let many = enough st.index_bitmap_blocks ((n + 101) / 102) in
           let headers : need (file_numbered after k).room n ≤ (n + 101) / 102 = fewer-needed (file_numbered after k).room n in
-          omega (arith, first, then, blocks, many, headers);
+          omega (arith, then, blocks, many, headers);
     }
 
     module _ (tail : Tail) (of : IsTailOf f block end.number last tail) (new : Disk) (grows : GrowsByRuns s k (ownership_of tail) n cleared new) where
@@ -166,28 +155,26 @@ module _ (s : Structure) (f : FileId) (n : ℕ) (end : FileEnd) (was last : List
       pub gains-all : IsTrue old.honest → GainsBlocks k n (volume_of old.image home) (volume_of new.image home)
       gains-all honest =
           let none : 0 + n ≡ n = omega arith in
-          let first = subst (λ (i : Image). GainsBlocks k 0 (volume_of i home) (volume_of cleared.image home)) image-then (clears.gains (honest-then ∙ honest)) in
           subst (λ (m : ℕ). GainsBlocks k m (volume_of old.image home) (volume_of new.image home)) none
-          (gains-add k ownership 0 n (volume_of old.image home) (volume_of cleared.image home) (volume_of new.image home) first
+          (gains-add k ownership 0 n (volume_of old.image home) (volume_of cleared.image home) (volume_of new.image home) (clears.gains honest)
           (subst (λ (r : Uic × ℕ). GainsBlocksAs k r n (volume_of cleared.image home) (volume_of new.image home))
-          (tail-ownership s f n end was last old read for finds block cleared clears tail of honest) (grows.gains (still-honest ∙ honest))))
+          (tail-ownership s f end was last old for ends block cleared clears tail of honest) (grows.gains (still-honest ∙ honest))))
 
       -- and slots that came are zeros
       pub zeros-all : IsTrue old.honest → AddsZeroSlots (table_of old.image home) (table_of new.image home)
       zeros-all honest =
           zero-then (table_of old.image home) (table_of cleared.image home) (table_of new.image home)
-          (subst (λ (i : Image). AddsZeroSlots (table_of i home) (table_of cleared.image home)) image-then (clears.zeros (honest-then ∙ honest))) (grows.slots (still-honest ∙ honest))
+          (clears.zeros honest) (grows.slots (still-honest ∙ honest))
 
-      pub writes-grown : WritesAtMost P (growth_cost st file n - 1) old new 0
+      pub writes-grown : WritesAtMost P most old new 0
       writes-grown = let grew = grows.grew in record {
-        transfers = writes-cleared.transfers + grew.transfers;
-        went = went_more P writes-cleared.went (went_weaker (GrowingByRuns s k n cleared) P grown-moment grew.went);
+        transfers = 1 + grew.transfers;
+        went = went_more P cleared-went (went_weaker (GrowingByRuns s k n cleared) P grown-moment grew.went);
         few = λ honest.
-            let first = writes-cleared.few honest in
             let then = grew.few (still-honest ∙ honest) in
             let size = covered s old for honest in
             let added = (grew.grows (still-honest ∙ honest)).grows.may_grow.headers in
             let headers = fewer-needed (grew.grows (still-honest ∙ honest)).grows.before.room n in
             let many = enough st.index_bitmap_blocks ((n + 101) / 102) in
-            omega (arith, first, then, size, added, headers, many);
+            omega (arith, then, size, added, headers, many);
       }

@@ -24,7 +24,7 @@ use Rattle.f11_files.specs.Answers.{IsRight, ReadsAtMost, is_cause, is_fatal}
 use Rattle.f11_files.specs.Extending.Mark.{ClearsMark}
 use Rattle.f11_files.specs.Extending.Runs.{IsTailOf}
 use Rattle.f11_files.specs.Finding.First.{HoldsFile}
-use Rattle.f11_files.specs.Extending.Room.{FindsRoom}
+use Rattle.f11_files.specs.Extending.Room.{HoldsEnd}
 use Rattle.f11_image_store.specs.StoreOf.{store_of}
 use Rattle.f11_files.specs.Structure.{index_in, bitmap_in, home_of, store_on, IsStructureFor}
 use Rattle.f11_files.specs.Extending.Tail.{HoldsLast, ownership_of}
@@ -34,7 +34,6 @@ use Rattle.f11_files.proofs.Finding.First.{table-of}
 use Rattle.f11_files.proofs.Finding.Locate.{reads-along}
 use Rattle.f11_files.proofs.Finding.Named.{block-is, is-file}
 use Rattle.f11_files.proofs.Opening.Kept.{looked-for}
-use Rattle.f11_files.proofs.Extending.Room.{last-is, last-of}
 use Rattle.f11_image_store.specs.Allocation.{ownership_in}
 use Rattle.f11_volume.specs.Volume.{volume_of}
 
@@ -71,45 +70,14 @@ covered s old for honest =
     let blocks = store-bitmap old.image (home_of s) in
     omega (arith, many, count, blocks)
 
-module _ (s : Structure) (f : FileId) (n : ℕ) (end : FileEnd) (was last : List ℕ) (old read : Disk) (for : IsStructureFor s old) (finds : FindsRoom s f n end was last old read) where
+module _ (s : Structure) (f : FileId) (end : FileEnd) (was last : List ℕ) (old : Disk) (for : IsStructureFor s old) (ends : HoldsEnd s f end was last old) where
   abbrev home : HomeFields
   home = home_of s
-
-  abbrev st : Store
-  st = store_on s old
 
   abbrev k : ℕ
   k = f.number
 
-  abbrev named : File
-  named = file_named st f
-
-  pub image-read : read.image ≡ old.image
-  image-read = finds.ends.looked.looked.image
-
-  pub honest-read : read.honest ≡ old.honest
-  honest-read = finds.ends.looked.looked.honest
-
-  for-read : IsStructureFor s read
-  for-read = looked-for s old read _ _ for finds.ends.looked.looked
-
-  holds-read : HoldsFile (index_in s) f was read
-  holds-read = record {
-    header = record {
-      in_use = finds.holds.header.in_use;
-      valid = finds.holds.header.valid;
-      block_is = λ honest. finds.holds.header.block_is (sym honest-read ∙ honest) ∙ ap (λ (i : Image). (table_in i (index_in s)).header k) (sym image-read);
-    };
-    is_first = finds.holds.is_first;
-  }
-
-  pub reads-found : ReadsAtMost (header_count named) old read 0
-  reads-found = reads-along s f was old read 0 for finds.holds finds.ends.looked
-
-  module _ (block : List ℕ) (cleared : Disk) (clears : ClearsMark s f was block read cleared) where
-    pub honest-cleared : cleared.honest ≡ old.honest
-    honest-cleared = clears.went.honest ∙ honest-read
-
+  module _ (block : List ℕ) (cleared : Disk) (clears : ClearsMark s f was block old cleared) where
     -- the file's last header is in hand
     module _ (tail : Tail) (of : IsTailOf f block end.number last tail) where
       -- its first header is the last one
@@ -136,44 +104,43 @@ module _ (s : Structure) (f : FileId) (n : ℕ) (end : FileEnd) (was last : List
       module _ (some : (link_of block).number ≢ 0) where
         module _ (honest : IsTrue old.honest) where
           abbrev t : Table
-          t = table_of read.image home
+          t = table_of old.image home
 
-          last-read : last ≡ t.header end.number
-          last-read = last-is s f was old for finds.holds end last read finds.ends honest ∙ ap (λ (i : Image). (table_of i home).header end.number) (sym image-read)
+          last-there : last ≡ t.header end.number
+          last-there = ends.header.block_is honest ∙ ap (λ (u : Table). u.header end.number) (table-of s old for honest)
+
+          last-one : IsLastOf t k end.number
+          last-one = subst (λ (u : Table). IsLastOf u k end.number) (table-of s old for honest) (ends.is_last honest)
 
           apart : end.number ≢ k
           apart same = some (
               ap (λ (l : FileId). l.number) clears.link
-              ∙ ap (λ (b : List ℕ). (link_of b).number) (block-is s f was read for-read holds-read (honest-read ∙ honest) ∙ ap t.header (sym same) ∙ sym last-read) ∙ finds.ends.no_link
+              ∙ ap (λ (b : List ℕ). (link_of b).number) (block-is s f was old for ends.holds honest ∙ ap t.header (sym same) ∙ sym last-there) ∙ ends.no_link
               )
 
           header-cleared : (table_of cleared.image home).header end.number ≡ t.header end.number
-          header-cleared =
-              (clears.slots (honest-read ∙ honest)).header end.number apart
-              (ap (λ (i : Image). (table_of i home).in_use end.number) image-read ∙ (live_of-header (last-of s f was old for finds.holds end last read finds.ends honest).of).in_use)
+          header-cleared = (clears.slots honest).header end.number apart (live_of-header last-one.of).in_use
 
           last-cleared : IsLastOf (table_of cleared.image home) k end.number
-          last-cleared =
-              clears.last (honest-read ∙ honest) end.number
-              (subst (λ (i : Image). IsLastOf (table_of i home) k end.number) (sym image-read) (last-of s f was old for finds.holds end last read finds.ends honest))
+          last-cleared = clears.last honest end.number last-one
 
         was-honest : IsTrue cleared.honest → IsTrue old.honest
-        was-honest honest = sym honest-cleared ∙ honest
+        was-honest honest = sym clears.went.honest ∙ honest
 
         later-header : HoldsHeader (index_in s) end.number last cleared
         later-header = record {
-          in_use = finds.ends.header.in_use;
-          valid = finds.ends.header.valid;
+          in_use = ends.header.in_use;
+          valid = ends.header.valid;
           block_is = λ honest.
               let before = was-honest honest in
-              last-read before ∙ sym (header-cleared before) ∙ ap (λ (u : Table). u.header end.number) (sym (table-of s cleared clears.is_for honest));
+              last-there before ∙ sym (header-cleared before) ∙ ap (λ (u : Table). u.header end.number) (sym (table-of s cleared clears.is_for honest));
         }
 
         other-last : HoldsLast s tail cleared
         other-last = let is = of.other some in record {
           header = subst (λ (m : ℕ). HoldsHeader (index_in s) m tail.block cleared) (sym is.0) (subst (λ (b : List ℕ). HoldsHeader (index_in s) end.number b cleared) (sym is.1) later-header);
-          no_link = ap (λ (b : List ℕ). (link_of b).number) is.1 ∙ finds.ends.no_link;
-          few = let same = ap (λ (b : List ℕ). segment_number b) is.1 in omega (arith, finds.ends.segment, finds.ends.few, same);
+          no_link = ap (λ (b : List ℕ). (link_of b).number) is.1 ∙ ends.no_link;
+          few = let same = ap (λ (b : List ℕ). segment_number b) is.1 in omega (arith, ends.segment, ends.few, same);
           is_last = λ honest.
               let u : Table = table_of cleared.image home in
               subst (λ (g : FileId). IsLastOf u g.number tail.number) (sym of.file_is) (subst (λ (m : ℕ). IsLastOf u k m) (sym is.0) (last-cleared (was-honest honest)));
@@ -183,9 +150,8 @@ module _ (s : Structure) (f : FileId) (n : ℕ) (end : FileEnd) (was last : List
       pub tail-ownership : IsTrue old.honest → ownership_of tail ≡ ownership_in ((volume_of old.image home).table.header k)
       unfolding volume_of
       tail-ownership honest =
-          let stays = (clears.gains (honest-read ∙ honest)).names.says.first in
-          (λ i. (of.owner_is i, of.protection_is i)) ∙ ap ownership_in (block-is s f block cleared clears.is_for clears.holds (honest-cleared ∙ honest)) ∙ stays
-          ∙ ap (λ (i : Image). ownership_in ((table_of i home).header k)) image-read
+          let stays = (clears.gains honest).names.says.first in
+          (λ i. (of.owner_is i, of.protection_is i)) ∙ ap ownership_in (block-is s f block cleared clears.is_for clears.holds (clears.went.honest ∙ honest)) ∙ stays
 
       pub holds-last : HoldsLast s tail cleared
       holds-last = elim (cases_eq (link_of block).number 0) [ inl none ↦ alone-last none | inr some ↦ other-last some ]

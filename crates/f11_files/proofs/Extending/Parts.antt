@@ -23,7 +23,7 @@ use Rattle.f11_image_store.specs.Confines.{no_header, only_header, new_header, e
 use Rattle.f11_files.specs.Extending.Runs.{IsTailOf}
 use Rattle.f11_files.specs.Extending.Header.{TakesSlot}
 use Rattle.f11_files.specs.Extending.Slots.{StaysBehind}
-use Rattle.f11_files.specs.Extending.Room.{FindsRoom}
+use Rattle.f11_files.specs.Extending.Room.{HoldsEnd}
 use Rattle.f11_files.specs.Structure.{index_in, home_of, ConfinesTo, IsStructureFor, WritesParts, StandsAlike, StandsWithin}
 use Rattle.f11_files.specs.Extending.Tail.{growth_headers, GrowsWithin, WritesGrowth}
 use Rattle.f11_files.specs.Extending.Take.{TakesRun}
@@ -31,7 +31,7 @@ use Rattle.f11_files.specs.declared.structure.Structure.{Structure}
 use Rattle.f11_files.specs.declared.extend.tail.Tail.{Tail}
 use Rattle.f11_files.proofs.Finding.First.{table-of}
 use Rattle.f11_files.proofs.Removing.Gone.{first-listed}
-use Rattle.f11_files.proofs.Confining.Parts.{at-in, bit-alike, fewer-free, in-one, in-other, of-either, of-none, of-only, out-front, parts-looked, parts-then, reserved-alike, stands-along, stands-same, stands-within, to-parts, to-then, to-wider}
+use Rattle.f11_files.proofs.Confining.Parts.{at-in, bit-alike, fewer-free, in-one, in-other, of-either, of-none, of-only, out-front, parts-none, parts-then, reserved-alike, stands-along, stands-same, stands-within, to-parts, to-then, to-wider}
 
 -- slots that aren't in use once one is taken weren't before
 number-new : (before after : Index) (n m : ℕ) → 0 < m → SetsBit true n before after → new_header after m ≡ true → new_header before m ≡ true
@@ -140,15 +140,15 @@ growth-of s t listed tail is same =
     (λ n new. in-other listed (new_header (index_in s)) n (ap (λ (x : Index). new_header x n) (sym same) ∙ new))
 
 -- its last header is one of them
-pub tail-listed : (s : Structure) (f : FileId) (n : ℕ) (end : FileEnd) (first last cleared : List ℕ) (old new : Disk) (tail : Tail) → IsStructureFor s old → FindsRoom s f n end first last old new → IsTailOf f cleared end.number last tail → IsTrue old.honest
+pub tail-listed : (s : Structure) (f : FileId) (end : FileEnd) (first last cleared : List ℕ) (old : Disk) (tail : Tail) → IsStructureFor s old → HoldsEnd s f end first last old → IsTailOf f cleared end.number last tail → IsTrue old.honest
     → is_in (headers_of (table_of old.image (home_of s)) f.number) tail.number ≡ true
-tail-listed s f n end first last cleared old new tail for room of honest = elim (cases_eq (link_of cleared).number 0) [
-  | inl none ↦ ap (is_in (headers_of (table_of old.image (home_of s)) f.number)) (of.alone none).0 ∙ first-listed s f first old for room.holds honest
+tail-listed s f end first last cleared old tail for ends of honest = elim (cases_eq (link_of cleared).number 0) [
+  | inl none ↦ ap (is_in (headers_of (table_of old.image (home_of s)) f.number)) (of.alone none).0 ∙ first-listed s f first old for ends.holds honest
   | inr some ↦
       let u : Table = table (index_in s) old in
-      let block = ap segment_number (room.ends.header.block_is honest) in
-      let few : segment_number (u.header end.number) < 256 = omega (arith, block, room.ends.segment, room.ends.few) in
-      let there : is_in (headers_of u f.number) end.number ≡ true = at-in (headers_of u f.number) (segment_number (u.header end.number)) end.number (header-placed u f.number end.number (room.ends.is_last honest).of few) in
+      let block = ap segment_number (ends.header.block_is honest) in
+      let few : segment_number (u.header end.number) < 256 = omega (arith, block, ends.segment, ends.few) in
+      let there : is_in (headers_of u f.number) end.number ≡ true = at-in (headers_of u f.number) (segment_number (u.header end.number)) end.number (header-placed u f.number end.number (ends.is_last honest).of few) in
       ap (is_in (headers_of (table_of old.image (home_of s)) f.number)) (of.other some).0 ∙ ap (λ (v : Table). is_in (headers_of v f.number) end.number) (sym (table-of s old for honest)) ∙ there
 ]
 
@@ -164,8 +164,8 @@ pub growth-run : (s t : Structure) (tail : Tail) (from most lbn count : ℕ) (ol
 growth-run s t tail from most lbn count old taken new honest takes alike one two =
     growth-taken s t tail (free_list (volume_of old.image (home_of s))) (range_with_len lbn count) takes.index alike (run-free s t from most lbn count old taken honest takes) one two
 
--- room was found in a file, and reserved in the index file where that is the one
-module _ (s : Structure) (index : IndexFile) (f : FileId) (n : ℕ) (end : FileEnd) (first last : List ℕ) (old read : Disk) (for : IsStructureFor s old) (room : FindsRoom s f n end first last old read)
+-- a file's first header is in hand, and its last, and room was reserved in the index file where that is the one
+module _ (s : Structure) (index : IndexFile) (f : FileId) (end : FileEnd) (first last : List ℕ) (old : Disk) (for : IsStructureFor s old) (ends : HoldsEnd s f end first last old)
     (kept : index_kept index ≡ index_in s) (honest : IsTrue old.honest) where
   abbrev t : Structure
   t = record s { index = index }
@@ -180,19 +180,17 @@ module _ (s : Structure) (index : IndexFile) (f : FileId) (n : ℕ) (end : FileE
   free = free_list (volume_of old.image (home_of s))
 
   -- the contiguous mark is cleared, or isn't
-  pub clearing-confined : {now : Disk} → WritesParts t (only_header f.number) read now → ConfinesTo s all free old now
+  pub clearing-confined : {now : Disk} → WritesParts t (only_header f.number) old now → ConfinesTo s all free old now
   clearing-confined one =
-      let is = in-one listed (new_header (index_in s)) f.number (first-listed s f first old for room.holds honest) in
+      let is = in-one listed (new_header (index_in s)) f.number (first-listed s f first old for ends.holds honest) in
       to-parts s all all free (λ k known. known)
-      (parts-then s t all (reserved-alike s index kept) (parts-looked s all room.ends.looked.looked) (to-parts t all (only_header f.number) [] (of-only all f.number is) one))
+      (parts-then s t all (reserved-alike s index kept) (parts-none s all old) (to-parts t all (only_header f.number) [] (of-only all f.number is) one))
 
   -- and then the file grows
-  pub growing-confined : {cleared : List ℕ} {tail : Tail} {now new : Disk} → ClearsMark t f first cleared read now → IsTailOf f cleared end.number last tail → WritesParts t (only_header f.number) read now
+  pub growing-confined : {cleared : List ℕ} {tail : Tail} {now new : Disk} → ClearsMark t f first cleared old now → IsTailOf f cleared end.number last tail → WritesParts t (only_header f.number) old now
       → (IsTrue now.honest → WritesGrowth t tail (free_list (volume_of now.image (home_of s))) now new) → ConfinesTo s all free old new
   growing-confined {cleared = cleared} {tail = tail} {now = now} clears of one two =
-      let looked = room.ends.looked.looked in
       let left = free_list (volume_of now.image (home_of s)) in
-      let fewer : (l : ℕ) → is_in free l ≡ false → is_in left l ≡ false =
-      fewer-free free left 0 ((clears.gains (looked.honest ∙ honest)).free ∙ ap (λ (i : Image). free_list (volume_of i (home_of s))) looked.image) in
-      let more = growth-of s t listed tail (tail-listed s f n end first last cleared old read tail for room of honest) kept in
-      to-then s t all (growth_headers t tail) free left (stands-within s t all (growth_headers t tail) free more (reserved-alike s index kept)) fewer (clearing-confined one) (two (clears.went.honest ∙ looked.honest ∙ honest))
+      let fewer : (l : ℕ) → is_in free l ≡ false → is_in left l ≡ false = fewer-free free left 0 (clears.gains honest).free in
+      let more = growth-of s t listed tail (tail-listed s f end first last cleared old tail for ends of honest) kept in
+      to-then s t all (growth_headers t tail) free left (stands-within s t all (growth_headers t tail) free more (reserved-alike s index kept)) fewer (clearing-confined one) (two (clears.went.honest ∙ honest))

@@ -1,6 +1,6 @@
 -- Room for more blocks of a file.
 use Rattle.std.proofs.Common.{◌||◌, eqb, ◌≡◌, ◌≢◌, ◌-◌, ◌+◌, ◌<◌, ◌≤◌, inl, inr, ltb, ℕ, Bool, true, false, cond, IsTrue, List, [], ◌∷◌, ◌++◌, length, length-append, Some, None, refl, sym, ap, subst, ◌∙◌, arith}
-use Rattle.std.proofs.lemmas.Bool.{cases_lt, lt-ltb}
+use Rattle.std.proofs.lemmas.Bool.{cases_lt, le-ltb, lt-ltb}
 use Rattle.std.proofs.lemmas.Option.{none-some}
 use Rattle.f11_dev.specs.Disk.{Disk}
 use Rattle.f11_dev.specs.Image.{Image}
@@ -8,7 +8,7 @@ use Rattle.f11_header.specs.Fields.{map_area}
 use Rattle.f11_header.specs.MapFields.{places}
 use Rattle.f11_map.specs.HeaderBlock.{segment_number}
 use Rattle.f11_index.specs.Headers.{headers_of, IsLastOf}
-use Rattle.f11_index.specs.Table.{Table, table_of, first}
+use Rattle.f11_index.specs.Table.{Table, table_in, table_of, first}
 use Rattle.f11_index.proofs.ChainLemmas.{file_of-header, live_of-header}
 use Rattle.f11_index.proofs.HeadersLemmas.{Comes, Comes-header, Comes-last, last-whole, live-some}
 use Rattle.f11_chain.specs.Calls.{table, ReadsLast}
@@ -27,8 +27,8 @@ use Rattle.f11_writes.specs.Kept.{file_in}
 use Rattle.f11_files.specs.Answers.{is_among, ReadsAtMost, FailsToRead, faults_of}
 use Rattle.f11_image_store.specs.FileLaws.{room_in}
 use Rattle.f11_files.specs.Finding.First.{HoldsFile}
-use Rattle.f11_files.specs.Operations.{extend_causes, file_causes, IsSpaceOf}
-use Rattle.f11_files.specs.Extending.Room.{room_causes, FindsRoom}
+use Rattle.f11_files.specs.Operations.{held_causes, file_causes, IsSpaceOf}
+use Rattle.f11_files.specs.Extending.Room.{room_causes, FindsEnd, HoldsEnd, HoldsRoom}
 use Rattle.f11_files.specs.Structure.{index_in, home_of, store_on, IsStructureFor}
 use Rattle.f11_files.specs.declared.structure.Structure.{Structure}
 use Rattle.f11_files.proofs.AnswerLemmas.{right-cause}
@@ -37,44 +37,37 @@ use Rattle.f11_files.proofs.Finding.First.{table-of}
 use Rattle.f11_files.proofs.Finding.Locate.{held-are, reads-along}
 use Rattle.f11_files.proofs.Finding.Named.{held-named, is-file, found-named, seen-same}
 
--- a cause against a request for a file is one against more blocks of it
-pub among-more : (s : Store) (f : FileId) (n : ℕ) (r : Refusal) → is_among (file_causes s f) r ≡ true → is_among (extend_causes s f n) r ≡ true
-among-more s f n r is = go (eqb 6 (refusal_number r)) _ is
-  where
-    go : (b c : Bool) → (b || false) ≡ true → (b || c) ≡ true
-    go true c is = refl
-    go false c is = absurd cc
-
-pub cause-more : (s : Store) (f : FileId) (n : ℕ) (r : Refusal) → first_of (file_causes s f) ≡ Some r → first_of (extend_causes s f n) ≡ Some r
-cause-more s f n r is = go (is_missing s f) is
-  where
-    go : (missing : Bool) → first_of ((NoSuchFile ⇐ missing) ∷ []) ≡ Some r → first_of ((NoSuchFile ⇐ missing) ∷ growth_causes s (file_named s f) n) ≡ Some r
-    go true is = is
-    go false is = absurd cc
-
 -- what is answered where there is no room: no transfer failed
 pub record IsClean (r : Refusal) : Type 0 where
   pub not_failed : refusal_number r ≢ 1
   pub not_damaged : refusal_number r ≢ 20
   pub no_fault : faults_of r ≡ 0
-  pub among : (s : Store) (f : FileId) (n : ℕ) → is_among (extend_causes s f n) r ≡ true
+  pub other : refusal_number r ≢ 6
+  pub not_wanting : refusal_number r ≢ 18
+  pub among : (s : Store) (f : FileId) (n : ℕ) → is_among (held_causes s f n) r ≡ true
 
 clean : (a b c : Bool) (r : Refusal) → first_of ((TooManySegments ⇐ a) ∷ (DeviceFull ⇐ b) ∷ (NoHeader ⇐ c) ∷ []) ≡ Some r → IsClean r
-clean true b c r is = let same : TooManySegments ≡ r = cc in subst IsClean same record { not_failed = λ no. omega (arith, no); not_damaged = λ no. omega (arith, no); no_fault = refl; among = λ s f n. refl }
-clean false true c r is = let same : DeviceFull ≡ r = cc in subst IsClean same record { not_failed = λ no. omega (arith, no); not_damaged = λ no. omega (arith, no); no_fault = refl; among = λ s f n. refl }
-clean false false true r is = let same : NoHeader ≡ r = cc in subst IsClean same record { not_failed = λ no. omega (arith, no); not_damaged = λ no. omega (arith, no); no_fault = refl; among = λ s f n. refl }
+clean true b c r is = let same : TooManySegments ≡ r = cc in subst IsClean same record { not_failed = λ no. omega (arith, no); not_damaged = λ no. omega (arith, no); no_fault = refl; other = λ no. omega (arith, no); not_wanting = λ no. omega (arith, no); among = λ s f n. refl }
+clean false true c r is = let same : DeviceFull ≡ r = cc in subst IsClean same record { not_failed = λ no. omega (arith, no); not_damaged = λ no. omega (arith, no); no_fault = refl; other = λ no. omega (arith, no); not_wanting = λ no. omega (arith, no); among = λ s f n. refl }
+clean false false true r is = let same : NoHeader ≡ r = cc in subst IsClean same record { not_failed = λ no. omega (arith, no); not_damaged = λ no. omega (arith, no); no_fault = refl; other = λ no. omega (arith, no); not_wanting = λ no. omega (arith, no); among = λ s f n. refl }
 clean false false false r is = absurd cc
+
+pub lacks-cause : (headers room free more n : ℕ) (r : Refusal) → first_of (room_causes headers room free more n) ≡ Some r → refusal_number r ≢ 6
+lacks-cause headers room free more n r is = (clean _ _ _ r is).other
+
+pub lacks-want : (headers room free more n : ℕ) (r : Refusal) → first_of (room_causes headers room free more n) ≡ Some r → refusal_number r ≢ 18
+lacks-want headers room free more n r is = (clean _ _ _ r is).not_wanting
 
 -- the causes stay where the number of free headers is as far from what is needed
 pub causes-alike : (headers room free a b n : ℕ) → ltb a (need room n) ≡ ltb b (need room n) → first_of (room_causes headers room free a n) ≡ first_of (room_causes headers room free b n)
 causes-alike headers room free a b n same =
     ap (λ (c : Bool). first_of ((TooManySegments ⇐ ltb 256 (headers + need room n)) ∷ (DeviceFull ⇐ ltb free n) ∷ (NoHeader ⇐ c) ∷ [])) same
 
--- where there is no cause, there are not too many headers
-no-more-headers : (headers : ℕ) (b c : Bool) → first_of ((TooManySegments ⇐ ltb 256 headers) ∷ (DeviceFull ⇐ b) ∷ (NoHeader ⇐ c) ∷ []) ≡ None → headers ≤ 256
-no-more-headers headers b c none = elim (cases_lt 256 headers) [
-  | inl more ↦ absurd (none-some TooManySegments (sym none ∙ ap (λ (a : Bool). cond a (Some TooManySegments) (first_of ((DeviceFull ⇐ b) ∷ (NoHeader ⇐ c) ∷ []))) (lt-ltb 256 headers more)))
-  | inr few ↦ few
+-- as far from what is needed is what lacks of it
+pub lacks-alike : (a b more : ℕ) → more - a ≡ more - b → ltb a more ≡ ltb b more
+lacks-alike a b more same = elim (cases_lt a more) [
+  | inl less ↦ lt-ltb a more less ∙ sym (lt-ltb b more (omega (arith, less, same)))
+  | inr enough ↦ le-ltb a more enough ∙ sym (le-ltb b more (omega (arith, enough, same)))
 ]
 
 -- the room of a file is that of its last header
@@ -129,7 +122,7 @@ module _ (s : Structure) (f : FileId) (block : List ℕ) (old : Disk) (for : IsS
 
   module _ (room free headers slots n : ℕ) (room_is : room ≡ room_in after) (space : IsTrue old.honest → IsSpaceOf st free headers slots) where
     -- the causes against more blocks of it
-    causes-are : IsTrue old.honest → first_of (extend_causes st f n) ≡ first_of (room_causes end.headers room free headers n)
+    causes-are : IsTrue old.honest → first_of (held_causes st f n) ≡ first_of (room_causes end.headers room free headers n)
     causes-are honest =
         ap (λ (b : Bool). cond b (Some NoSuchFile) (first_of (room_causes (length (file_named st f).held) (file_named st f).room st.free (free_headers st) n))) (found-named s f old for honest (is-file s f block old for holds honest)).0
         ∙ ap (λ (k : ℕ). first_of (room_causes k (file_named st f).room st.free (free_headers st) n)) (headers-named honest)
@@ -137,18 +130,38 @@ module _ (s : Structure) (f : FileId) (block : List ℕ) (old : Disk) (for : IsS
         ∙ ap (λ (k : ℕ). first_of (room_causes end.headers room k (free_headers st) n)) (sym (space honest).blocks_are)
         ∙ ap (λ (k : ℕ). first_of (room_causes end.headers room free k n)) (sym (space honest).headers_are)
 
-    pub finds-room : first_of (room_causes end.headers room free headers n) ≡ None → FindsRoom s f n end block after old new
-    finds-room none = record {
-      no_cause = λ honest. causes-are honest ∙ none;
-      holds = holds;
-      few = subst (λ (k : ℕ). end.headers + need k n ≤ 256) room_is (no-more-headers (end.headers + need room n) _ _ none);
-      ends = goes;
-    }
+    pub has-room : first_of (room_causes end.headers room free headers n) ≡ None → IsTrue old.honest → first_of (held_causes st f n) ≡ None
+    has-room none honest = causes-are honest ∙ none
 
-    pub lacks-room : (r : Refusal) → first_of (room_causes end.headers room free headers n) ≡ Some r → FailsToRead false (extend_causes st f n) (header_count (file_named st f)) r old new
+    pub lacks-room : (r : Refusal) → first_of (room_causes end.headers room free headers n) ≡ Some r → FailsToRead false (held_causes st f n) (header_count (file_named st f)) r old new
     lacks-room r is =
         let cause = clean _ _ _ r is in
         record {
           right = right-cause _ _ r cause.not_failed cause.not_damaged (cause.among st f n) (λ honest. causes-are honest ∙ is);
           reads = subst (ReadsAtMost (header_count (file_named st f)) old new) (sym cause.no_fault) (reads-along s f block old new 0 for holds goes.looked);
         }
+
+-- what was read is in hand then
+pub ends-then : (s : Structure) (f : FileId) (end : FileEnd) (was last : List ℕ) (old new : Disk) → FindsEnd s f end was last old new → HoldsEnd s f end was last new
+ends-then s f end was last old new finds =
+    let looked = finds.ends.looked.looked in
+    let same = ap (λ (i : Image). table_in i (index_in s)) (sym looked.image) in
+    record {
+      holds = record {
+        header = record {
+          in_use = finds.holds.header.in_use;
+          valid = finds.holds.header.valid;
+          block_is = λ honest. finds.holds.header.block_is (sym looked.honest ∙ honest) ∙ ap (λ (t : Table). t.header f.number) same;
+        };
+        is_first = finds.holds.is_first;
+      };
+      header = record {
+        in_use = finds.ends.header.in_use;
+        valid = finds.ends.header.valid;
+        block_is = λ honest. finds.ends.header.block_is (sym looked.honest ∙ honest) ∙ ap (λ (t : Table). t.header end.number) same;
+      };
+      no_link = finds.ends.no_link;
+      segment = finds.ends.segment;
+      few = finds.ends.few;
+      is_last = λ honest. subst (λ (t : Table). IsLastOf t f.number end.number) same (finds.ends.is_last (sym looked.honest ∙ honest));
+    }

@@ -14,7 +14,7 @@ use Rattle.f11_files.specs.Structure.{index_in, bitmap_in, home_of, store_on, Is
 use Rattle.f11_files.specs.declared.structure.Structure.{Structure}
 use Rattle.f11_image_store.proofs.NewFileLemmas.{free-stored}
 
-free-of : (image : Image) (home : HomeFields) → (store_of image home).free ≡ free_blocks image (storage_bitmap image home)
+pub free-of : (image : Image) (home : HomeFields) → (store_of image home).free ≡ free_blocks image (storage_bitmap image home)
 unfolding store_of
 free-of image home = refl
 

@@ -1,5 +1,5 @@
 -- What extending a file does (profile: blocks of zeros, the lowest free ones, a run of 256 at most after another).
-use Rattle.std.specs.Prelude.{◌≡◌, ◌≢◌, ℕ, ◌+◌, ◌-◌, ◌*◌, ◌/◌, ◌<◌, ◌≤◌, Bool, IsTrue, List}
+use Rattle.std.specs.Prelude.{◌≡◌, ◌≢◌, ℕ, ◌+◌, ◌-◌, ◌*◌, ◌/◌, ◌<◌, ◌≤◌, Bool, false, IsTrue, List, [], None}
 use Rattle.f11_dev.specs.Disk.{Disk}
 use Rattle.f11_dev.specs.Image.{Image}
 use Rattle.f11_header.specs.Fields.{owner, protection}
@@ -8,18 +8,22 @@ use Rattle.f11_index.specs.Kept.{room}
 use Rattle.f11_index.specs.Table.{table_of}
 use Rattle.f11_map.specs.HeaderBlock.{link_of, LinksToNone}
 use Rattle.f11_store.specs.Changes.{Extends}
-use Rattle.f11_store.specs.Cost.{growth_cost}
-use Rattle.f11_store.specs.File.{length_of}
-use Rattle.f11_store.specs.Lags.{extend_work}
+use Rattle.f11_store.specs.Causes.{first_of}
+use Rattle.f11_store.specs.Cost.{growth_cost, header_count, lengthen_cost}
+use Rattle.f11_store.specs.Headroom.{slots_first}
+use Rattle.f11_store.specs.Step.{gets_slots}
+use Rattle.f11_store.specs.File.{length_of, need}
+use Rattle.f11_store.specs.Lags.{extend_work, lengthen_work}
 use Rattle.f11_store.specs.Store.{file_named}
 use Rattle.f11_store.specs.declared.callers.Uic.{Uic}
 use Rattle.f11_store.specs.declared.files.FileId.{FileId}
 use Rattle.f11_store.specs.declared.refusals.Refusal.{Refusal}
 use Rattle.f11_volume.specs.Volume.{volume_of}
 use Rattle.f11_image_store.specs.Allocation.{AddsZeroSlots, GainsBlocks, GainsBlocksAs}
-use Rattle.f11_files.specs.Answers.{Meanwhile, Does, FailsToWrite}
+use Rattle.f11_files.specs.Answers.{Meanwhile, Does, FailsOrWants, FailsToWrite, ReadsAtMost}
+use Rattle.f11_files.specs.GrowingIndex.Headroom.{ReadiesHeaders}
 use Rattle.f11_files.specs.Extending.Growing.{Grew, GrowingBy}
-use Rattle.f11_files.specs.Operations.{extend_causes}
+use Rattle.f11_files.specs.Operations.{extend_causes, held_causes}
 use Rattle.f11_store.specs.Pieces.{file_numbered, grow_work_of}
 use Rattle.f11_image_store.specs.StoreOf.{store_of}
 use Rattle.f11_files.specs.Structure.{bitmap_in, home_of, store_on}
@@ -65,21 +69,48 @@ pub record GrowsByRuns (s : Structure) (k : ℕ) (ownership : Uic × ℕ) (n : �
   pub slots : IsTrue old.honest → AddsZeroSlots (table_of old.image (home_of s)) (table_of new.image (home_of s))
   pub grew : Grew (GrowingByRuns s k n old) (home_of s) (store_on s old) k n ((bitmap_in s).size / 4096 + 5 * n) old new
 
--- A file was extended by n blocks of zeros, the lowest free ones: one transfer less than the cost, which counts a look at its
--- right. A header that was added says the owner and the protection of the file's first one.
-abbrev pub ExtendsFile : HomeFields → FileId → ℕ → Disk → Disk → Type 0
-ExtendsFile home f n old new =
+-- A file was extended by n blocks of zeros, the lowest free ones, with headers that are free: what is left of the cost, but for a look at
+-- its right, and at each of its headers. A header that was added says the owner and the protection of the file's first one.
+abbrev pub ExtendsHeld : HomeFields → FileId → ℕ → Disk → Disk → Type 0
+ExtendsHeld home f n old new =
     let s = store_of old.image home in
-    Does (extend_causes s f n) (extend_work f.number (file_named s f).room n) (growth_cost s (file_named s f) n - 1) (Extends s f.number n)
-    (GainsBlocks f.number n) home old new
+    Does (held_causes s f n) (extend_work f.number (file_named s f).room n)
+    (growth_cost s (file_named s f) n - 1 - header_count (file_named s f)) (Extends s f.number n) (GainsBlocks f.number n) home old new
+
+-- the same where its first and last header are in hand: two transfers are left, in which they may have been read again
+abbrev pub ExtendsInHand : HomeFields → FileId → ℕ → Disk → Disk → Type 0
+ExtendsInHand home f n old new =
+    let s = store_of old.image home in
+    Does (held_causes s f n) (extend_work f.number (file_named s f).room n)
+    (growth_cost s (file_named s f) n - 1 - header_count (file_named s f) - 2) (Extends s f.number n) (GainsBlocks f.number n) home old new
+
+-- It was not, or not by all of them: no cause stands against it.
+abbrev pub FailsToExtendHeld : HomeFields → FileId → ℕ → Refusal → Disk → Disk → Type 0
+FailsToExtendHeld home f n refusal old new =
+    let s = store_of old.image home in
+    FailsToWrite false [] (growth_cost s (file_named s f) n - 1 - header_count (file_named s f) - 2)
+    (extend_work f.number (file_named s f).room n) home refusal old new
+
+-- the headers that a file of the disk may need for n blocks more
+abbrev pub headers_for : HomeFields → FileId → ℕ → Disk → ℕ
+headers_for home f n disk = need (file_named (store_of disk.image home) f).room n
+
+-- A file was extended by n blocks of zeros: its headers were read, and the headers that it may need readied, and then so.
+pub record ExtendsFile (home : HomeFields) (f : FileId) (n : ℕ) (old new : Disk) : Type 0 where
+  pub no_cause : IsTrue old.honest → first_of (extend_causes (store_of old.image home) f n) ≡ None
+  pub read : Disk
+  pub reads : ReadsAtMost (header_count (file_named (store_of old.image home) f)) old read 0
+  pub ready : Disk
+  pub readies : ReadiesHeaders home (headers_for home f n old) n read ready
+  pub extends : ExtendsHeld home f n ready new
 
 -- and this is its length then
 abbrev pub IsLengthAfter : HomeFields → FileId → ℕ → Disk → ℕ → Type 0
 IsLengthAfter home f n old blocks = IsTrue old.honest → blocks ≡ length_of (file_named (store_of old.image home) f) + n
 
--- It was not, or not by all of them.
+-- It was not, or not by all of them: one transfer less than the cost, which counts a look at its right.
 abbrev pub FailsToExtend : Bool → HomeFields → FileId → ℕ → Refusal → Disk → Disk → Type 0
 FailsToExtend failed home f n refusal old new =
     let s = store_of old.image home in
-    FailsToWrite failed (extend_causes s f n) (growth_cost s (file_named s f) n - 1)
-    (extend_work f.number (file_named s f).room n) home refusal old new
+    FailsOrWants (gets_slots (slots_first s (headers_for home f n old))) failed (extend_causes s f n)
+    (lengthen_cost s (file_named s f) n - 1) (lengthen_work s f n) home refusal old new

@@ -6,7 +6,9 @@ ghost use Rattle.f11_image_store.specs.Allocation.{free_list};
 ghost use Rattle.f11_files.specs.Answers.{is_fatal, is_clean, is_refused, Breaks, WritesMoreOf};
 ghost use Rattle.f11_image_store.specs.Confines.{either, new_header};
 ghost use Rattle.f11_store.specs.Pieces.{with_more_free, file_numbered, MayGrowAs};
-ghost use Rattle.f11_files.specs.Extending.Runs.{AddsRun, ExtendsFile, FailsToExtend, GrowingByRuns, GrowsByRuns, IsLengthAfter, IsTailOf};
+ghost use Rattle.f11_files.specs.Extending.Room.{HoldsRoom};
+ghost use Rattle.f11_files.specs.Extending.Runs.{AddsRun, ExtendsFile, ExtendsInHand, GrowingByRuns, GrowsByRuns};
+ghost use Rattle.f11_files.specs.Extending.Runs.{headers_for, FailsToExtend, FailsToExtendHeld, IsLengthAfter, IsTailOf};
 ghost use Rattle.f11_files.specs.Extending.Header.{AppendingRun, AppendsRun};
 ghost use Rattle.f11_files.specs.Extending.Growing.{GrowingBy};
 ghost use Rattle.f11_files.specs.Extending.Slots.{GetsBlocks};
@@ -14,6 +16,7 @@ ghost use Rattle.f11_index.specs.Kept.{room};
 ghost use Rattle.f11_files.specs.Structure.{counts_of, bitmap_in, home_of, store_on, index_in, IsStructureFor, StaysFor, ConfinesTo};
 ghost use Rattle.f11_files.specs.Extending.Tail.{GrowsWithin, HoldsLast, WritesGrowth, ownership_of};
 ghost use Rattle.f11_files.specs.Extending.Take.{NoneBelow};
+ghost use Rattle.f11_files.specs.GrowingIndex.Headroom.{WritesAfterSlots};
 ghost use Rattle.f11_header.specs.Header.{holds_header};
 ghost use Rattle.f11_index.specs.Headers.{headers_of};
 ghost use Rattle.f11_index.specs.Table.{table_of};
@@ -23,10 +26,12 @@ ghost use Rattle.f11_volume.specs.Volume.{volume_of};
 ghost use Rattle.f11_writes.specs.NameLaws.{AreUnreferenced};
 
 use crate::answer::is_fatal;
+use crate::extend::room::{is_too_long, need, room_of};
 use crate::extend::tail::Tail;
 use crate::files::Files;
 use crate::structure::Structure;
 use f11_bytes::{BLOCK_SIZE, Block};
+use f11_chain::FileEnd;
 use f11_dev::Device;
 use f11_header::Header;
 use f11_map::in_hand::link;
@@ -184,11 +189,49 @@ impl Structure {
         Ok(())
     }
 
+    /// Extends a file whose first and last header are in hand by `n` blocks of zeros, for which there is room.
+    ///
+    /// # Errors
+    ///
+    /// `DeviceFault` where a transfer failed, and those of [`Structure::grow_by`].
+    fn extend_held<D: Device>(
+        &mut self,
+        device: &mut D,
+        f: FileId,
+        n: u32,
+        end: FileEnd,
+        first: &mut Block,
+        last: &Block,
+    ) -> Result<(), Refusal>
+        requires is_for { IsStructureFor self.old (D.disk device.old) }
+        requires own { 4 ≤ f.number }
+        requires room { HoldsRoom self.old f n end first.old last.now (D.disk device.old) }
+        ensures extended { OnOk result
+            (ExtendsInHand (home_of self.old) f n (D.disk device.old) (D.disk device.new)) }
+        ensures refused { IfErr result (λ refusal. FailsToExtendHeld (home_of self.old) f n refusal
+            (D.disk device.old) (D.disk device.new)) }
+        ensures stays { StaysFor (is_refused is_fatal result) self.old self.new
+            (D.disk device.new) }
+        ensures confined { let t = table_of (D.disk device.old).image (home_of self.old) in
+            IsTrue (D.disk device.old).honest → ConfinesTo self.old
+            (either (is_in (headers_of t f.number)) (new_header (index_in self.old)))
+            (free_list (volume_of (D.disk device.old).image (home_of self.old)))
+            (D.disk device.old) (D.disk device.new) }
+    {
+        match self.clear_mark(device, f, first) {
+            Ok(()) => {}
+            Err(_) => return Err(Refusal::DeviceFault),
+        }
+        let mut tail = tail_of(f, first, end.number, last);
+        self.grow_by(device, &mut tail, n)
+    }
+
     /// Extends a file by `n` blocks of zeros.
     ///
     /// # Errors
     ///
-    /// Those of [`Structure::find_room`], and those of [`Structure::grow_by`].
+    /// Those of [`Structure::find_end`], `TooManySegments` where it would have over 256 headers, and those of
+    /// [`Structure::ready_headers`], [`Structure::find_again`] and [`Structure::extend_held`].
     pub(crate) fn extend<D: Device>(
         &mut self,
         device: &mut D,
@@ -206,21 +249,21 @@ impl Structure {
             (D.disk device.new) }
         ensures counts { is_refused is_clean result ≡ true → counts_of self.new ≡ counts_of
             self.old }
-        ensures confined { let t = table_of (D.disk device.old).image (home_of self.old) in
-            IsTrue (D.disk device.old).honest → ConfinesTo self.old
-            (either (is_in (headers_of t f.number)) (new_header (index_in self.old)))
-            (free_list (volume_of (D.disk device.old).image (home_of self.old)))
-            (D.disk device.old) (D.disk device.new) }
+        ensures confined { let home = home_of self.old in
+            WritesAfterSlots (headers_for home f n (D.disk device.old))
+            (WritesMoreOf f.number home) home (D.disk device.old) (D.disk device.new) }
     {
         let mut first = [0; BLOCK_SIZE];
         let mut last = [0; BLOCK_SIZE];
-        let end = self.find_room(device, f, n, &mut first, &mut last)?;
-        match self.clear_mark(device, f, &mut first) {
-            Ok(()) => {}
-            Err(_) => return Err(Refusal::DeviceFault),
+        let end = self.find_end(device, f, &mut first, &mut last)?;
+        let room = room_of(&last);
+        if is_too_long(end.headers, room, n) {
+            return Err(Refusal::TooManySegments);
         }
-        let mut tail = tail_of(f, &first, end.number, &last);
-        self.grow_by(device, &mut tail, n)?;
+        if self.ready_headers(device, need(room, n), n)? {
+            self.find_again(device, f, end, &mut first, &mut last)?;
+        }
+        self.extend_held(device, f, n, end, &mut first, &last)?;
         Ok(end.blocks + n)
     }
 }
@@ -228,17 +271,20 @@ impl Structure {
 impl<D: Device> Files<D> {
     ghost use Rattle.f11_files.specs.Open.{disk_in, has_failed, home_in, AnswersCall, IsIdFrom};
 
-    /// Extends a file by `n` blocks of zeros, and answers how many it has then. First the contiguous mark is cleared where it is set. Then the
-    /// lowest free blocks are taken, a run of 256 at most after another: each is marked used, made zeros, and named by the file's last
-    /// header; where that has no place, by a new header in the least free slot, which is written before its bit, and that before the
-    /// link to it. Where it is refused, but for `DeviceFault` and `Damaged`, nothing is written.
+    /// Extends a file by `n` blocks of zeros, and answers how many it has then. Where fewer headers are free than it may need, the index file
+    /// first gets a slot for each that lacks, as [`Files::grow_index`] says, in its last header. Then the contiguous mark is cleared where
+    /// it is set. Then the lowest free blocks are taken, a run of 256 at most after another: each is marked used, made zeros, and named
+    /// by the file's last header; where that has no place, by a new header in the least free slot, which is written before its bit, and
+    /// that before the link to it. Where it is refused, but for `DeviceFault` and `Damaged`, nothing is written.
     ///
     /// # Errors
     ///
     /// `VolumeFailed` where an earlier call answered `DeviceFault` or `Damaged`, `NoSuchFile` where no file has this identification,
-    /// `TooManySegments` where it would have over 256 headers, `DeviceFull` where fewer blocks are free, `NoHeader` where fewer headers
-    /// are free than it may need, `DeviceFault` where a transfer failed, `Damaged` where a header or a link isn't as it should be, or no
-    /// block or header is found free though one should be: on no honest device.
+    /// `TooManySegments` where it would have over 256 headers, `DeviceFull` where fewer blocks are free than those and those of the slots,
+    /// `NoHeader` where fewer headers are free than it may need and the index file may not get slots for them (its last header has no
+    /// room, or there would be more than there may be), `NoMemory` for want of memory for the slots, `DeviceFault` where a transfer
+    /// failed, `Damaged` where a header or a link isn't as it should be, or no block or header is found free though one should be: on
+    /// no honest device.
     pub fn extend(&mut self, f: FileId, n: u32) -> Result<u32, Refusal>
         requires id { IsIdFrom 4 f }
         requires some { 0 < n }
@@ -248,8 +294,9 @@ impl<D: Device> Files<D> {
             × ExtendsFile (home_in self.old) f n (disk_in self.old) (disk_in self.new)) }
         ensures refused { IfErr result (λ refusal. FailsToExtend (has_failed self.old)
             (home_in self.old) f n refusal (disk_in self.old) (disk_in self.new)) }
-        ensures confined { WritesMoreOf f.number (home_in self.old) (disk_in self.old)
-            (disk_in self.new) }
+        ensures confined { let home = home_in self.old in
+            WritesAfterSlots (headers_for home f n (disk_in self.old)) (WritesMoreOf f.number home)
+            home (disk_in self.old) (disk_in self.new) }
     {
         if self.failed {
             return Err(Refusal::VolumeFailed);

@@ -1,4 +1,5 @@
-use Rattle.f11_store.proofs.LagLaws.{lags_itself, step_lags}
+use Rattle.f11_store.proofs.LagLaws.{lags_itself}
+use Rattle.f11_store.proofs.StepLags.{step_lags}
 use Rattle.f11_store.proofs.laws.lags.Goals as goal
 
 pub returns : goal.returns

@@ -1,7 +1,11 @@
+use Rattle.std.proofs.Common.{arith}
 use Rattle.f11_files.proofs.Opening.Values.{files-for}
+use Rattle.f11_files.specs.Open.{disk_in}
 use Rattle.f11_files.specs.Structure.{StaysFor}
 use Rattle.f11_files.proofs.Opening.Kept.{stays-opened}
-use Rattle.f11_files.proofs.WriteLemmas.{had-failed}
+use Rattle.f11_files.proofs.Confining.Confines.{confines-none}
+use Rattle.f11_files.proofs.Readied.{unchanged-after}
+use Rattle.f11_files.proofs.WriteLemmas.{as-wanting, had-failed}
 use Rattle.f11_files.proofs.files.Files.create.Goals as goal
 
 pub create-answer-requires : goal.create-answer-requires
@@ -15,4 +19,7 @@ invariant_of-self g c =
     record { lies = is.lies; accepted = is.accepted; home = is.home; keeps = is.keeps }
 
 pub returns-then-self-clause-refused : goal.returns-then-self-clause-refused
-returns-then-self-clause-refused g c = had-failed _ c.if-self.true
+returns-then-self-clause-refused g c = as-wanting (λ is. omega (arith, is)) (had-failed _ c.if-self.true)
+
+pub returns-then-self-clause-confined : goal.returns-then-self-clause-confined
+returns-then-self-clause-confined g c = unchanged-after _ _ _ _ (λ _. confines-none _ _ _ _ (disk_in c.args.self.now))

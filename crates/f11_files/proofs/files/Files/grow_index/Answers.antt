@@ -1,9 +1,8 @@
 use Rattle.std.proofs.Common.{arith}
 use Rattle.f11_files.proofs.Opening.Values.{files-for}
 use Rattle.f11_files.specs.Structure.{StaysFor}
-use Rattle.f11_files.proofs.GrowingIndex.GrowIndex.{as-grow}
 use Rattle.f11_files.proofs.Opening.Kept.{stays-opened}
-use Rattle.f11_files.proofs.WriteLemmas.{had-failed}
+use Rattle.f11_files.proofs.WriteLemmas.{as-wanting, had-failed}
 use Rattle.f11_files.proofs.files.Files.grow_index.Goals as goal
 
 pub grow_index-answer-requires-clause-is_for : goal.grow_index-answer-requires-clause-is_for
@@ -17,4 +16,4 @@ invariant_of-self g c =
     record { lies = is.lies; accepted = is.accepted; home = is.home; keeps = is.keeps }
 
 pub returns-then-self-clause-refused : goal.returns-then-self-clause-refused
-returns-then-self-clause-refused g c = as-grow (λ is. omega (arith, is)) (had-failed _ c.if-self.true)
+returns-then-self-clause-refused g c = as-wanting (λ is. omega (arith, is)) (had-failed _ c.if-self.true)

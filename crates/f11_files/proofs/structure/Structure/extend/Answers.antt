@@ -1,50 +1,259 @@
-use Rattle.f11_files.proofs.AnswerLemmas.{handed}
-use Rattle.f11_files.proofs.Extending.Cleared.{holds-last}
-use Rattle.f11_files.proofs.Extending.Extend.{fails-clearing, stays-clearing, may-extend, fails-growing, extends-file, length-after}
-use Rattle.std.proofs.Common.{◌∙◌, inr, refl, sym}
-use Rattle.std.proofs.lemmas.Bool.{false≢true}
-use Rattle.f11_files.proofs.Extending.Written.{are-none}
-use Rattle.f11_files.proofs.Extending.Parts.{clearing-confined, growing-confined}
+use Rattle.std.proofs.Common.{◌≡◌, ℕ, IsTrue, false, refl, sym, ap, subst, ◌∙◌, arith}
+use Rattle.f11_dev.specs.Disk.{Disk}
+use Rattle.f11_dev.proofs.LookedLemmas.{looked_none}
+use Rattle.f11_home.specs.Home.{HomeFields}
+use Rattle.f11_files.specs.Answers.{ReadsAtMost}
+use Rattle.f11_files.specs.Extending.Again.{IsEndOf}
+use Rattle.f11_files.specs.Extending.Room.{HoldsEnd, HoldsRoom}
+use Rattle.f11_files.specs.Extending.Runs.{headers_for, FailsToExtend}
+use Rattle.f11_files.specs.Structure.{home_of, IsStructureFor}
+use Rattle.f11_files.specs.declared.structure.Structure.{Structure}
+use Rattle.f11_files.proofs.AnswerLemmas.{handed, not-clean}
+use Rattle.f11_files.proofs.Behind.{confined-read, more-looked, more-of, stays-handed}
+use Rattle.f11_files.proofs.Extending.Room.{ends-then}
+use Rattle.f11_files.proofs.Extending.Whole.{end-again, extends-then, fails-again, fatal-held, few-enough, fails-in-hand, length-then, need-is, none-read, readies-file, room-ready, too-long, unfound, unready}
+use Rattle.f11_files.proofs.Extending.WholeConfined.{after-read, after-slots}
+use Rattle.f11_files.proofs.Opening.Kept.{looked-for}
+use Rattle.f11_files.proofs.Removing.Freeing.{stays-for, stays-then}
+use Rattle.f11_files.proofs.WriteLemmas.{looked-stays}
 use Rattle.f11_files.proofs.structure.Structure.extend.Goals as goal
+use Rattle.f11_files.proofs.structure.Structure.extend.Goals.{then-branch+in_ok-find_again, else-branch}
 
-pub returns-in-Err-clause-refused : goal.returns-in-Err-clause-refused
-returns-in-Err-clause-refused g c = fails-clearing c.args.self.now c.args.f c.args.n _ _ _ _ _ c.requires.is_for c.requires.own c.in_ok-end.ensures.room _ c.in-Err.ensures.failed
+pub returns-in_err-end-clause-refused : goal.returns-in_err-end-clause-refused
+returns-in_err-end-clause-refused g c =
+    let s = c.args.self.now in
+    let f = c.args.f in
+    let n = c.args.n in
+    let old = g.D.Device.disk c.args.device.now in
+    let read = g.D.Device.disk c.find_end.new.device in
+    handed (λ r. FailsToExtend false (home_of s) f n r old (g.D.Device.disk c.find_end.new.device)) c.from_residual.result _ c.from_residual.ensures.1
+    (unfound (home_of s) f n _ old read c.in_err-end.ensures.refused)
 
-pub returns-in-Err-clause-stays : goal.returns-in-Err-clause-stays
-returns-in-Err-clause-stays g c = stays-clearing c.args.self.now c.args.f c.args.n _ _ _ _ _ c.requires.is_for c.requires.own c.in_ok-end.ensures.room _ c.in-Err.ensures.failed
+pub returns-in_err-end-clause-confined : goal.returns-in_err-end-clause-confined
+returns-in_err-end-clause-confined g c =
+    let s = c.args.self.now in
+    let f = c.args.f in
+    let n = c.args.n in
+    let old = g.D.Device.disk c.args.device.now in
+    let read = g.D.Device.disk c.find_end.new.device in
+    after-read (home_of s) (headers_for (home_of s) f n old) f.number old read c.in_err-end.ensures.refused.reads.looked
 
-pub grow_by-requires-clause-last : goal.grow_by-requires-clause-last
-grow_by-requires-clause-last g c =
-    holds-last c.args.self.now c.args.f c.args.n _ _ _ _ _ c.requires.is_for c.in_ok-end.ensures.room _ _ c.in-Ok.ensures.clears _ c.tail_of-tail.ensures.tail
+pub returns-then-is_too_long-clause-refused : goal.returns-then-is_too_long-clause-refused
+returns-then-is_too_long-clause-refused g c =
+    let s = c.args.self.now in
+    let f = c.args.f in
+    let n = c.args.n in
+    let old = g.D.Device.disk c.args.device.now in
+    let read = g.D.Device.disk c.find_end.new.device in
+    too-long s f n c.in_ok-end.end c.find_end.new.first c.find_end.new.last old read c.requires.is_for c.requires.own c.in_ok-end.ensures.end c.room_of-room.result c.room_of-room.ensures (sym c.if-is_too_long.ensures)
 
-pub grow_by-requires-clause-gets : goal.grow_by-requires-clause-gets
-grow_by-requires-clause-gets g c = rw c.tail_of-tail.ensures.tail.file_is (inr c.requires.own)
+pub returns-then-is_too_long-clause-confined : goal.returns-then-is_too_long-clause-confined
+returns-then-is_too_long-clause-confined g c =
+    let s = c.args.self.now in
+    let f = c.args.f in
+    let n = c.args.n in
+    let old = g.D.Device.disk c.args.device.now in
+    let read = g.D.Device.disk c.find_end.new.device in
+    after-read (home_of s) (headers_for (home_of s) f n old) f.number old read c.in_ok-end.ensures.end.ends.looked.looked
 
-pub grow_by-requires-clause-reserved : goal.grow_by-requires-clause-reserved
-grow_by-requires-clause-reserved g c = rw c.tail_of-tail.ensures.tail.file_is (λ is. absurd (false≢true (sym (are-none c.requires.own) ∙ is)))
+pub returns-in_err-ready_headers-clause-refused : goal.returns-in_err-ready_headers-clause-refused
+returns-in_err-ready_headers-clause-refused g c =
+    let s = c.args.self.now in
+    let f = c.args.f in
+    let n = c.args.n in
+    let old = g.D.Device.disk c.args.device.now in
+    let read = g.D.Device.disk c.find_end.new.device in
+    let ready = g.D.Device.disk c.ready_headers.new.device in
+    let t = c.ready_headers.new.self in
+    handed (λ r. FailsToExtend false (home_of s) f n r old (g.D.Device.disk c.ready_headers.new.device)) c.from_residual-in_err-ready_headers.result _ c.from_residual-in_err-ready_headers.ensures.1
+    (unready s f n c.in_ok-end.end c.find_end.new.first c.find_end.new.last old read c.requires.is_for c.requires.own c.in_ok-end.ensures.end c.room_of-room.result c.room_of-room.ensures (sym c.if-is_too_long.ensures) _ ready (rw c.need.ensures.need at c.in_err-ready_headers.ensures.refused))
 
-pub grow_by-requires-clause-may : goal.grow_by-requires-clause-may
-grow_by-requires-clause-may g c =
-    rw c.tail_of-tail.ensures.tail.file_is (may-extend c.args.self.now c.args.f c.args.n _ _ _ _ _ c.requires.is_for c.requires.own c.in_ok-end.ensures.room _ _ c.in-Ok.ensures.clears)
+pub returns-in_err-ready_headers-clause-confined : goal.returns-in_err-ready_headers-clause-confined
+returns-in_err-ready_headers-clause-confined g c =
+    let s = c.args.self.now in
+    let f = c.args.f in
+    let n = c.args.n in
+    let old = g.D.Device.disk c.args.device.now in
+    let read = g.D.Device.disk c.find_end.new.device in
+    let ready = g.D.Device.disk c.ready_headers.new.device in
+    let t = c.ready_headers.new.self in
+    after-slots (home_of s) (headers_for (home_of s) f n old) _ f.number old read ready _ c.in_ok-end.ensures.end.ends.looked.looked (need-is s f n c.in_ok-end.end c.find_end.new.first c.find_end.new.last old read c.requires.is_for c.requires.own c.in_ok-end.ensures.end c.room_of-room.result c.room_of-room.ensures)
+    (rw c.need.ensures.need at c.ready_headers.ensures.confined) (more-looked (home_of s) f.number (looked_none ready))
 
-pub returns-in_err-grow_by-clause-refused : goal.returns-in_err-grow_by-clause-refused
-returns-in_err-grow_by-clause-refused g c =
-    handed _ c.from_residual-in_err-grow_by.result _ c.from_residual-in_err-grow_by.ensures.1
-    (fails-growing c.args.self.now c.args.f c.args.n _ _ _ _ _ c.requires.is_for c.requires.own c.in_ok-end.ensures.room _ _ c.in-Ok.ensures.clears _ (g.D.Device.disk c.grow_by.new.device)
-    (rw c.tail_of-tail.ensures.tail.file_is at c.in_err-grow_by.ensures.refused))
+pub find_again-requires-clause-is_for : goal.find_again-requires-clause-is_for
+find_again-requires-clause-is_for g c =
+    stays-for c.in_ok-ready_headers.ensures.stays
+
+pub find_again-requires-clause-end : goal.find_again-requires-clause-end
+find_again-requires-clause-end g c =
+    let s = c.args.self.now in
+    let f = c.args.f in
+    let n = c.args.n in
+    let old = g.D.Device.disk c.args.device.now in
+    let read = g.D.Device.disk c.find_end.new.device in
+    let ready = g.D.Device.disk c.ready_headers.new.device in
+    let t = c.ready_headers.new.self in
+    λ honest. subst (λ (h : HomeFields). IsEndOf ready.image h f c.in_ok-end.end) (sym c.in_ok-ready_headers.ensures.stays.home)
+    (end-again s f n c.in_ok-end.end c.find_end.new.first c.find_end.new.last old read c.requires.is_for c.requires.own c.in_ok-end.ensures.end c.room_of-room.result c.room_of-room.ensures (sym c.if-is_too_long.ensures) ready (readies-file s f n c.in_ok-end.end c.find_end.new.first c.find_end.new.last old read c.requires.is_for c.requires.own c.in_ok-end.ensures.end c.room_of-room.result c.room_of-room.ensures (sym c.if-is_too_long.ensures) ready (rw c.need.ensures.need at c.in_ok-ready_headers.ensures.ready)) (g.met.D.Device.is_image c.ready_headers.new.device) honest)
+
+pub returns-in_err-find_again-clause-refused : goal.returns-in_err-find_again-clause-refused
+returns-in_err-find_again-clause-refused g c =
+    let s = c.args.self.now in
+    let f = c.args.f in
+    let n = c.args.n in
+    let old = g.D.Device.disk c.args.device.now in
+    let read = g.D.Device.disk c.find_end.new.device in
+    let ready = g.D.Device.disk c.ready_headers.new.device in
+    let t = c.ready_headers.new.self in
+    handed (λ r. FailsToExtend false (home_of s) f n r old (g.D.Device.disk c.find_again.new.device)) c.from_residual-in_err-find_again.result _ c.from_residual-in_err-find_again.ensures.1
+    (fails-again s f n c.in_ok-end.end c.find_end.new.first c.find_end.new.last old read c.requires.is_for c.requires.own c.in_ok-end.ensures.end c.room_of-room.result c.room_of-room.ensures (sym c.if-is_too_long.ensures) ready (readies-file s f n c.in_ok-end.end c.find_end.new.first c.find_end.new.last old read c.requires.is_for c.requires.own c.in_ok-end.ensures.end c.room_of-room.result c.room_of-room.ensures (sym c.if-is_too_long.ensures) ready (rw c.need.ensures.need at c.in_ok-ready_headers.ensures.ready)) _ _ c.in_err-find_again.ensures.refused)
+
+pub returns-in_err-find_again-clause-stays : goal.returns-in_err-find_again-clause-stays
+returns-in_err-find_again-clause-stays g c =
+    stays-handed c.from_residual-in_err-find_again.result _ _ _ _ c.from_residual-in_err-find_again.ensures.1
+    (stays-then c.in_ok-ready_headers.ensures.stays.home (looked-stays c.ready_headers.new.self _ _ _ (stays-for c.in_ok-ready_headers.ensures.stays) c.in_err-find_again.ensures.refused.reads.looked))
+
+pub returns-in_err-find_again-clause-confined : goal.returns-in_err-find_again-clause-confined
+returns-in_err-find_again-clause-confined g c =
+    let s = c.args.self.now in
+    let f = c.args.f in
+    let n = c.args.n in
+    let old = g.D.Device.disk c.args.device.now in
+    let read = g.D.Device.disk c.find_end.new.device in
+    let ready = g.D.Device.disk c.ready_headers.new.device in
+    let t = c.ready_headers.new.self in
+    after-slots (home_of s) (headers_for (home_of s) f n old) _ f.number old read ready _ c.in_ok-end.ensures.end.ends.looked.looked (need-is s f n c.in_ok-end.end c.find_end.new.first c.find_end.new.last old read c.requires.is_for c.requires.own c.in_ok-end.ensures.end c.room_of-room.result c.room_of-room.ensures)
+    (rw c.need.ensures.need at c.ready_headers.ensures.confined) (more-looked (home_of s) f.number c.in_err-find_again.ensures.refused.reads.looked)
+
+pub extend_held-requires-clause-is_for : goal.extend_held-requires-clause-is_for
+extend_held-requires-clause-is_for g c =
+    let s = c.args.self.now in
+    let f = c.args.f in
+    let n = c.args.n in
+    let old = g.D.Device.disk c.args.device.now in
+    let read = g.D.Device.disk c.find_end.new.device in
+    let ready = g.D.Device.disk c.ready_headers.new.device in
+    let t = c.ready_headers.new.self in
+    let d = g.D.Device.disk c.if-branch.device in
+    let again : ReadsAtMost 2 ready d 0 = elim c.if-branch.branch [
+      | then-branch+in_ok-find_again w ↦ subst (λ (x : _). ReadsAtMost 2 ready (g.D.Device.disk x) 0) (sym w.device-is) w.in_ok-find_again.ensures.found.reads
+      | else-branch w ↦ subst (λ (x : _). ReadsAtMost 2 ready (g.D.Device.disk x) 0) (sym w.device-is) (none-read ready)
+    ] in
+    looked-for t ready d _ _ (stays-for c.in_ok-ready_headers.ensures.stays) again.looked
+
+pub extend_held-requires-clause-room : goal.extend_held-requires-clause-room
+extend_held-requires-clause-room g c =
+    let s = c.args.self.now in
+    let f = c.args.f in
+    let n = c.args.n in
+    let old = g.D.Device.disk c.args.device.now in
+    let read = g.D.Device.disk c.find_end.new.device in
+    let ready = g.D.Device.disk c.ready_headers.new.device in
+    let t = c.ready_headers.new.self in
+    let d = g.D.Device.disk c.if-branch.device in
+    let again : ReadsAtMost 2 ready d 0 = elim c.if-branch.branch [
+      | then-branch+in_ok-find_again w ↦ subst (λ (x : _). ReadsAtMost 2 ready (g.D.Device.disk x) 0) (sym w.device-is) w.in_ok-find_again.ensures.found.reads
+      | else-branch w ↦ subst (λ (x : _). ReadsAtMost 2 ready (g.D.Device.disk x) 0) (sym w.device-is) (none-read ready)
+    ] in
+    let ends : HoldsEnd t f c.in_ok-end.end c.if-branch.first c.if-branch.last d = elim c.if-branch.branch [
+      | then-branch+in_ok-find_again w ↦ rw w.device-is (rw w.first-is (rw w.last-is w.in_ok-find_again.ensures.found.ends))
+      | else-branch w ↦
+          let still = c.in_ok-ready_headers.ensures.still w.if-branch.false in
+          rw w.device-is (rw w.first-is (rw w.last-is
+          (subst (λ (x : Structure). HoldsEnd x f c.in_ok-end.end c.find_end.new.first c.find_end.new.last ready) (sym still.0)
+          (subst (λ (x : Disk). HoldsEnd s f c.in_ok-end.end c.find_end.new.first c.find_end.new.last x) (sym still.1) (ends-then s f c.in_ok-end.end _ _ old read c.in_ok-end.ensures.end)))))
+    ] in
+    room-ready s f n c.in_ok-end.end c.find_end.new.first c.find_end.new.last old read c.requires.is_for c.requires.own c.in_ok-end.ensures.end c.room_of-room.result c.room_of-room.ensures (sym c.if-is_too_long.ensures) ready (readies-file s f n c.in_ok-end.end c.find_end.new.first c.find_end.new.last old read c.requires.is_for c.requires.own c.in_ok-end.ensures.end c.room_of-room.result c.room_of-room.ensures (sym c.if-is_too_long.ensures) ready (rw c.need.ensures.need at c.in_ok-ready_headers.ensures.ready)) t d _ _ c.in_ok-ready_headers.ensures.stays.home again.looked ends
+
+pub returns-in_err-extend_held-clause-refused : goal.returns-in_err-extend_held-clause-refused
+returns-in_err-extend_held-clause-refused g c =
+    let s = c.args.self.now in
+    let f = c.args.f in
+    let n = c.args.n in
+    let old = g.D.Device.disk c.args.device.now in
+    let read = g.D.Device.disk c.find_end.new.device in
+    let ready = g.D.Device.disk c.ready_headers.new.device in
+    let t = c.ready_headers.new.self in
+    let d = g.D.Device.disk c.if-branch.device in
+    let again : ReadsAtMost 2 ready d 0 = elim c.if-branch.branch [
+      | then-branch+in_ok-find_again w ↦ subst (λ (x : _). ReadsAtMost 2 ready (g.D.Device.disk x) 0) (sym w.device-is) w.in_ok-find_again.ensures.found.reads
+      | else-branch w ↦ subst (λ (x : _). ReadsAtMost 2 ready (g.D.Device.disk x) 0) (sym w.device-is) (none-read ready)
+    ] in
+    handed (λ r. FailsToExtend false (home_of s) f n r old (g.D.Device.disk c.extend_held.new.device)) c.from_residual-in_err-extend_held.result _ c.from_residual-in_err-extend_held.ensures.1
+    (fails-in-hand s f n c.in_ok-end.end c.find_end.new.first c.find_end.new.last old read c.requires.is_for c.requires.own c.in_ok-end.ensures.end c.room_of-room.result c.room_of-room.ensures (sym c.if-is_too_long.ensures) ready (readies-file s f n c.in_ok-end.end c.find_end.new.first c.find_end.new.last old read c.requires.is_for c.requires.own c.in_ok-end.ensures.end c.room_of-room.result c.room_of-room.ensures (sym c.if-is_too_long.ensures) ready (rw c.need.ensures.need at c.in_ok-ready_headers.ensures.ready)) d again _ _ (rw c.in_ok-ready_headers.ensures.stays.home at c.in_err-extend_held.ensures.refused))
+
+pub returns-in_err-extend_held-clause-stays : goal.returns-in_err-extend_held-clause-stays
+returns-in_err-extend_held-clause-stays g c =
+    stays-handed c.from_residual-in_err-extend_held.result _ _ _ _ c.from_residual-in_err-extend_held.ensures.1 (stays-then c.in_ok-ready_headers.ensures.stays.home c.in_err-extend_held.ensures.stays)
+
+pub returns-in_err-extend_held-clause-counts : goal.returns-in_err-extend_held-clause-counts
+returns-in_err-extend_held-clause-counts g c =
+    let s = c.args.self.now in
+    let f = c.args.f in
+    let n = c.args.n in
+    let old = g.D.Device.disk c.args.device.now in
+    let read = g.D.Device.disk c.find_end.new.device in
+    let ready = g.D.Device.disk c.ready_headers.new.device in
+    let t = c.ready_headers.new.self in
+    not-clean c.from_residual-in_err-extend_held.result _ c.from_residual-in_err-extend_held.ensures.1 (fatal-held (home_of t) f n _ _ _ c.in_err-extend_held.ensures.refused)
+
+pub returns-in_err-extend_held-clause-confined : goal.returns-in_err-extend_held-clause-confined
+returns-in_err-extend_held-clause-confined g c =
+    let s = c.args.self.now in
+    let f = c.args.f in
+    let n = c.args.n in
+    let old = g.D.Device.disk c.args.device.now in
+    let read = g.D.Device.disk c.find_end.new.device in
+    let ready = g.D.Device.disk c.ready_headers.new.device in
+    let t = c.ready_headers.new.self in
+    let d = g.D.Device.disk c.if-branch.device in
+    let again : ReadsAtMost 2 ready d 0 = elim c.if-branch.branch [
+      | then-branch+in_ok-find_again w ↦ subst (λ (x : _). ReadsAtMost 2 ready (g.D.Device.disk x) 0) (sym w.device-is) w.in_ok-find_again.ensures.found.reads
+      | else-branch w ↦ subst (λ (x : _). ReadsAtMost 2 ready (g.D.Device.disk x) 0) (sym w.device-is) (none-read ready)
+    ] in
+    after-slots (home_of s) (headers_for (home_of s) f n old) _ f.number old read ready _ c.in_ok-end.ensures.end.ends.looked.looked (need-is s f n c.in_ok-end.end c.find_end.new.first c.find_end.new.last old read c.requires.is_for c.requires.own c.in_ok-end.ensures.end c.room_of-room.result c.room_of-room.ensures)
+    (rw c.need.ensures.need at c.ready_headers.ensures.confined) (more-of t (home_of s) f.number ready (g.D.Device.disk c.extend_held.new.device) c.in_ok-ready_headers.ensures.stays.home (c.in_ok-ready_headers.ensures.stays.keeps refl)
+    (confined-read again (home_of s) t f.number c.in_ok-ready_headers.ensures.stays.home (rw c.in_ok-ready_headers.ensures.stays.home at c.extend_held.ensures.confined)))
+
+pub overflow_add-result : goal.overflow_add-result
+overflow_add-result g c =
+    let finds = c.in_ok-end.ensures.end in let few = finds.ends.few in let blocks = finds.ends.few_blocks in let fits = c.if-is_too_long.ensures in
+    few-enough c.in_ok-end.end c.room_of-room.result c.args.n c.find_end.new.last c.find_end.array_long2 few blocks fits c.room_of-room.ensures
 
 pub returns-clause-extended : goal.returns-clause-extended
-returns-clause-extended g c = (
-  length-after c.args.self.now c.args.f c.args.n _ _ _ _ _ c.requires.is_for c.requires.own c.in_ok-end.ensures.room,
-  extends-file c.args.self.now c.args.f c.args.n _ _ _ _ _ c.requires.is_for c.requires.own c.in_ok-end.ensures.room _ _ c.in-Ok.ensures.clears
-      _ c.tail_of-tail.ensures.tail _ (rw c.tail_of-tail.ensures.tail.file_is at c.in_ok-grow_by.ensures.grown),
-)
+returns-clause-extended g c =
+    let s = c.args.self.now in
+    let f = c.args.f in
+    let n = c.args.n in
+    let old = g.D.Device.disk c.args.device.now in
+    let read = g.D.Device.disk c.find_end.new.device in
+    let ready = g.D.Device.disk c.ready_headers.new.device in
+    let t = c.ready_headers.new.self in
+    let d = g.D.Device.disk c.if-branch.device in
+    let again : ReadsAtMost 2 ready d 0 = elim c.if-branch.branch [
+      | then-branch+in_ok-find_again w ↦ subst (λ (x : _). ReadsAtMost 2 ready (g.D.Device.disk x) 0) (sym w.device-is) w.in_ok-find_again.ensures.found.reads
+      | else-branch w ↦ subst (λ (x : _). ReadsAtMost 2 ready (g.D.Device.disk x) 0) (sym w.device-is) (none-read ready)
+    ] in
+    (length-then s f n c.in_ok-end.end c.find_end.new.first c.find_end.new.last old read c.requires.is_for c.requires.own c.in_ok-end.ensures.end c.room_of-room.result c.room_of-room.ensures, extends-then s f n c.in_ok-end.end c.find_end.new.first c.find_end.new.last old read c.requires.is_for c.requires.own c.in_ok-end.ensures.end c.room_of-room.result c.room_of-room.ensures (sym c.if-is_too_long.ensures) ready (readies-file s f n c.in_ok-end.end c.find_end.new.first c.find_end.new.last old read c.requires.is_for c.requires.own c.in_ok-end.ensures.end c.room_of-room.result c.room_of-room.ensures (sym c.if-is_too_long.ensures) ready (rw c.need.ensures.need at c.in_ok-ready_headers.ensures.ready)) d again _ (rw c.in_ok-ready_headers.ensures.stays.home at c.in_ok-extend_held.ensures.extended))
 
-pub returns-in-Err-clause-confined : goal.returns-in-Err-clause-confined
-returns-in-Err-clause-confined g c = λ honest. clearing-confined c.args.self.now c.args.self.now.index c.args.f c.args.n _ _ _ _ _ c.requires.is_for c.in_ok-end.ensures.room refl honest c.clear_mark.ensures.confined
-
-pub returns-in_err-grow_by-clause-confined : goal.returns-in_err-grow_by-clause-confined
-returns-in_err-grow_by-clause-confined g c = λ honest. growing-confined c.args.self.now c.args.self.now.index c.args.f c.args.n _ _ _ _ _ c.requires.is_for c.in_ok-end.ensures.room refl honest c.in-Ok.ensures.clears c.tail_of-tail.ensures.tail c.clear_mark.ensures.confined c.grow_by.ensures.confined
+pub returns-clause-stays : goal.returns-clause-stays
+returns-clause-stays g c =
+    stays-then c.in_ok-ready_headers.ensures.stays.home c.in_ok-extend_held.ensures.stays
 
 pub returns-clause-confined : goal.returns-clause-confined
-returns-clause-confined g c = λ honest. growing-confined c.args.self.now c.args.self.now.index c.args.f c.args.n _ _ _ _ _ c.requires.is_for c.in_ok-end.ensures.room refl honest c.in-Ok.ensures.clears c.tail_of-tail.ensures.tail c.clear_mark.ensures.confined c.grow_by.ensures.confined
+returns-clause-confined g c =
+    let s = c.args.self.now in
+    let f = c.args.f in
+    let n = c.args.n in
+    let old = g.D.Device.disk c.args.device.now in
+    let read = g.D.Device.disk c.find_end.new.device in
+    let ready = g.D.Device.disk c.ready_headers.new.device in
+    let t = c.ready_headers.new.self in
+    let d = g.D.Device.disk c.if-branch.device in
+    let again : ReadsAtMost 2 ready d 0 = elim c.if-branch.branch [
+      | then-branch+in_ok-find_again w ↦ subst (λ (x : _). ReadsAtMost 2 ready (g.D.Device.disk x) 0) (sym w.device-is) w.in_ok-find_again.ensures.found.reads
+      | else-branch w ↦ subst (λ (x : _). ReadsAtMost 2 ready (g.D.Device.disk x) 0) (sym w.device-is) (none-read ready)
+    ] in
+    after-slots (home_of s) (headers_for (home_of s) f n old) _ f.number old read ready _ c.in_ok-end.ensures.end.ends.looked.looked (need-is s f n c.in_ok-end.end c.find_end.new.first c.find_end.new.last old read c.requires.is_for c.requires.own c.in_ok-end.ensures.end c.room_of-room.result c.room_of-room.ensures)
+    (rw c.need.ensures.need at c.ready_headers.ensures.confined) (more-of t (home_of s) f.number ready (g.D.Device.disk c.extend_held.new.device) c.in_ok-ready_headers.ensures.stays.home (c.in_ok-ready_headers.ensures.stays.keeps refl)
+    (confined-read again (home_of s) t f.number c.in_ok-ready_headers.ensures.stays.home (rw c.in_ok-ready_headers.ensures.stays.home at c.extend_held.ensures.confined)))

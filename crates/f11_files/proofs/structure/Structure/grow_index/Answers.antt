@@ -1,91 +1,91 @@
-use Rattle.std.proofs.Common.{◌∙◌, ap, inl, refl, arith}
-use Rattle.f11_store.specs.declared.files.FileId.{FileId}
-use Rattle.f11_store.specs.Store.{index_file}
-use Rattle.f11_files.specs.GrowingIndex.Runs.{index_id}
-use Rattle.f11_files.specs.Structure.{store_on}
-use Rattle.f11_files.proofs.AnswerLemmas.{handed, not-clean}
-use Rattle.f11_files.proofs.Extending.Cleared.{holds-last}
-use Rattle.f11_files.proofs.Removing.Freeing.{handed-stays, stays-then}
-use Rattle.f11_files.proofs.GrowingIndex.GrowIndex.{reserved-finds, as-grow, no-want, read-cost, wants-memory, fails-clearing, stays-clearing, may-grow-index, fails-growing, grows-file, slots-after}
-use Rattle.f11_files.proofs.Extending.Reserved.{reserved-for}
-use Rattle.f11_files.proofs.WriteLemmas.{fails-unread}
-use Rattle.f11_files.proofs.Extending.Parts.{clearing-confined, growing-confined}
+use Rattle.std.proofs.Common.{◌≡◌, IsTrue, Some, None, false, length, refl, sym, ◌∙◌, arith}
+use Rattle.f11_index.specs.IndexFile.{slots, free_slots_in}
+use Rattle.f11_store.specs.Causes.{first_of}
+use Rattle.f11_store.specs.Cost.{header_count}
+use Rattle.f11_files.specs.Extending.Room.{room_causes}
+use Rattle.f11_files.specs.GrowingIndex.Runs.{index_id, FailsToGrow}
+use Rattle.f11_files.specs.Operations.{grow_causes, held_causes, IsSpaceOf}
+use Rattle.f11_files.specs.Structure.{home_of, index_in, store_on}
+use Rattle.f11_files.proofs.AnswerLemmas.{handed}
+use Rattle.f11_files.proofs.Behind.{confined-read, stays-handed, unread-wants}
+use Rattle.f11_files.proofs.Extending.Room.{causes-alike, has-room, lacks-alike, lacks-cause, lacks-room, lacks-want}
+use Rattle.f11_files.proofs.GrowingIndex.Grow.{fails-then, grows-then}
+use Rattle.f11_files.proofs.GrowingIndex.GrowIndex.{slots-after}
+use Rattle.f11_files.proofs.GrowingIndex.Room.{at-limit, finds-reads, grow-are, has-slots, lacks-slots}
+use Rattle.f11_files.proofs.Opening.Space.{space-is}
+use Rattle.f11_files.proofs.WriteLemmas.{as-wanting, fails-unread}
 use Rattle.f11_files.proofs.structure.Structure.grow_index.Goals as goal
+
+pub returns-then-n-slots_left-clause-refused : goal.returns-then-n-slots_left-clause-refused
+returns-then-n-slots_left-clause-refused g c =
+    as-wanting (λ is. omega (arith, is)) (fails-unread (omega arith)
+    (at-limit c.args.self.now c.args.n _ c.requires.is_for _ _ _ refl refl c.slots_left.ensures c.if-n-slots_left.true c.requires.some))
 
 pub returns-in_err-end-clause-refused : goal.returns-in_err-end-clause-refused
 returns-in_err-end-clause-refused g c =
-    let fails = c.in_err-end.ensures.refused in
-    handed _ c.from_residual.result _ c.from_residual.ensures.1
-    (as-grow (no-want (store_on c.args.self.now (g.D.Device.disk c.args.device.now)) c.args.n _ _ _ fails.right) (fails-unread (let cost = read-cost (store_on c.args.self.now (g.D.Device.disk c.args.device.now)) (index_file (store_on c.args.self.now (g.D.Device.disk c.args.device.now))) c.args.n in omega (arith, cost)) fails))
+    handed (λ r. FailsToGrow false (home_of c.args.self.now) c.args.n r (g.D.Device.disk c.args.device.now) (g.D.Device.disk c.find_index_end.new.device)) c.from_residual.result _ c.from_residual.ensures.1
+    (unread-wants (omega arith) c.in_err-end.ensures.refused)
 
-pub returns-in-Err-clause-refused : goal.returns-in-Err-clause-refused
-returns-in-Err-clause-refused g c =
-    wants-memory c.args.self.now c.args.n _ _ _ (g.D.Device.disk c.args.device.now) (g.D.Device.disk c.find_index_room.new.device) c.requires.is_for c.in_ok-end.ensures.room
+pub returns-in_err-judge-clause-refused : goal.returns-in_err-judge-clause-refused
+returns-in_err-judge-clause-refused g c =
+    let s = c.args.self.now in
+    let old = g.D.Device.disk c.args.device.now in
+    let n = c.args.n in
+    let finds = c.in_ok-end.ensures.end in
+    let fits = c.if-n-slots_left.false in
+    let r = c.in_err-judge.field-0.0 in
+    let space : IsTrue old.honest → IsSpaceOf (store_on s old) c.free-free.result (length (free_slots_in (index_in s))) (slots (index_in s)) = λ honest. space-is s old c.requires.is_for honest _ _ _ c.free-free.ensures.free refl refl in
+    let is : first_of (room_causes c.in_ok-end.end.headers c.room_of-room.result c.free-free.result (length (free_slots_in (index_in s))) n) ≡ Some r = sym (causes-alike _ _ _ _ _ n (lacks-alike _ _ _ (rw (← c.need.ensures.need) c.headers_for-free_headers.ensures))) ∙ c.in_err-judge.ensures.refused in
+    handed (λ r. FailsToGrow false (home_of s) n r old (g.D.Device.disk c.find_index_end.new.device)) c.from_residual-in_err-judge.result r c.from_residual-in_err-judge.ensures.1
+    (as-wanting (lacks-want _ _ _ _ n r is) (fails-unread (omega arith)
+    (lacks-slots s n old c.requires.is_for _ _ _ refl refl c.slots_left.ensures (omega (arith, fits)) c.requires.some r _ (lacks-cause _ _ _ _ n r is)
+    (lacks-room s index_id _ old c.requires.is_for finds.holds _ _ _ finds.ends _ _ _ (slots (index_in s)) n c.room_of-room.ensures space r is))))
 
-pub returns-in-Err-clear_mark-clause-refused : goal.returns-in-Err-clear_mark-clause-refused
-returns-in-Err-clear_mark-clause-refused g c = fails-clearing (record c.args.self.now { index = c.reserve.new.self }) c.args.n _ _ _ (g.D.Device.disk c.args.device.now) (g.D.Device.disk c.find_index_room.new.device) (reserved-for c.args.self.now c.reserve.new.self c.reserve.ensures.kept _ c.requires.is_for)
-    (reserved-finds c.args.self.now c.reserve.new.self c.reserve.ensures.kept c.args.n _ _ _ _ _ c.in_ok-end.ensures.room) _ (rw c.index_id.ensures at c.in-Err-clear_mark.ensures.failed)
+pub grow_held-requires-clause-room : goal.grow_held-requires-clause-room
+grow_held-requires-clause-room g c =
+    let s = c.args.self.now in
+    let old = g.D.Device.disk c.args.device.now in
+    let n = c.args.n in
+    let finds = c.in_ok-end.ensures.end in
+    let fits = c.if-n-slots_left.false in
+    let none : first_of (room_causes c.in_ok-end.end.headers c.room_of-room.result c.free-free.result (length (free_slots_in (index_in s))) n) ≡ None = sym (causes-alike _ _ _ _ _ n (lacks-alike _ _ _ (rw (← c.need.ensures.need) c.headers_for-free_headers.ensures))) ∙ c.in_ok-judge.ensures.room in
+    has-slots s n old c.requires.is_for _ _ _ refl refl c.slots_left.ensures (omega (arith, fits)) c.requires.some _ _ _ _ finds
+    (has-room s index_id _ old c.requires.is_for finds.holds _ _ _ finds.ends _ _ _ (slots (index_in s)) n c.room_of-room.ensures (λ honest. space-is s old c.requires.is_for honest c.free-free.result _ _ c.free-free.ensures.free refl refl) none)
 
-pub returns-in-Err-clear_mark-clause-stays : goal.returns-in-Err-clear_mark-clause-stays
-returns-in-Err-clear_mark-clause-stays g c =
-    stays-then refl
-    (stays-clearing (record c.args.self.now { index = c.reserve.new.self }) c.args.n _ _ _ (g.D.Device.disk c.args.device.now) (g.D.Device.disk c.find_index_room.new.device) (reserved-for c.args.self.now c.reserve.new.self c.reserve.ensures.kept _ c.requires.is_for)
-    (reserved-finds c.args.self.now c.reserve.new.self c.reserve.ensures.kept c.args.n _ _ _ _ _ c.in_ok-end.ensures.room) _ (rw c.index_id.ensures at c.in-Err-clear_mark.ensures.failed))
+pub returns-in_err-grow_held-clause-refused : goal.returns-in_err-grow_held-clause-refused
+returns-in_err-grow_held-clause-refused g c =
+    let s = c.args.self.now in
+    let old = g.D.Device.disk c.args.device.now in
+    let n = c.args.n in
+    let finds = c.in_ok-end.ensures.end in
+    let fits = c.if-n-slots_left.false in
+    let none : first_of (room_causes c.in_ok-end.end.headers c.room_of-room.result c.free-free.result (length (free_slots_in (index_in s))) n) ≡ None = sym (causes-alike _ _ _ _ _ n (lacks-alike _ _ _ (rw (← c.need.ensures.need) c.headers_for-free_headers.ensures))) ∙ c.in_ok-judge.ensures.room in
+    let held : IsTrue old.honest → first_of (held_causes (store_on s old) index_id n) ≡ None =
+    has-room s index_id _ old c.requires.is_for finds.holds _ _ _ finds.ends _ _ _ (slots (index_in s)) n c.room_of-room.ensures (λ honest. space-is s old c.requires.is_for honest c.free-free.result _ _ c.free-free.ensures.free refl refl) none in
+    handed (λ r. FailsToGrow false (home_of s) n r old (g.D.Device.disk c.grow_held.new.device)) c.from_residual-in_err-grow_held.result _ c.from_residual-in_err-grow_held.ensures.1
+    (fails-then (home_of s) n old _ (finds-reads s old c.requires.is_for _ _ _ _ finds) (grow_causes (store_on s old) n)
+    (λ honest. grow-are s n old c.requires.is_for _ _ _ refl refl c.slots_left.ensures (omega (arith, fits)) c.requires.some honest ∙ held honest) _ _ c.in_err-grow_held.ensures.refused)
 
-pub grow_by-requires-clause-last : goal.grow_by-requires-clause-last
-grow_by-requires-clause-last g c =
-    holds-last (record c.args.self.now { index = c.reserve.new.self }) index_id c.args.n _ _ _ (g.D.Device.disk c.args.device.now) (g.D.Device.disk c.find_index_room.new.device) (reserved-for c.args.self.now c.reserve.new.self c.reserve.ensures.kept _ c.requires.is_for)
-    (reserved-finds c.args.self.now c.reserve.new.self c.reserve.ensures.kept c.args.n _ _ _ _ _ c.in_ok-end.ensures.room).room
-    _ _ (rw c.index_id.ensures at c.in-Ok-clear_mark.ensures.clears) _ (rw c.index_id-2.ensures at c.tail_of-tail.ensures.tail)
+pub returns-in_err-grow_held-clause-stays : goal.returns-in_err-grow_held-clause-stays
+returns-in_err-grow_held-clause-stays g c = stays-handed c.from_residual-in_err-grow_held.result _ _ _ _ c.from_residual-in_err-grow_held.ensures.1 c.in_err-grow_held.ensures.stays
 
-pub grow_by-requires-clause-gets : goal.grow_by-requires-clause-gets
-grow_by-requires-clause-gets g c = inl (ap (λ (f : FileId). f.number) (c.tail_of-tail.ensures.tail.file_is ∙ c.index_id-2.ensures))
-
-pub grow_by-requires-clause-may : goal.grow_by-requires-clause-may
-grow_by-requires-clause-may g c =
-    rw c.tail_of-tail.ensures.tail.file_is (rw c.index_id-2.ensures (
-    may-grow-index (record c.args.self.now { index = c.reserve.new.self }) c.args.n _ _ _ (g.D.Device.disk c.args.device.now) (g.D.Device.disk c.find_index_room.new.device) (reserved-for c.args.self.now c.reserve.new.self c.reserve.ensures.kept _ c.requires.is_for)
-    (reserved-finds c.args.self.now c.reserve.new.self c.reserve.ensures.kept c.args.n _ _ _ _ _ c.in_ok-end.ensures.room)
-    _ _ (rw c.index_id.ensures at c.in-Ok-clear_mark.ensures.clears)))
-
-pub returns-in_err-grow_by-clause-refused : goal.returns-in_err-grow_by-clause-refused
-returns-in_err-grow_by-clause-refused g c =
-    handed _ c.from_residual-in_err-grow_by.result _ c.from_residual-in_err-grow_by.ensures.1
-    (fails-growing (record c.args.self.now { index = c.reserve.new.self }) c.args.n _ _ _ (g.D.Device.disk c.args.device.now) (g.D.Device.disk c.find_index_room.new.device) (reserved-for c.args.self.now c.reserve.new.self c.reserve.ensures.kept _ c.requires.is_for)
-    (reserved-finds c.args.self.now c.reserve.new.self c.reserve.ensures.kept c.args.n _ _ _ _ _ c.in_ok-end.ensures.room)
-    _ _ (rw c.index_id.ensures at c.in-Ok-clear_mark.ensures.clears) _ (g.D.Device.disk c.grow_by.new.device) (rw c.index_id-2.ensures at (rw c.tail_of-tail.ensures.tail.file_is at c.in_err-grow_by.ensures.refused)))
-
-pub returns-in_err-grow_by-clause-stays : goal.returns-in_err-grow_by-clause-stays
-returns-in_err-grow_by-clause-stays g c =
-    let fatal = c.in_err-grow_by.ensures.refused.fatal in
-    handed-stays c.from_residual-in_err-grow_by.result _ _ _ _ c.from_residual-in_err-grow_by.ensures.1 fatal
-    (stays-then refl (rw fatal at c.in_err-grow_by.ensures.stays))
+pub returns-in_err-grow_held-clause-confined : goal.returns-in_err-grow_held-clause-confined
+returns-in_err-grow_held-clause-confined g c =
+    let s = c.args.self.now in
+    confined-read (finds-reads s _ c.requires.is_for _ _ _ _ c.in_ok-end.ensures.end) (home_of s) s 1 refl c.grow_held.ensures.confined
 
 pub returns-clause-grown : goal.returns-clause-grown
 returns-clause-grown g c =
-    let s = record c.args.self.now { index = c.reserve.new.self } in
-    let finds = reserved-finds c.args.self.now c.reserve.new.self c.reserve.ensures.kept c.args.n _ _ _ (g.D.Device.disk c.args.device.now) (g.D.Device.disk c.find_index_room.new.device) c.in_ok-end.ensures.room in
-    let for = reserved-for c.args.self.now c.reserve.new.self c.reserve.ensures.kept _ c.requires.is_for in
-    let clears = rw c.index_id.ensures at c.in-Ok-clear_mark.ensures.clears in
-    let tail = rw c.index_id-2.ensures at c.tail_of-tail.ensures.tail in
-    let grown = rw c.index_id-2.ensures at (rw c.tail_of-tail.ensures.tail.file_is at c.in_ok-grow_by.ensures.grown) in (
-      slots-after s c.args.n _ _ _ _ _ for finds _ _ clears _ tail _ grown c.grow_by.new.self _ (rw c.in_ok-grow_by.was at c.grow_by.ensures.stays) c.slots.ensures,
-      grows-file s c.args.n _ _ _ _ _ for finds _ _ clears _ tail _ grown,
+    let s = c.args.self.now in
+    let grown = grows-then (home_of s) c.args.n _ _ (finds-reads s _ c.requires.is_for _ _ _ _ c.in_ok-end.ensures.end) _ c.in_ok-grow_held.ensures.grown in (
+      slots-after s c.grow_held.new.self c.args.n _ _ _ grown c.in_ok-grow_held.ensures.stays c.slots.ensures,
+      grown,
     )
 
-pub returns-in-Err-clear_mark-clause-confined : goal.returns-in-Err-clear_mark-clause-confined
-returns-in-Err-clear_mark-clause-confined g c = λ honest. clearing-confined c.args.self.now c.reserve.new.self index_id c.args.n _ _ _ _ _ c.requires.is_for c.in_ok-end.ensures.room.room c.reserve.ensures.kept honest (rw c.index_id.ensures at c.clear_mark.ensures.confined)
-
-pub returns-in_err-grow_by-clause-confined : goal.returns-in_err-grow_by-clause-confined
-returns-in_err-grow_by-clause-confined g c = λ honest.
-    growing-confined c.args.self.now c.reserve.new.self index_id c.args.n _ _ _ _ _ c.requires.is_for c.in_ok-end.ensures.room.room c.reserve.ensures.kept honest (rw c.index_id.ensures at c.in-Ok-clear_mark.ensures.clears) (rw c.index_id-2.ensures at c.tail_of-tail.ensures.tail)
-    (rw c.index_id.ensures at c.clear_mark.ensures.confined) c.grow_by.ensures.confined
+pub returns-clause-stays : goal.returns-clause-stays
+returns-clause-stays g c = c.in_ok-grow_held.ensures.stays
 
 pub returns-clause-confined : goal.returns-clause-confined
-returns-clause-confined g c = λ honest.
-    growing-confined c.args.self.now c.reserve.new.self index_id c.args.n _ _ _ _ _ c.requires.is_for c.in_ok-end.ensures.room.room c.reserve.ensures.kept honest (rw c.index_id.ensures at c.in-Ok-clear_mark.ensures.clears) (rw c.index_id-2.ensures at c.tail_of-tail.ensures.tail)
-    (rw c.index_id.ensures at c.clear_mark.ensures.confined) c.grow_by.ensures.confined
-
-pub returns-in_err-grow_by-clause-counts : goal.returns-in_err-grow_by-clause-counts
-returns-in_err-grow_by-clause-counts g c =
-    not-clean c.from_residual-in_err-grow_by.result _ c.from_residual-in_err-grow_by.ensures.1 c.in_err-grow_by.ensures.refused.fatal
+returns-clause-confined g c =
+    let s = c.args.self.now in
+    confined-read (finds-reads s _ c.requires.is_for _ _ _ _ c.in_ok-end.ensures.end) (home_of s) s 1 refl c.grow_held.ensures.confined
