@@ -43,8 +43,8 @@ pub record LiesOn (w : Window) (blocks : ℕ) : Type 0 where
   pub first : 0 < w.first
   pub within : All (λ (run : ℕ × ℕ). run.0 + run.1 ≤ blocks) (runs_held w)
 
--- A window holds the pointer of a header that names its block number `left`, from 0, which is block `vbn` of the file, and those that follow it in
--- the header, seven at most.
+-- A window holds the pointer of a header that names its block number `left`, from 0, which is block `vbn` of the file, and those
+-- that follow it in the header, seven at most.
 pub record HoldsRuns (block : List ℕ) (left vbn : ℕ) (w : Window) : Type 0 where
   pub pointer : ℕ
   pub within : ℕ
@@ -69,7 +69,8 @@ pub record IsPast (block : List ℕ) (left blocks : ℕ) : Type 0 where
   pub some : 0 < run.1
   pub past : blocks < run.0 + run.1
 
--- A window is that of block `vbn` of file f: it holds the pointer that names the block, and those that follow it in its header, seven at most.
+-- A window is that of block `vbn` of file f: it holds the pointer that names the block, and those that follow it in its header,
+-- seven at most.
 pub record IsWindowAt (t : Table) (f vbn : ℕ) (w : Window) : Type 0 where
   pub header : ℕ
   pub of_file : IsHeaderOf t f header
@@ -138,7 +139,8 @@ WindowHas = (t : Table) (f vbn lbn : ℕ) (w : Window) → IsWindowOf t f w → 
 -- they are still where the file has more blocks
 abbrev pub WindowStays : Type 0
 WindowStays =
-    (old new : Table) (f : ℕ) (w : Window) (more : List ℕ) → file_blocks new f ≡ file_blocks old f ++ more → IsWindowOf old f w → IsWindowOf new f w
+    (old new : Table) (f : ℕ) (w : Window) (more : List ℕ) → file_blocks new f ≡ file_blocks old f ++ more → IsWindowOf old f w →
+    IsWindowOf new f w
 
 -- an empty window is any file's
 abbrev pub EmptyWindowIs : Type 0

@@ -49,7 +49,8 @@ AppendFits = (s : Store) (f : File) → header_count f + 1 + append_cost f ≤ e
 -- one block more, and then both are written, by the headers that the file has then
 abbrev pub GrownFits : Type 0
 GrownFits =
-    (s grown : Store) (d : FileId) → (d.number == 1) ≡ false → is_missing s d ≡ false → needs_block (file_named s d) ≡ true → Lengthens s d 1 grown →
+    (s grown : Store) (d : FileId) → (d.number == 1) ≡ false → is_missing s d ≡ false → needs_block (file_named s d) ≡ true →
+    Lengthens s d 1 grown →
     lengthen_cost s (file_named s d) 1 - 1 + append_cost (file_named grown d) ≤ entry_cost s (file_named s d)
 
 -- one block more may need one header more

@@ -39,7 +39,8 @@ EnteringAtEnd =
 -- what lags by Extend lags by Enter, and then as above; the directory is another file than the index file
 abbrev pub EnteringInNewBlock : Type 0
 EnteringInNewBlock =
-    (s : Store) (d : FileId) (r : List ℕ) → (d.number == 1) ≡ false → index_of_empty (file_named s d) ≡ None → needs_block (file_named s d) ≡ true →
+    (s : Store) (d : FileId) (r : List ℕ) → (d.number == 1) ≡ false → index_of_empty (file_named s d) ≡ None →
+    needs_block (file_named s d) ≡ true →
     ((t : Store) → LagsBy (lengthen_work s d 1) t s → LagsBy (enter_work (index_of_empty (file_named s d)) s d r) t s)
     × ((grown : Store) → Lengthens s d 1 grown →
     EnteringFrom grown s d (entry_count (file_named s d)) r (index_of_empty (file_named s d)))

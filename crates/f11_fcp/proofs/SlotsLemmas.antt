@@ -1,6 +1,6 @@
 -- The slots that come first, with any accesses beside.
 use Rattle.std.proofs.Common.{◌≡◌, ℕ, zero, suc, ◌+◌, Bool, true, false, List, Option, Some, None, refl, ◌∙◌, ap}
-use Rattle.f11_store.specs.Changes.{with_slots_first, with_slots_if}
+use Rattle.f11_store.specs.Changes.{with_slots_first, with_slots_added}
 use Rattle.f11_store.specs.Cost.{growth_cost, lengthen_cost, slots_cost}
 use Rattle.f11_store.specs.Directory.{entry_count, needs_block}
 use Rattle.f11_store.specs.File.{File, need}
@@ -26,13 +26,13 @@ module _ (a : ℕ → ℕ → Option Access) where
   lengthen-cost-held s f n = ap (λ (k : ℕ). k + growth_cost s f n) (slots-cost-held s (need f.room n))
 
   -- the next file's identification
-  next-after : (n : ℕ) (s : Store) → next_id (with_slots_if n (with_accesses a s)) ≡ next_id (with_slots_if n s)
+  next-after : (n : ℕ) (s : Store) → next_id (with_slots_added n (with_accesses a s)) ≡ next_id (with_slots_added n s)
   unfolding free_slots
   next-after zero s = refl
   next-after (suc n) s = refl
 
   pub next-held : (s : Store) → next_id (with_slots_first (with_accesses a s) 1) ≡ next_id (with_slots_first s 1)
-  next-held s = ap (λ (n : ℕ). next_id (with_slots_if n (with_accesses a s))) (slots-held a s 1) ∙ next-after (slots_first s 1) s
+  next-held s = ap (λ (n : ℕ). next_id (with_slots_added n (with_accesses a s))) (slots-held a s 1) ∙ next-after (slots_first s 1) s
 
   -- the work of a record that is entered
   append-work-held : (b : Bool) (s : Store) (d : FileId) (i : ℕ) (r : List ℕ) → append_work b (with_accesses a s) d i r ≡ append_work b s d i r

@@ -66,6 +66,7 @@ WindowsAfter task (request.Truncate lun to) old new = EmptiesWindows task lun ol
 WindowsAfter task _ old new = KeepsWindows old.table new.table
 
 -- A request was served, and so are windows then; a block that stands in one took one transfer at most, whatever was answered.
-pub record ServesWithWindows {D : Type 0} {met : Ghosts D} (task : ℕ) (r : Request) (result : Result Reply Refusal) (old new : Volume D met) : Type 0 where
+pub record ServesWithWindows {D : Type 0} {met : Ghosts D} (task : ℕ) (r : Request) (result : Result Reply Refusal)
+    (old new : Volume D met) : Type 0 where
   pub once : TakesOneTransfer task r (state_in old) (state_in new)
   pub after : OnOk result (WindowsAfter task r (state_in old) (state_in new))

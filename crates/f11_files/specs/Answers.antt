@@ -118,8 +118,8 @@ pub record FailsToWrite (failed : Bool) (causes : List Cause) (most : ℕ) (work
   pub unchanged : is_fatal refusal ≡ false → ReadsAtMost most old new 0
 
 -- A call that writes, and may take memory, was refused, likewise; or memory was wanting: then there was no cause, and it takes some.
-pub record FailsOrWants (takes : Bool) (failed : Bool) (causes : List Cause) (most : ℕ) (work : Work) (home : HomeFields) (refusal : Refusal)
-    (old new : Disk) : Type 0 where
+pub record FailsOrWants (takes : Bool) (failed : Bool) (causes : List Cause) (most : ℕ) (work : Work) (home : HomeFields)
+    (refusal : Refusal) (old new : Disk) : Type 0 where
   pub right : refusal ≢ NoMemory → IsRight failed old.honest causes refusal
   pub wanting : refusal ≡ NoMemory → (failed ≡ false) × (IsTrue old.honest → (first_of causes ≡ None) × (takes ≡ true))
   pub writes : WritesAtMost (Meanwhile (work_if (first_of causes) work) home old) most old new (faults_of refusal)

@@ -20,7 +20,8 @@ use Rattle.f11_image_store.specs.StoreOf.{store_of}
 -- A file was made in the least free slot, in three transfers, and this is its identification.
 pub record EntersFile (home : HomeFields) (owner : Uic) (protection : ℕ) (ident attr : List ℕ) (f : FileId) (old new : Disk) : Type 0 where
   pub does : let s = store_of old.image home in
-      Does (slot_causes s) (new_file_work s owner protection ident attr) 3 (λ t. t ≡ after_create s owner protection ident attr) KeepsBlocks home
+      Does (slot_causes s) (new_file_work s owner protection ident attr) 3 (λ t. t ≡ after_create s owner protection ident attr)
+      KeepsBlocks home
       old new
   pub id : IsTrue old.honest → f ≡ next_id (store_of old.image home)
 

@@ -27,7 +27,8 @@ pub record AllotsAfter (n : ℕ) (Rest : Volume → Volume → Type 0) (old new 
   pub rest : Rest ready new
 
 -- a file that was made
-pub record CreatesOverall (home : HomeFields) (owner : Uic) (protection : ℕ) (ident attr : List ℕ) (f : FileId) (old new : Disk) : Type 0 where
+pub record CreatesOverall (home : HomeFields) (owner : Uic) (protection : ℕ) (ident attr : List ℕ) (f : FileId)
+    (old new : Disk) : Type 0 where
   pub does : let s = store_of old.image home in
       Does (create_causes s) (make_work s owner protection ident attr) (slots_cost s 1 + 3) (MakesFile s owner protection ident attr)
       (AllotsAfter (slots_first s 1) KeepsBlocks) home old new

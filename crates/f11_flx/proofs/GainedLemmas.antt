@@ -2,7 +2,7 @@
 use Rattle.std.proofs.Common.{◌≡◌, ℕ, zero, suc, ◌+◌, ◌-◌, ◌≤◌, ◌==◌, ◌&&◌, Bool, true, false, nat_le, if◌then◌else◌, List, [], ◌++◌, Option, Some, None, option_map, slice_index, take, unwrap_or, refl, sym, ◌∙◌, ap, subst, arith}
 use Rattle.std.proofs.lemmas.Bool.{le-ltb, ne_eqb}
 use Rattle.std.proofs.lemmas.List.{append-nil}
-use Rattle.f11_store.specs.Changes.{EntersAt, EntersAtEnd, GetsSlots, grown_file, next_sequence, with_end_after, with_entry, with_more_slots, with_slots_if}
+use Rattle.f11_store.specs.Changes.{EntersAt, EntersAtEnd, GetsSlots, grown_file, next_sequence, with_end_after, with_entry, with_more_slots, with_slots_added}
 use Rattle.f11_store.specs.Directory.{entry_count, needs_block}
 use Rattle.f11_store.specs.File.{File, need, no_file, without_contiguous, zero_blocks}
 use Rattle.f11_store.specs.Headroom.{slots_first}
@@ -34,6 +34,9 @@ index-gained s t headers gains = by_count (slots_first s headers) (first-fit s h
           ident = refl;
           attr = refl;
           held = ap (λ (i : ℕ). before.held ++ take i (free_slots s)) {x = e.grows.added} {y = 0} none ∙ append-nil before.held;
+          no_fewer = e.grows.may_grow.no_fewer;
+          no_more = e.grows.may_grow.no_more;
+          places = omega (arith, none, e.grows.may_grow.places);
           blocks = append-nil before.blocks;
         })
 
@@ -43,8 +46,8 @@ index-stays s t u n same (as_it_was none e) = as_it_was none (same ∙ e)
 index-stays s t u n same (grown some f g was now alike) = grown some f g was (same ∙ now) alike
 
 -- and where it gets more
-grown-then : (f g h : File) → IsGrownIndex f g → IsGrownIndex g h → IsGrownIndex f h
-grown-then f g h one two = record {
+grown-then : (f g h : File) (a b : ℕ) → IsGrownIndex f g a → IsGrownIndex g h b → IsGrownIndex f h (a + b)
+grown-then f g h a b one two = record {
   sequence = two.sequence ∙ one.sequence;
   owner = two.owner ∙ one.owner;
   protection = two.protection ∙ one.protection;
@@ -52,23 +55,28 @@ grown-then f g h one two = record {
   ident = two.ident ∙ one.ident;
   attr = two.attr ∙ one.attr;
   held = two.held ∙ one.held;
+  no_fewer = omega (arith, one.no_fewer, two.no_fewer);
+  no_more = omega (arith, one.no_more, two.no_more);
+  places = two.places ∙ one.places;
   blocks = two.blocks ∙ one.blocks;
 }
 
 pub index-then : (s t u : Store) (a b : ℕ) → IndexAfter s t a → IndexAfter t u b → IndexAfter s u (a + b)
 index-then s t u a b (as_it_was none e) (as_it_was none' e') = as_it_was (omega (arith, none, none')) (e' ∙ e)
-index-then s t u a b (as_it_was none e) (grown some f g was now alike) = grown (omega (arith, some)) f g (sym e ∙ was) now alike
-index-then s t u a b (grown some f g was now alike) (as_it_was none e) = grown (omega (arith, some)) f g was (e ∙ now) alike
+index-then s t u a b (as_it_was none e) (grown some f g was now alike) =
+    grown (omega (arith, some)) f g (sym e ∙ was) now (subst (λ (n : ℕ). IsGrownIndex f g n) {x = b} {y = a + b} (omega (arith, none)) alike)
+index-then s t u a b (grown some f g was now alike) (as_it_was none e) =
+    grown (omega (arith, some)) f g was (e ∙ now) (subst (λ (n : ℕ). IsGrownIndex f g n) {x = a} {y = a + b} (omega (arith, none)) alike)
 index-then s t u a b (grown some f g was now alike) (grown some' f' g' was' now' alike') =
     let o : Some g ≡ Some f' = sym now ∙ was' in
     let same : g ≡ f' = cc in
-    grown (omega (arith, some, some')) f g' was now' (grown-then f g g' alike (subst (λ (x : File). IsGrownIndex x g') (sym same) alike'))
+    grown (omega (arith, some, some')) f g' was now' (grown-then f g g' a b alike (subst (λ (x : File). IsGrownIndex x g' b) (sym same) alike'))
 
 -- how many slots there are then
 pub ready-slots : (s t : Store) (n : ℕ) → IsReady s n t → t.slots ≡ s.slots + n
 ready-slots s t n ready = ready.slots ∙ by_count n
   where
-    by_count : (n : ℕ) → (with_slots_if n s).slots ≡ s.slots + n
+    by_count : (n : ℕ) → (with_slots_added n s).slots ≡ s.slots + n
     by_count zero = omega arith
     by_count (suc n) = refl
 
@@ -76,15 +84,9 @@ ready-slots s t n ready = ready.slots ∙ by_count n
 pub ready-last : (s t : Store) (n m : ℕ) → IsReady s n t → m ≤ s.slots → t.last m ≡ s.last m
 ready-last s t n m ready within = ap (λ (l : ℕ → ℕ). l m) ready.last ∙ by_count n
   where
-    by_count : (n : ℕ) → (with_slots_if n s).last m ≡ s.last m
+    by_count : (n : ℕ) → (with_slots_added n s).last m ≡ s.last m
     by_count zero = refl
     by_count (suc n) = ap (λ (b : Bool). if b && nat_le m (s.slots + suc n) then 0 else s.last m) (le-ltb s.slots m within)
-
--- the next file's identification
-pub ready-id : (s t : Store) (n : ℕ) → IsReady s n t → next_id (with_slots_if n s) ≡ next_id t
-ready-id s t n ready = sym (λ i.
-    let slot : ℕ = slice_index (free-stays s t n ready i) 0 in
-    record { number = slot; sequence = next_sequence (ready.last i slot); volume = 0 })
 
 -- a file from 4 on is another than the index file
 pub not-index : (n least : ℕ) → 2 ≤ least → least ≤ n → (n == 1) ≡ false

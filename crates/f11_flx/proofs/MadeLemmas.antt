@@ -27,9 +27,10 @@ use Rattle.f11_flx.specs.CopyFromRt.{CopiesFromRt, Making, as_file, creation, en
 use Rattle.f11_flx.specs.Making.{extension}
 use Rattle.f11_flx.specs.MakingLaws.{CopiedHolds, GrantedIsMade, HasCopyOf, HasMadeFile}
 use Rattle.f11_flx.specs.declared.mode.CopyMode.{CopyMode}
+use Rattle.f11_store.proofs.FileLaws.{made_id}
 use Rattle.f11_flx.proofs.ApartLemmas.{apart-from, copy-is-none}
 use Rattle.f11_flx.proofs.AskingLemmas.{granted-parts}
-use Rattle.f11_flx.proofs.GainedLemmas.{enters-from, index-stays, index-then, not-index, ready-id, ready-slots}
+use Rattle.f11_flx.proofs.GainedLemmas.{enters-from, index-stays, index-then, not-index, ready-slots}
 use Rattle.f11_flx.proofs.NewLemmas.{IsNewIn, IsOpenIn, closed, given-back, holds, length-zeros, new-made, written}
 use Rattle.f11_flx.proofs.UndoneLemmas.{extension-stays, writes-stay}
 
@@ -50,7 +51,7 @@ such-created making who s t h =
     let made = h.1.2.changes in
     let r : Store = made.ready in
     let file : File = file_created r (least_free r) who.caller 0 (ident_with making.name) making.attr in
-    let is : new_id s ≡ next_id r = ready-id s r (slots_first s 1) (gained-is-ready s r 1 made.gains) in
+    let is : new_id s ≡ next_id r = made_id s r (slots_first s 1) (gained-is-ready s r 1 made.gains) in
     subst (λ (i : FileId). IsSuch making who.caller [] i.number t) (sym is)
     (record {
       file = file;

@@ -23,7 +23,7 @@ use Rattle.f11_store.specs.declared.refusals.Refusal.{Refusal}
 use Rattle.f11_store.specs.declared.refusals.Refusal.TheVariants.{BadArgument, DeviceFull, LunInUse, Marked, NoPrivilege, NoSuchAccess, NoSuchFile, SystemFile, TooManySegments}
 use Rattle.f11_store.specs.declared.requests.Request.TheVariants as request
 use Rattle.f11_store.proofs.FateLaws.{mark-of-cleared}
-use Rattle.f11_store.proofs.FileLaws.{least_free_is_free}
+use Rattle.f11_store.proofs.FileLaws.{least_free_is_free, made_id}
 use Rattle.f11_store.proofs.SlotsFirst.{gained-is-ready}
 use Rattle.f11_store.specs.SlotsFirst.{IsReady}
 use Rattle.f11_store.proofs.StoreLemmas.{none_first, none_rest, same_number}
@@ -33,7 +33,7 @@ use Rattle.f11_runs.proofs.SlotLists.{in-one, in-two, taken-free}
 use Rattle.f11_flx.specs.Asking.{Denies, Granted, Grants, Who, asks, plain, writes}
 use Rattle.f11_flx.specs.CopyFromRt.{IndexAfter, IsAsBefore, Making, creation}
 use Rattle.f11_flx.proofs.FromRtLemmas.{created-next}
-use Rattle.f11_flx.proofs.GainedLemmas.{index-gained, index-stays, index-then, not-index, ready-id, ready-last, ready-slots}
+use Rattle.f11_flx.proofs.GainedLemmas.{index-gained, index-stays, index-then, not-index, ready-last, ready-slots}
 use Rattle.f11_flx.proofs.SmallLemmas.{bad-not}
 
 -- A store is s with one file more, which is the caller's and bars nobody, and with slots that its index file got first; accesses are these.
@@ -109,7 +109,7 @@ new-made making id who s t h =
     let made = step.changes in
     let r : Store = made.ready in
     let ready : IsReady s (slots_first s 1) r = gained-is-ready s r 1 made.gains in
-    let is : id ≡ next_id r = created-next making id who s t h ∙ ready-id s r (slots_first s 1) ready in
+    let is : id ≡ next_id r = created-next making id who s t h ∙ made_id s r (slots_first s 1) ready in
     let free = least_free_is_free r made.enough in
     let fits : slots_first s 1 ≤ s.free = create-fits s step.no_cause in
     let file : File = file_created r (least_free r) who.caller 0 (ident_with making.name) making.attr in

@@ -20,8 +20,8 @@ pub record Who : Type 0 where
 abbrev pub who_asks : ℕ → Uic → Who
 who_asks task caller = record { task = task; caller = caller }
 
--- What is asked: a request, whatever its reply is; one that has this reply; the block at a VBN of the file accessed by a lun, which is given, or
--- written; how many blocks that file has.
+-- What is asked: a request, whatever its reply is; one that has this reply; the block at a VBN of the file accessed by a lun,
+-- which is given, or written; how many blocks that file has.
 pub data Asking : Type 0 where
   asks : Request → Asking
   told : Request → Reply → Asking

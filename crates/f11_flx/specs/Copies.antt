@@ -72,13 +72,16 @@ pub record IsNotTaken {V W : Type 0} (S : Service V) (K : Taking W) (R : Refusin
 -- the text has more bytes than so many blocks, whatever follows what was read
 abbrev pub HasLongerText : ToText → List (List ℕ) → ℕ → Type 0
 HasLongerText t given blocks =
-    (more bytes : List ℕ) → rest_of t ≤ length (concat given ++ more) → text_left t (concat given ++ more) ≡ Some bytes → 512 * blocks < length bytes
+    (more bytes : List ℕ) → rest_of t ≤ length (concat given ++ more) → text_left t (concat given ++ more) ≡ Some bytes →
+    512 * blocks < length bytes
 
-abbrev pub FailsToCopyBlocks : {V W : Type 0} → Service V → Taking W → Refusing W → Who → ℕ → List ℕ → ℕ → FlxRefusal → V → V → W → W → Type 0
+abbrev pub FailsToCopyBlocks : {V W : Type 0} → Service V → Taking W → Refusing W → Who → ℕ → List ℕ → ℕ → FlxRefusal → V → V → W →
+    W → Type 0
 FailsToCopyBlocks S K R who lun name count e old new t t' =
     (IsDenied S K who lun name count e old new t t') ⊎ (IsNotTaken S K R who lun name count (λ given blocks. blocks < count) e old new t t')
 
-abbrev pub FailsToCopyText : {V W : Type 0} → Service V → Taking W → Refusing W → Who → ℕ → List ℕ → ToText → ℕ → FlxRefusal → V → V → W → W → Type 0
+abbrev pub FailsToCopyText : {V W : Type 0} → Service V → Taking W → Refusing W → Who → ℕ → List ℕ → ToText → ℕ → FlxRefusal → V →
+    V → W → W → Type 0
 FailsToCopyText S K R who lun name text count e old new t t' =
     (IsDenied S K who lun name count e old new t t')
     ⊎ ((IsNoText S K who lun name text count e old new t t') ⊎ (IsNotTaken S K R who lun name count (HasLongerText text) e old new t t'))

@@ -134,8 +134,9 @@ FailsToCopySpent (refusal.Rt e) m name disk = IsSoundDisk disk → FailsToFindFi
 FailsToCopySpent refusal.BadRecord m name disk = ⊥
 FailsToCopySpent refusal.LineTooLong m name disk = IsSoundDisk disk → HasTooLongLine m name (rt_store_of disk.image)
 
--- An index file grew in its last header: its contiguous mark is clear, and its pointers and its room may be others.
-pub record IsGrownIndex (f g : File) : Type 0 where
+-- An index file grew by so many blocks in its last header: its contiguous mark is clear, and there are at most so many retrieval
+-- pointers more, each in a place that was unused.
+pub record IsGrownIndex (f g : File) (added : ℕ) : Type 0 where
   pub sequence : g.sequence ≡ f.sequence
   pub owner : g.owner ≡ f.owner
   pub protection : g.protection ≡ f.protection
@@ -143,12 +144,15 @@ pub record IsGrownIndex (f g : File) : Type 0 where
   pub ident : g.ident ≡ f.ident
   pub attr : g.attr ≡ f.attr
   pub held : g.held ≡ f.held
+  pub no_fewer : f.pointers ≤ g.pointers
+  pub no_more : g.pointers ≤ f.pointers + added
+  pub places : g.pointers + g.room ≡ f.pointers + f.room
   pub blocks : g.blocks ≡ f.blocks
 
 -- The index file after so many slots more: as it was where there are none.
 pub data IndexAfter (s s' : Store) (added : ℕ) : Type 0 where
   as_it_was : added ≡ 0 → s'.file 1 ≡ s.file 1 → IndexAfter s s' added
-  grown : 0 < added → (f g : File) → s.file 1 ≡ Some f → s'.file 1 ≡ Some g → IsGrownIndex f g → IndexAfter s s' added
+  grown : 0 < added → (f g : File) → s.file 1 ≡ Some f → s'.file 1 ≡ Some g → IsGrownIndex f g added → IndexAfter s s' added
 
 -- A store is as before, but for slots that the index file got first, and for the sequence numbers that free slots were last given.
 pub record IsAsBefore (s s' : Store) : Type 0 where

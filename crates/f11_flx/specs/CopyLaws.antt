@@ -58,8 +58,8 @@ RefusedSourceStays =
     (e : FlxRefusal) (m : CopyMode) (who : Who) (lun : ℕ) (source : FileId) (name : List ℕ) (s s' : Store) (disk : Disk) →
     FailsToCopyToRt e m who lun source name s s' disk → s' ≡ s
 
--- A copy that any service and any RT-11 volume made, where the service is seen as the plain store, and sound, and the RT-11 disk is sound, is that of
--- the plain stores;
+-- A copy that any service and any RT-11 volume made, where the service is seen as the plain store, and sound, and the RT-11 disk
+-- is sound, is that of the plain stores;
 abbrev pub CopiedIsCopy : {V E : Type 0} {met : Ghosts E} → Service V → (E → Disk) → RtAccepted E met → Type 0
 CopiedIsCopy {V} {E} {met} S disk rt =
     (view : V → Store) (is_sound : V → Bool) → IsSeenPlain S view is_sound →
@@ -72,7 +72,8 @@ abbrev pub RefusedIsRefusal : {V E : Type 0} {met : Ghosts E} → Service V → 
 RefusedIsRefusal {V} {E} {met} S disk rt =
     (view : V → Store) (is_sound : V → Bool) → IsSeenPlain S view is_sound →
     (m : CopyMode) (who : Who) (lun : ℕ) (file : FileId) (name : List ℕ) (day : ℕ) (e : FlxRefusal) (old new : V) (rt' : RtAccepted E met) →
-    is_sound old ≡ true → IsSoundDisk (rt_disk disk rt) → is_lethal e ≡ false → FailsToCopyFile m S disk who lun file name day e old new rt rt' →
+    is_sound old ≡ true → IsSoundDisk (rt_disk disk rt) → is_lethal e ≡ false →
+    FailsToCopyFile m S disk who lun file name day e old new rt rt' →
     FailsToCopyToRt e m who lun file name (view old) (view new) (rt_disk disk rt)
 
 -- whatever the service, the RT-11 volume is left as the refusal says

@@ -26,8 +26,8 @@ use Rattle.f11_flx.specs.declared.mode.CopyMode.TheVariants.{Image, Text}
 use Rattle.f11_flx.specs.declared.refusal.FlxRefusal.{FlxRefusal}
 use Rattle.f11_flx.specs.declared.refusal.FlxRefusal.TheVariants as refusal
 
--- What is asked of the Files-11 volume: the source is locked by a lun, its attributes are read and its length is asked, its blocks are read, those that
--- are walked over and those that are copied, and it is given up.
+-- What is asked of the Files-11 volume: the source is locked by a lun, its attributes are read and its length is asked, its
+-- blocks are read, those that are walked over and those that are copied, and it is given up.
 abbrev pub reading : FileId → ℕ → Attr → ℕ → List (List ℕ) → List (List ℕ) → List Asking
 reading source lun attr blocks walked copied =
     asks (request.Access source mode.Locked lun) ∷ told (request.ReadAttr source) (reply.Attr attr) ∷ counts lun blocks ∷

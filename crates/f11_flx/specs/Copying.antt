@@ -59,12 +59,13 @@ pub record KeepsSpent {D T : Type 0} {met : Ghosts D} (result : Result T FlxRefu
   pub untouched : is_spent old ≡ true → state_in new ≡ state_in old
 
 -- Failed is answered by an RT-11 volume alone that a device fault has failed before, on which then nothing is done.
-pub record KeepsFailed {E T : Type 0} {met : Ghosts E} (disk : E → Disk) (result : Result T FlxRefusal) (old new : RtAccepted E met) : Type 0 where
+pub record KeepsFailed {E T : Type 0} {met : Ghosts E} (disk : E → Disk) (result : Result T FlxRefusal)
+    (old new : RtAccepted E met) : Type 0 where
   pub only : result ≡ Err (Rt Failed) → has_failed old ≡ true
   pub untouched : has_failed old ≡ true → disk (volume_device new) ≡ disk (volume_device old)
 
--- What the answer tells of the Files-11 volume: a transfer failed where that is the answer, and none followed; DeviceFault and Damaged fail the
--- volume, and nothing else does.
+-- What the answer tells of the Files-11 volume: a transfer failed where that is the answer, and none followed; DeviceFault and
+-- Damaged fail the volume, and nothing else does.
 pub record FaresFiles {D T : Type 0} {met : Ghosts D} (result : Result T FlxRefusal) (old new : Volume D met) : Type 0 where
   pub failures : failures_of new ≡ failures_of old + (if of_files is_fault result then 1 else 0)
   pub quiet : of_files is_fault result ≡ true → (state_in new).disk.calm ≡ 0
@@ -74,7 +75,8 @@ pub record FaresFiles {D T : Type 0} {met : Ghosts D} (result : Result T FlxRefu
   pub accepted : StaysAccepted (state_in new)
 
 -- What it tells of the RT-11 volume.
-pub record FaresRt {E T : Type 0} {met : Ghosts E} (disk : E → Disk) (result : Result T FlxRefusal) (old new : RtAccepted E met) : Type 0 where
+pub record FaresRt {E T : Type 0} {met : Ghosts E} (disk : E → Disk) (result : Result T FlxRefusal)
+    (old new : RtAccepted E met) : Type 0 where
   pub failures : (disk (volume_device new)).failures ≡ (disk (volume_device old)).failures + (if of_rt is_rt_fault result then 1 else 0)
   pub quiet : of_rt is_rt_fault result ≡ true → (disk (volume_device new)).calm ≡ 0
   pub honest : (disk (volume_device new)).honest ≡ (disk (volume_device old)).honest
@@ -160,7 +162,8 @@ pub record MakesRtFile {E T : Type 0} {met : Ghosts E} (disk : E → Disk) (resu
   pub sound : IsSoundDisk (disk (volume_device old)) → is_whole result ≡ true → IsSoundDisk (disk (volume_device new))
 
 -- It was read. Where it had failed, nothing of it was, and the answer is Failed.
-pub record ReadsRt {E T : Type 0} {met : Ghosts E} (disk : E → Disk) (result : Result T FlxRefusal) (old new : RtAccepted E met) : Type 0 where
+pub record ReadsRt {E T : Type 0} {met : Ghosts E} (disk : E → Disk) (result : Result T FlxRefusal)
+    (old new : RtAccepted E met) : Type 0 where
   pub fares : FaresRt disk result old new
   pub keeps : KeepsFailed disk result old new
   pub failed : has_failed old ≡ true → result ≡ Err (Rt Failed)

@@ -67,7 +67,8 @@ pub record TakesNext {V : Type 0} (K : Taking V) (name : List ℕ) (o o' : Out) 
   pub empty : o'.to ≡ 0
 
 -- So many bytes of the source were read: the text to come was that of the blocks that were taken, and then what is to come.
-pub record Pouring {V : Type 0} (K : Taking V) (name : List ℕ) (t t' : ToText) (source : List ℕ) (used : ℕ) (o o' : Out) (old new : V) : Type 0 where
+pub record Pouring {V : Type 0} (K : Taking V) (name : List ℕ) (t t' : ToText) (source : List ℕ) (used : ℕ) (o o' : Out)
+    (old new : V) : Type 0 where
   pub pieces : List (List ℕ)
   pub took : Took K name o.place pieces old new
   pub place : o'.place ≡ o.place + length pieces

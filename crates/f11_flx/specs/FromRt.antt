@@ -18,7 +18,8 @@ pub record CopiesFrom {V E : Type 0} {met : Ghosts E} (S : Service V) (disk : E 
   pub attr : List ℕ
   pub between : RtAccepted E met
   pub plans : Plans disk m name many blocks attr rt between
-  pub makes : (pieces : List (List ℕ)) → MakesCopy S disk m who lun name many blocks (as_file to dir protection attr pieces) between rt' old new
+  pub makes :
+      (pieces : List (List ℕ)) → MakesCopy S disk m who lun name many blocks (as_file to dir protection attr pieces) between rt' old new
 
 -- It wasn't found, or has no copy; nothing was asked of the Files-11 volume.
 pub record HasNoPlan {V E : Type 0} {met : Ghosts E} (disk : E → Disk) (m : CopyMode) (name : List ℕ) (f : FlxRefusal)
@@ -27,8 +28,8 @@ pub record HasNoPlan {V E : Type 0} {met : Ghosts E} (disk : E → Disk) (m : Co
   pub unasked : new ≡ old
 
 -- It was judged, and its copy wasn't made.
-pub record HasPlanAlone {V E : Type 0} {met : Ghosts E} (S : Service V) (disk : E → Disk) (m : CopyMode) (who : Who) (lun : ℕ) (name : List ℕ)
-    (dir : FileId) (to : List ℕ) (protection : ℕ) (f : FlxRefusal) (rt rt' : RtAccepted E met) (old new : V) : Type 0 where
+pub record HasPlanAlone {V E : Type 0} {met : Ghosts E} (S : Service V) (disk : E → Disk) (m : CopyMode) (who : Who) (lun : ℕ)
+    (name : List ℕ) (dir : FileId) (to : List ℕ) (protection : ℕ) (f : FlxRefusal) (rt rt' : RtAccepted E met) (old new : V) : Type 0 where
   pub many : ℕ
   pub blocks : ℕ
   pub attr : List ℕ

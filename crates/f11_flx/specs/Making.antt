@@ -22,7 +22,8 @@ use Rattle.f11_flx.specs.declared.mode.CopyMode.{CopyMode}
 use Rattle.f11_flx.specs.declared.refusal.FlxRefusal.{FlxRefusal}
 use Rattle.f11_flx.specs.declared.refusal.FlxRefusal.TheVariants as refusal
 
--- What undoes something was asked, and the refusal that is answered then: that of what is undone, or a device fault or Damaged met in undoing.
+-- What undoes something was asked, and the refusal that is answered then: that of what is undone, or a device fault or Damaged
+-- met in undoing.
 pub record IsUndenied {V : Type 0} (S : Service V) (who : Who) (r : Request) (f f' : FlxRefusal) (old new : V) : Type 0 where
   pub granted : Grants S who (asks r) old new
   pub same : f' ≡ f
@@ -108,8 +109,8 @@ pub record IsNotOpened {V E : Type 0} {met : Ghosts E} (S : Service V) (who : Wh
   pub unread : rt' ≡ rt
 
 -- It was, and wasn't filled; it was given up.
-pub record IsNotFilled {V E : Type 0} {met : Ghosts E} (S : Service V) (disk : E → Disk) (m : CopyMode) (who : Who) (lun : ℕ) (name : List ℕ)
-    (many n : ℕ) (id : FileId) (f' : FlxRefusal) (rt rt' : RtAccepted E met) (old new : V) : Type 0 where
+pub record IsNotFilled {V E : Type 0} {met : Ghosts E} (S : Service V) (disk : E → Disk) (m : CopyMode) (who : Who) (lun : ℕ)
+    (name : List ℕ) (many n : ℕ) (id : FileId) (f' : FlxRefusal) (rt rt' : RtAccepted E met) (old new : V) : Type 0 where
   pub f : FlxRefusal
   pub between : V
   pub left : V
@@ -157,8 +158,8 @@ pub record IsUnfilled {V E : Type 0} {met : Ghosts E} (S : Service V) (disk : E 
   pub undoes : Undoing S who (request.Delete id) f f' left new
 
 -- It was filled, and wasn't entered, or not protected; it was deleted.
-pub record IsNotEntered {V E : Type 0} {met : Ghosts E} (S : Service V) (disk : E → Disk) (m : CopyMode) (who : Who) (lun : ℕ) (name : List ℕ)
-    (many n : ℕ) (making : Making) (f' : FlxRefusal) (rt rt' : RtAccepted E met) (old new : V) : Type 0 where
+pub record IsNotEntered {V E : Type 0} {met : Ghosts E} (S : Service V) (disk : E → Disk) (m : CopyMode) (who : Who) (lun : ℕ)
+    (name : List ℕ) (many n : ℕ) (making : Making) (f' : FlxRefusal) (rt rt' : RtAccepted E met) (old new : V) : Type 0 where
   pub id : FileId
   pub e : Refusal
   pub created : V

@@ -15,7 +15,8 @@ use Rattle.rt11_volume.specs.Files.{HasFile, file_area}
 use Rattle.rt11_volume.specs.Store.{RtStore}
 use Rattle.f11_flx.specs.Asking.{Granted, Who, plain}
 use Rattle.f11_flx.specs.Conversion.{Copy, Holds, copied_from_rt}
-use Rattle.f11_flx.specs.CopyFromRt.{CopiesFromRt, FailsToCopyFromRt, FailsToMakeFile, IndexAfter, IsAsBefore, Making, as_file, making_of, new_id}
+use Rattle.f11_flx.specs.CopyFromRt.{CopiesFromRt, FailsToCopyFromRt, FailsToMakeFile, IndexAfter, IsAsBefore}
+use Rattle.f11_flx.specs.CopyFromRt.{Making, as_file, making_of, new_id}
 use Rattle.f11_flx.specs.declared.mode.CopyMode.{CopyMode}
 use Rattle.f11_flx.specs.declared.refusal.FlxRefusal.{FlxRefusal}
 

@@ -93,7 +93,8 @@ pub record EndsLines {V : Type 0} (S : Service V) (who : Who) (lun : ℕ) (s : T
     pub short : is_too_long s [] ≡ false
 
 -- A block of the rest was refused.
-pub record StopsAtEnd {V : Type 0} (S : Service V) (who : Who) (lun : ℕ) (s : ToRecords) (o : Out) (e : Refusal) (old new : V) : Type 0 where
+pub record StopsAtEnd {V : Type 0} (S : Service V) (who : Who) (lun : ℕ) (s : ToRecords) (o : Out) (e : Refusal)
+    (old new : V) : Type 0 where
   pub pieces : List (List ℕ)
   pub last : List ℕ
   pub between : V

@@ -32,20 +32,23 @@ pub record Plans {E : Type 0} {met : Ghosts E} (disk : E → Disk) (m : CopyMode
   pub plan : WhereContents disk name old (IsPlan m many blocks attr)
 
 -- It wasn't found.
-pub record IsNotRead {E : Type 0} {met : Ghosts E} (disk : E → Disk) (name : List ℕ) (e : RtRefusal) (old new : RtAccepted E met) : Type 0 where
+pub record IsNotRead {E : Type 0} {met : Ghosts E} (disk : E → Disk) (name : List ℕ) (e : RtRefusal)
+    (old new : RtAccepted E met) : Type 0 where
   pub looks : Looks disk (is_fault e) old new
   pub alive : has_failed old ≡ false → e ≢ Failed
   pub dead : has_failed old ≡ true → (e ≡ Failed) × (rt_disk disk new ≡ rt_disk disk old)
   pub why : IsSoundDisk (rt_disk disk old) → FailsToFindFile e name (rt_disk disk old)
 
 -- A line of it is too long.
-pub record IsTooLong {E : Type 0} {met : Ghosts E} (disk : E → Disk) (m : CopyMode) (name : List ℕ) (old new : RtAccepted E met) : Type 0 where
+pub record IsTooLong {E : Type 0} {met : Ghosts E} (disk : E → Disk) (m : CopyMode) (name : List ℕ)
+    (old new : RtAccepted E met) : Type 0 where
   pub looks : Looks disk false old new
   pub alive : has_failed old ≡ false
   pub file : IsSoundDisk (rt_disk disk old) → HasFile name (rt_store disk old)
   pub none : WhereContents disk name old (λ contents. copied_from_rt m contents ≡ None)
 
-abbrev pub FailsToPlan : {E : Type 0} {met : Ghosts E} → (E → Disk) → CopyMode → List ℕ → FlxRefusal → RtAccepted E met → RtAccepted E met → Type 0
+abbrev pub FailsToPlan : {E : Type 0} {met : Ghosts E} → (E → Disk) → CopyMode → List ℕ → FlxRefusal → RtAccepted E met →
+    RtAccepted E met → Type 0
 FailsToPlan disk m name (refusal.Files e) old new = ⊥
 FailsToPlan disk m name (refusal.Rt e) old new = IsNotRead disk name e old new
 FailsToPlan disk m name refusal.BadRecord old new = ⊥

@@ -39,7 +39,8 @@ abbrev pub KeepsDirectory : List ℕ → RtStore → RtStore → Type 0
 KeepsDirectory name t t' = (HasSameDirectory t t') ⊎ (IsMadeAndGone name t t')
 
 -- The volume fared as the refusal says; on a sound disk it has the files that it had, unless a device fault or Damaged was met.
-pub record LeavesRt {E : Type 0} {met : Ghosts E} (disk : E → Disk) (name : List ℕ) (e : FlxRefusal) (old new : RtAccepted E met) : Type 0 where
+pub record LeavesRt {E : Type 0} {met : Ghosts E} (disk : E → Disk) (name : List ℕ) (e : FlxRefusal)
+    (old new : RtAccepted E met) : Type 0 where
   pub fares : Fares disk (is_rt_fault e) old new
   pub sound : is_lethal e ≡ false → IsSoundDisk (rt_disk disk old) → IsSoundDisk (rt_disk disk new)
   pub same : is_lethal e ≡ false → IsSoundDisk (rt_disk disk old) → HasSameFiles name (rt_store disk old) (rt_store disk new)

@@ -29,7 +29,8 @@ WhereContents disk name v Holds =
     IsSoundDisk (rt_disk disk v) → (contents : List (List ℕ)) → HasContents name contents (rt_store disk v) → Holds contents
 
 -- The file was found, and has so many blocks.
-pub record FindsFile {E : Type 0} {met : Ghosts E} (disk : E → Disk) (name : List ℕ) (blocks : ℕ) (old new : RtAccepted E met) : Type 0 where
+pub record FindsFile {E : Type 0} {met : Ghosts E} (disk : E → Disk) (name : List ℕ) (blocks : ℕ)
+    (old new : RtAccepted E met) : Type 0 where
   pub looks : Looks disk false old new
   pub alive : has_failed old ≡ false
   pub file : IsSoundDisk (rt_disk disk old) → HasFile name (rt_store disk old)
@@ -37,7 +38,8 @@ pub record FindsFile {E : Type 0} {met : Ghosts E} (disk : E → Disk) (name : L
   pub whole : WhereContents disk name old (λ contents. All (λ b. length b ≡ 512) contents)
 
 -- It was not found.
-pub record FindsNoFile {E : Type 0} {met : Ghosts E} (disk : E → Disk) (name : List ℕ) (e : RtRefusal) (old new : RtAccepted E met) : Type 0 where
+pub record FindsNoFile {E : Type 0} {met : Ghosts E} (disk : E → Disk) (name : List ℕ) (e : RtRefusal)
+    (old new : RtAccepted E met) : Type 0 where
   pub looks : Looks disk (is_fault e) old new
   pub alive : has_failed old ≡ false → e ≢ Failed
   pub dead : has_failed old ≡ true → (e ≡ Failed) × (rt_disk disk new ≡ rt_disk disk old)
@@ -58,16 +60,16 @@ pub record FailsToReadPlace {E : Type 0} {met : Ghosts E} (disk : E → Disk) (n
   pub past : has_failed old ≡ false → is_fault e ≡ false → WhereContents disk name old (λ contents. length contents ≤ place)
 
 -- Its first blocks were read.
-pub record ReadsFirst {E : Type 0} {met : Ghosts E} (disk : E → Disk) (name : List ℕ) (blocks : List (List ℕ)) (old new : RtAccepted E met) :
-    Type 0
+pub record ReadsFirst {E : Type 0} {met : Ghosts E} (disk : E → Disk) (name : List ℕ) (blocks : List (List ℕ))
+    (old new : RtAccepted E met) : Type 0
   where
     pub looks : Looks disk false old new
     pub whole : All (λ b. length b ≡ 512) blocks
     pub are : WhereContents disk name old (λ contents. take (length blocks) contents ≡ blocks)
 
 -- They were, but for the last of so many: on a sound volume the file has fewer, unless a transfer fails.
-pub record StopsReading {E : Type 0} {met : Ghosts E} (disk : E → Disk) (name : List ℕ) (many : ℕ) (e : RtRefusal) (old new : RtAccepted E met) :
-    Type 0
+pub record StopsReading {E : Type 0} {met : Ghosts E} (disk : E → Disk) (name : List ℕ) (many : ℕ) (e : RtRefusal)
+    (old new : RtAccepted E met) : Type 0
   where
     pub looks : Looks disk (is_fault e) old new
     pub alive : has_failed old ≡ false → e ≢ Failed

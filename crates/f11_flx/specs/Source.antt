@@ -47,14 +47,16 @@ pub record HasNoLayout {V W : Type 0} (attr : List ℕ) (e : FlxRefusal) (old ne
   pub stays : new ≡ old
   pub left : t' ≡ t
 
-abbrev pub FailsAs : {V W : Type 0} → CopyMode → Service V → Taking W → Refusing W → Who → ℕ → List ℕ → List ℕ → ℕ → FlxRefusal → V → V → W → W → Type 0
+abbrev pub FailsAs : {V W : Type 0} → CopyMode → Service V → Taking W → Refusing W → Who → ℕ → List ℕ → List ℕ → ℕ → FlxRefusal →
+    V → V → W → W → Type 0
 FailsAs Image S K R who lun name attr blocks e old new t t' = FailsToCopyBlocks S K R who lun name (up_to_end attr blocks) e old new t t'
 FailsAs Text S K R who lun name attr blocks e old new t t' =
     (HasNoLayout attr e old new t t')
     ⊎ ((text : ToText) × (StartsText attr blocks text) × (FailsToCopyText S K R who lun name text (up_to_end attr blocks) e old new t t'))
 
 -- Attributes and length of the source were told.
-pub record TellsSource {V : Type 0} (S : Service V) (who : Who) (lun : ℕ) (source : FileId) (attr : List ℕ) (blocks : ℕ) (old new : V) : Type 0 where
+pub record TellsSource {V : Type 0} (S : Service V) (who : Who) (lun : ℕ) (source : FileId) (attr : List ℕ) (blocks : ℕ)
+    (old new : V) : Type 0 where
   pub of : Attr
   pub attr_is : of.attr ≡ attr
   pub asked : Granted S who (told (request.ReadAttr source) (reply.Attr of) ∷ counts lun blocks ∷ []) old new

@@ -32,7 +32,8 @@ pub record Fares {E : Type 0} {met : Ghosts E} (disk : E → Disk) (fault : Bool
 -- Blocks of the file of a name were written one after another, from this place on.
 abbrev pub Replaces : List ℕ → ℕ → List (List ℕ) → RtStore → RtStore → Type 0
 Replaces name place [] t t' = t' ≡ t
-Replaces name place (block ∷ more) t t' = (between : RtStore) × (HasReplaced name place block t between) × (Replaces name (suc place) more between t')
+Replaces name place (block ∷ more) t t' =
+    (between : RtStore) × (HasReplaced name place block t between) × (Replaces name (suc place) more between t')
 
 -- The first file of the name has so many blocks.
 pub record HasPlaces (name : List ℕ) (blocks : ℕ) (t : RtStore) : Type 0 where
@@ -42,7 +43,8 @@ pub record HasPlaces (name : List ℕ) (blocks : ℕ) (t : RtStore) : Type 0 whe
   pub blocks_are : length file.contents ≡ blocks
 
 -- A file was made.
-pub record Makes {E : Type 0} {met : Ghosts E} (disk : E → Disk) (name : List ℕ) (blocks day : ℕ) (old new : RtAccepted E met) : Type 0 where
+pub record Makes {E : Type 0} {met : Ghosts E} (disk : E → Disk) (name : List ℕ) (blocks day : ℕ)
+    (old new : RtAccepted E met) : Type 0 where
   pub fares : Fares disk false old new
   pub alive : has_failed old ≡ false
   pub few : blocks ≤ 65535
@@ -95,7 +97,8 @@ pub record RefusesBlock {E : Type 0} {met : Ghosts E} (disk : E → Disk) (name 
       (blocks : ℕ) → blocks ≤ 65535 → HasPlaces name blocks (rt_store disk old) → blocks ≤ place
 
 -- The file was not deleted: on a sound volume one that is there and isn't protected is, unless a transfer fails.
-pub record FailsDeleting {E : Type 0} {met : Ghosts E} (disk : E → Disk) (name : List ℕ) (e : RtRefusal) (old new : RtAccepted E met) : Type 0 where
+pub record FailsDeleting {E : Type 0} {met : Ghosts E} (disk : E → Disk) (name : List ℕ) (e : RtRefusal)
+    (old new : RtAccepted E met) : Type 0 where
   pub refused : Refused disk e old new
   pub protected : IsSoundDisk (rt_disk disk old) → has_failed old ≡ false → is_fault e ≡ false →
       (file : Area) (more : List Area) → files_named name (rt_store disk old) ≡ file ∷ more → file.protected ≡ true

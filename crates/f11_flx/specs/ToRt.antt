@@ -51,19 +51,23 @@ pub record LeavesIt {V : Type 0} (e answer : FlxRefusal) (old new : V) : Type 0 
   pub same : answer ≡ e
   pub stays : new ≡ old
 
-pub record DeletesIt {E : Type 0} {met : Ghosts E} (disk : E → Disk) (name : List ℕ) (e answer : FlxRefusal) (old new : RtAccepted E met) : Type 0 where
+pub record DeletesIt {E : Type 0} {met : Ghosts E} (disk : E → Disk) (name : List ℕ) (e answer : FlxRefusal)
+    (old new : RtAccepted E met) : Type 0 where
   pub clean : is_lethal e ≡ false
   pub same : answer ≡ e
   pub deleted : Deletes disk name old new
 
-pub record FailsToDeleteIt {E : Type 0} {met : Ghosts E} (disk : E → Disk) (name : List ℕ) (e answer : FlxRefusal) (old new : RtAccepted E met) : Type 0 where
+pub record FailsToDeleteIt {E : Type 0} {met : Ghosts E} (disk : E → Disk) (name : List ℕ) (e answer : FlxRefusal)
+    (old new : RtAccepted E met) : Type 0 where
   pub clean : is_lethal e ≡ false
   pub refusal : RtRefusal
   pub refused : FailsDeleting disk name refusal old new
   pub answer_is : ((is_fault refusal ≡ true) × (answer ≡ Rt refusal)) ⊎ ((is_fault refusal ≡ false) × (answer ≡ e))
 
-abbrev pub Undoes : {E : Type 0} {met : Ghosts E} → (E → Disk) → List ℕ → FlxRefusal → FlxRefusal → RtAccepted E met → RtAccepted E met → Type 0
-Undoes disk name e answer old new = (LeavesIt e answer old new) ⊎ ((DeletesIt disk name e answer old new) ⊎ (FailsToDeleteIt disk name e answer old new))
+abbrev pub Undoes : {E : Type 0} {met : Ghosts E} → (E → Disk) → List ℕ → FlxRefusal → FlxRefusal → RtAccepted E met →
+    RtAccepted E met → Type 0
+Undoes disk name e answer old new =
+    (LeavesIt e answer old new) ⊎ ((DeletesIt disk name e answer old new) ⊎ (FailsToDeleteIt disk name e answer old new))
 
 -- The access was given up, unless a device fault or Damaged had been met.
 pub record GivesItUp {V : Type 0} (S : Service V) (who : Who) (lun : ℕ) (e answer : FlxRefusal) (old new : V) : Type 0 where
@@ -78,7 +82,8 @@ pub record FailsToGiveItUp {V : Type 0} (S : Service V) (who : Who) (lun : ℕ) 
   pub answer_is : ((is_lethal (Files refusal) ≡ true) × (answer ≡ Files refusal)) ⊎ ((is_lethal (Files refusal) ≡ false) × (answer ≡ e))
 
 abbrev pub GaveUp : {V : Type 0} → Service V → Who → ℕ → FlxRefusal → FlxRefusal → V → V → Type 0
-GaveUp S who lun e answer old new = (LeavesIt e answer old new) ⊎ ((GivesItUp S who lun e answer old new) ⊎ (FailsToGiveItUp S who lun e answer old new))
+GaveUp S who lun e answer old new =
+    (LeavesIt e answer old new) ⊎ ((GivesItUp S who lun e answer old new) ⊎ (FailsToGiveItUp S who lun e answer old new))
 
 -- A file was made, and the source copied into it.
 pub record Fills {V E : Type 0} {met : Ghosts E} (m : CopyMode) (S : Service V) (disk : E → Disk) (who : Who) (lun : ℕ) (name attr : List ℕ)
@@ -96,8 +101,8 @@ pub record IsNotMade {V E : Type 0} {met : Ghosts E} (disk : E → Disk) (name :
   pub stays : new ≡ old
   pub fails : FailsMaking disk name count refusal rt rt'
 
-pub record IsUndone {V E : Type 0} {met : Ghosts E} (m : CopyMode) (S : Service V) (disk : E → Disk) (who : Who) (lun : ℕ) (name attr : List ℕ)
-    (blocks count day : ℕ) (e : FlxRefusal) (old new : V) (rt rt' : RtAccepted E met) : Type 0 where
+pub record IsUndone {V E : Type 0} {met : Ghosts E} (m : CopyMode) (S : Service V) (disk : E → Disk) (who : Who) (lun : ℕ)
+    (name attr : List ℕ) (blocks count day : ℕ) (e : FlxRefusal) (old new : V) (rt rt' : RtAccepted E met) : Type 0 where
   pub made : RtAccepted E met
   pub makes : Makes disk name count day rt made
   pub refusal : FlxRefusal
@@ -111,8 +116,8 @@ FailsToFill m S disk who lun name attr blocks count day e old new rt rt' =
     (IsNotMade disk name count e old new rt rt') ⊎ (IsUndone m S disk who lun name attr blocks count day e old new rt rt')
 
 -- The source, which is accessed, was copied: attributes and length were told, its blocks were counted, and the file made.
-pub record CopiesLocked {V E : Type 0} {met : Ghosts E} (m : CopyMode) (S : Service V) (disk : E → Disk) (who : Who) (lun : ℕ) (file : FileId)
-    (name : List ℕ) (count day : ℕ) (old new : V) (rt rt' : RtAccepted E met) : Type 0 where
+pub record CopiesLocked {V E : Type 0} {met : Ghosts E} (m : CopyMode) (S : Service V) (disk : E → Disk) (who : Who) (lun : ℕ)
+    (file : FileId) (name : List ℕ) (count day : ℕ) (old new : V) (rt rt' : RtAccepted E met) : Type 0 where
   pub attr : List ℕ
   pub blocks : ℕ
   pub seen : V
@@ -121,7 +126,8 @@ pub record CopiesLocked {V E : Type 0} {met : Ghosts E} (m : CopyMode) (S : Serv
   pub counted : CountsAs m S who lun name attr blocks count seen walked
   pub fills : Fills m S disk who lun name attr blocks count day walked new rt rt'
 
-pub record IsNotTold {V E : Type 0} (S : Service V) (who : Who) (lun : ℕ) (file : FileId) (e : FlxRefusal) (old new : V) (rt rt' : E) : Type 0 where
+pub record IsNotTold {V E : Type 0} (S : Service V) (who : Who) (lun : ℕ) (file : FileId) (e : FlxRefusal) (old new : V)
+    (rt rt' : E) : Type 0 where
   pub refusal : Refusal
   pub is : e ≡ Files refusal
   pub tells : TellsNothing S who lun file refusal old new
@@ -136,8 +142,8 @@ pub record IsNotCounted {V E : Type 0} (m : CopyMode) (S : Service V) (who : Who
   pub fails : FailsToCount m S who lun name attr blocks e seen new
   pub left : rt' ≡ rt
 
-pub record IsNotFilled {V E : Type 0} {met : Ghosts E} (m : CopyMode) (S : Service V) (disk : E → Disk) (who : Who) (lun : ℕ) (file : FileId)
-    (name : List ℕ) (day : ℕ) (e : FlxRefusal) (old new : V) (rt rt' : RtAccepted E met) : Type 0 where
+pub record IsNotFilled {V E : Type 0} {met : Ghosts E} (m : CopyMode) (S : Service V) (disk : E → Disk) (who : Who) (lun : ℕ)
+    (file : FileId) (name : List ℕ) (day : ℕ) (e : FlxRefusal) (old new : V) (rt rt' : RtAccepted E met) : Type 0 where
   pub attr : List ℕ
   pub blocks : ℕ
   pub count : ℕ
@@ -163,15 +169,16 @@ pub record CopiesFile {V E : Type 0} {met : Ghosts E} (m : CopyMode) (S : Servic
   pub closes : Grants S who (asks (request.Deaccess lun)) left new
 
 -- It could not be accessed;
-pub record IsNotOpened {V E : Type 0} (S : Service V) (who : Who) (lun : ℕ) (file : FileId) (e : FlxRefusal) (old new : V) (rt rt' : E) : Type 0 where
+pub record IsNotOpened {V E : Type 0} (S : Service V) (who : Who) (lun : ℕ) (file : FileId) (e : FlxRefusal) (old new : V)
+    (rt rt' : E) : Type 0 where
   pub refusal : Refusal
   pub is : e ≡ Files refusal
   pub denied : Denies S who (asks (request.Access file mode.Locked lun)) refusal old new
   pub left : rt' ≡ rt
 
 -- it was, but could not be copied, and was given up;
-pub record IsNotCopied {V E : Type 0} {met : Ghosts E} (m : CopyMode) (S : Service V) (disk : E → Disk) (who : Who) (lun : ℕ) (file : FileId)
-    (name : List ℕ) (day : ℕ) (e : FlxRefusal) (old new : V) (rt rt' : RtAccepted E met) : Type 0 where
+pub record IsNotCopied {V E : Type 0} {met : Ghosts E} (m : CopyMode) (S : Service V) (disk : E → Disk) (who : Who) (lun : ℕ)
+    (file : FileId) (name : List ℕ) (day : ℕ) (e : FlxRefusal) (old new : V) (rt rt' : RtAccepted E met) : Type 0 where
   pub opened : V
   pub opens : Grants S who (asks (request.Access file mode.Locked lun)) old opened
   pub refusal : FlxRefusal
@@ -180,8 +187,8 @@ pub record IsNotCopied {V E : Type 0} {met : Ghosts E} (m : CopyMode) (S : Servi
   pub gives : GaveUp S who lun refusal e stopped new
 
 -- or it was copied, but could not be given up, and the copy was undone.
-pub record IsNotClosed {V E : Type 0} {met : Ghosts E} (m : CopyMode) (S : Service V) (disk : E → Disk) (who : Who) (lun : ℕ) (file : FileId)
-    (name : List ℕ) (day : ℕ) (e : FlxRefusal) (old new : V) (rt rt' : RtAccepted E met) : Type 0 where
+pub record IsNotClosed {V E : Type 0} {met : Ghosts E} (m : CopyMode) (S : Service V) (disk : E → Disk) (who : Who) (lun : ℕ)
+    (file : FileId) (name : List ℕ) (day : ℕ) (e : FlxRefusal) (old new : V) (rt rt' : RtAccepted E met) : Type 0 where
   pub opened : V
   pub opens : Grants S who (asks (request.Access file mode.Locked lun)) old opened
   pub count : ℕ
@@ -192,8 +199,8 @@ pub record IsNotClosed {V E : Type 0} {met : Ghosts E} (m : CopyMode) (S : Servi
   pub denied : Denies S who (asks (request.Deaccess lun)) refusal left new
   pub undoes : Undoes disk name (Files refusal) e filled rt'
 
-abbrev pub FailsToCopyFile : {V E : Type 0} {met : Ghosts E} → CopyMode → Service V → (E → Disk) → Who → ℕ → FileId → List ℕ → ℕ → FlxRefusal →
-    V → V → RtAccepted E met → RtAccepted E met → Type 0
+abbrev pub FailsToCopyFile : {V E : Type 0} {met : Ghosts E} → CopyMode → Service V → (E → Disk) → Who → ℕ → FileId → List ℕ → ℕ →
+    FlxRefusal → V → V → RtAccepted E met → RtAccepted E met → Type 0
 FailsToCopyFile m S disk who lun file name day e old new rt rt' =
     (IsNotOpened S who lun file e old new rt rt')
     ⊎ ((IsNotCopied m S disk who lun file name day e old new rt rt') ⊎ (IsNotClosed m S disk who lun file name day e old new rt rt'))

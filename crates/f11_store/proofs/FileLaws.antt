@@ -14,7 +14,7 @@ use Rattle.f11_store.specs.declared.refusals.Refusal.TheVariants.{NoHeader}
 use Rattle.f11_store.specs.Store.{Store, file_named, id_held, file_held, is_accessed, free_slots, free_headers, least_free}
 use Rattle.f11_store.specs.Changes.{Truncates, Grows, next_sequence, with_file, with_marked_file, without_file_at, with_cut_file}
 use Rattle.f11_store.specs.Step.{Serves, next_id, block_at}
-use Rattle.f11_store.specs.Changes.{GetsSlots, Lengthens, with_slots_first, with_slots_if}
+use Rattle.f11_store.specs.Changes.{GetsSlots, Lengthens, with_slots_first, with_slots_added}
 use Rattle.f11_store.specs.Headroom.{slots_first}
 use Rattle.f11_store.specs.Lags.{last_of}
 use Rattle.f11_store.specs.SlotsFirst.{IsReady}
@@ -63,7 +63,7 @@ least_free_is_free s h =
     not_in_use true e = absurd (cc)
 
 -- the identification that Create answers is that of the store in which the file is made
-made_id : (s t : Store) (n : ℕ) → IsReady s n t → next_id (with_slots_if n s) ≡ next_id t
+pub made_id : (s t : Store) (n : ℕ) → IsReady s n t → next_id (with_slots_added n s) ≡ next_id t
 made_id s t n ready = sym (λ i.
     let slot : ℕ = slice_index (free-stays s t n ready i) 0 in
     record { number = slot; sequence = next_sequence (ready.last i slot); volume = 0 })

@@ -6,7 +6,7 @@ use Rattle.f11_store.specs.declared.files.FileId.{FileId}
 use Rattle.f11_store.specs.Store.{Store, Access, file_named, free_slots, free_headers}
 use Rattle.f11_store.specs.Causes.{create_causes, extend_causes, growth_causes}
 use Rattle.f11_store.specs.Headroom.{lacks_headers, slots_first}
-use Rattle.f11_store.specs.Changes.{AfterSlots, Extends, GetsSlots, Lengthens, MakesFile, with_slots_first, with_slots_if, Grows, GrowsIndex, Truncates, after_create}
+use Rattle.f11_store.specs.Changes.{AfterSlots, Extends, GetsSlots, Lengthens, MakesFile, with_slots_first, with_slots_added, Grows, GrowsIndex, Truncates, after_create}
 use Rattle.f11_store.specs.Lags.{after_slots, extend_work, lengthen_work, make_work, new_file_work, with_headers_first, Part, file_changes, file_appears, file_goes, slot_appears, with_part, with_parts, Work, LagsBy}
 use Rattle.f11_store.specs.Accesses.{with_accesses}
 
@@ -114,7 +114,7 @@ module _ (a : ℕ → ℕ → Option Access) where
   first-work-held s headers w = ap (λ (n : ℕ). after_slots n (with_accesses a s) w) (slots-held s headers) ∙ work-after (slots_first s headers) s w
 
   new-file-after : (n : ℕ) (s : Store) (caller : Uic) (word : ℕ) (ident attr : List ℕ) →
-      new_file_work (with_slots_if n (with_accesses a s)) caller word ident attr ≡ new_file_work (with_slots_if n s) caller word ident attr
+      new_file_work (with_slots_added n (with_accesses a s)) caller word ident attr ≡ new_file_work (with_slots_added n s) caller word ident attr
   unfolding free_slots
   new-file-after zero s caller word ident attr = refl
   new-file-after (suc n) s caller word ident attr = refl
@@ -122,7 +122,7 @@ module _ (a : ℕ → ℕ → Option Access) where
   pub make-work-held : (s : Store) (caller : Uic) (word : ℕ) (ident attr : List ℕ) →
       make_work (with_accesses a s) caller word ident attr ≡ make_work s caller word ident attr
   make-work-held s caller word ident attr =
-      ap (λ (n : ℕ). with_headers_first (with_accesses a s) 1 (new_file_work (with_slots_if n (with_accesses a s)) caller word ident attr)) (slots-held s 1)
+      ap (λ (n : ℕ). with_headers_first (with_accesses a s) 1 (new_file_work (with_slots_added n (with_accesses a s)) caller word ident attr)) (slots-held s 1)
       ∙ ap (with_headers_first (with_accesses a s) 1) (new-file-after (slots_first s 1) s caller word ident attr)
       ∙ first-work-held s 1 (new_file_work (with_slots_first s 1) caller word ident attr)
 

@@ -17,6 +17,7 @@ use Rattle.std.specs.List.{range_with_len}
 use Rattle.f11_store.specs.Changes.{Changes, with_marked_file, is_in, next_sequence, file_created, after_create, with_first_blocks, with_cut_file, with_grown_file, MayGrow, GrowsIndex, with_more_slots, with_delete_mark, with_end_after, with_entry_at_end, Extends, EntersAtEnd, EntersAt, with_change, with_block, with_entry, with_replacement, with_access, is_due, without_file_at, after_giving_up, after_deaccess, after_release}
 use Rattle.f11_store.specs.Lags.{file_changes, with_parts, with_part, SameLimits, Work, and_then, no_work, one_part, create_work, extend_work, grow_work, go_work, mark_work, end_work, append_work, enter_work, give_up_work, deaccess_work, release_work, served_work, work_if, work_of, with_no_mark, grow_parts, extend_parts, AreLike, last_of, LagsBy}
 use Rattle.f11_store.specs.Laws.{LagsItself, StepLags}
+use Rattle.f11_store.specs.Moments.{Did, DidLags}
 use Rattle.f11_store.proofs.Frees.{Frees, same_limits, frees_change, frees_access, frees_without_file, frees_deaccess, frees_release}
 use Rattle.f11_store.proofs.Growth.{alike, headers_taken, last_or_next, stays_unused, grown_alike, extend_and_slots, slots_one_by_one, room-file_named, StoresAlike, entry_at_end_alike}
 use Rattle.f11_store.proofs.RecordLemmas.{neither}
@@ -107,18 +108,32 @@ pub record Takes (s : Store) (meant : ℕ → Bool) (blocks headers : ℕ) (t : 
   pub slots : t.slots ≡ s.slots
   pub same : SameLimits s t
 
--- a store whose files are those with the parts done, and which takes what the work may take, lags
-pub takes_lags :
-    (work : Work) (s t : Store) → StoresAlike t (with_parts s work.parts) → t.slots ≡ (with_parts s work.parts).slots →
-    Takes s work.is_meant work.blocks work.headers t → LagsBy work t s
-takes_lags work s t files slots takes = record {
+-- all of the work done is a lag
+pub did_lags : DidLags
+did_lags work u s did = record {
   done = length work.parts;
-  files = λ n. rw (take-length work.parts) (files n);
-  slots = rw (take-length work.parts) slots;
+  files = λ n. rw (take-length work.parts) (did.files n);
+  slots = rw (take-length work.parts) did.slots;
+  others = did.others;
+  free_blocks = did.free_blocks;
+  headers = did.headers;
+  last = λ n h k. did.last n h;
+  no_header = did.no_header;
+  limits = did.limits;
+}
+
+-- the work of one that takes what it may, and keeps the slots
+pub did_taking :
+    (work : Work) (s t : Store) → StoresAlike t (with_parts s work.parts) → t.slots ≡ (with_parts s work.parts).slots →
+    Takes s work.is_meant work.blocks work.headers t → Did work t s
+did_taking work s t files slots takes = record {
+  files = files;
+  slots = slots;
+  no_fewer = omega (arith, takes.slots);
   others = takes.others;
   free_blocks = takes.free;
   headers = takes.slots_free;
-  last = λ n h k. subst (λ (q : ℕ). (t.last n ≡ q) ⊎ (t.last n ≡ next_sequence q)) (sym (there n h)) (takes.last n);
+  last = λ n h. subst (λ (q : ℕ). (t.last n ≡ q) ⊎ (t.last n ≡ next_sequence q)) (sym (there n h)) (takes.last n);
   no_header = λ e n h. takes.no_header e n ∙ sym (there n h);
   limits = takes.same;
 }
@@ -146,8 +161,7 @@ pub created_lags :
     (s : Store) (caller : Uic) (word : ℕ) (ident attr : List ℕ) →
     LagsBy (create_work (least_free s) (file_created s (least_free s) caller word ident attr)) (after_create s caller word ident attr) s
 created_lags s caller word ident attr =
-    takes_lags (create_work (least_free s) (file_created s (least_free s) caller word ident attr)) s after
-    (λ n. alike (after.file n)) refl (record {
+    did_lags work after s (did_taking work s after (λ n. alike (after.file n)) refl (record {
       others = λ n out. rw out refl;
       free = omega arith;
       slots_free = headers_taken s after (least_free s ∷ [])
@@ -156,8 +170,11 @@ created_lags s caller word ident attr =
       no_header = λ e. absurd (cc);
       slots = refl;
       same = same_limits refl refl refl;
-    })
+    }))
   where
+    work : Work
+    work = create_work (least_free s) (file_created s (least_free s) caller word ident attr)
+
     after : Store
     after = after_create s caller word ident attr
 
@@ -215,20 +232,6 @@ grown_takes s k n f blocks added pointers room less may h = record {
   slots = refl;
   same = same_limits refl refl refl;
 }
-
--- a file that grew
-pub extended_lags :
-    (s t : Store) (id : FileId) (n : ℕ) → Extends s id.number n t → LagsBy (extend_work id.number (file_named s id).room n) t s
-extended_lags s t id n grows =
-    subst (λ (x : Store). LagsBy (extend_work id.number (file_named s id).room n) x s) (sym grows.store_is)
-    (takes_lags (extend_work id.number (file_named s id).room n) s after
-    (grown_alike s id.number n grows.before grows.added grows.pointers grows.room grows.was)
-    (sym (extend_and_slots s id.number n))
-    (grown_takes s id.number n grows.before (zero_blocks n) grows.added grows.pointers grows.room (file_named s id).room
-    grows.may_grow (room-file_named s id grows.before grows.was)))
-  where
-    after : Store
-    after = with_grown_file s id.number grows.before n (zero_blocks n) grows.added grows.pointers grows.room
 
 -- the record at a directory's end
 pub entered_behind :

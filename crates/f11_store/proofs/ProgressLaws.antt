@@ -12,8 +12,8 @@ use Rattle.f11_store.specs.Changes.{next_sequence, with_change, with_grown_file,
 use Rattle.f11_store.specs.Lags.{Part, file_changes, file_appears, file_goes, slot_appears, with_part, with_parts, Work, no_work, extend_work, AreLike, last_of, LagsBy}
 use Rattle.f11_store.proofs.Frees.{Frees, same_limits, same_limits_then}
 use Rattle.f11_store.proofs.Growth.{alike, StoresAlike, grown_alike, extend_and_slots, room-file_named}
-use Rattle.f11_store.proofs.LagLaws.{free_headers_grow, grown_takes, last_there, Takes}
-use Rattle.f11_store.specs.Moments.{IsRespectful, AreRespectful, Did, MoreWorkLags, SameChangeLags, DidLags, LagsAfter, DidBoth, ChangeDid}
+use Rattle.f11_store.proofs.LagLaws.{did_taking, free_headers_grow, grown_takes, last_there}
+use Rattle.f11_store.specs.Moments.{IsRespectful, AreRespectful, Did, MoreWorkLags, SameChangeLags, LagsAfter, DidBoth, ChangeDid}
 
 pub more_work_lags : MoreWorkLags
 more_work_lags t s w v rest is meant blocks headers lags =
@@ -59,19 +59,6 @@ same_change_lags t s k f c e was same lags = record {
     slots_at zero h = h
     slots_at (suc zero) h = h
     slots_at (suc (suc n)) h = h
-
-pub did_lags : DidLags
-did_lags work u s did = record {
-  done = length work.parts;
-  files = λ n. rw (take-length work.parts) (did.files n);
-  slots = rw (take-length work.parts) did.slots;
-  others = did.others;
-  free_blocks = did.free_blocks;
-  headers = did.headers;
-  last = λ n h k. did.last n h;
-  no_header = did.no_header;
-  limits = did.limits;
-}
 
 -- files that are like the same are alike
 pub alike_then : (o p q : Option File) → AreLike o p → AreLike p q → AreLike o q
@@ -199,25 +186,6 @@ did_both w v t u s did none respects next = record {
   where
     more : AreAlike (with_parts u v.parts) (with_parts s (w.parts ++ v.parts))
     more = some_more s u w v.parts did.files did.slots respects
-
--- the work of one that takes what it may, and keeps the slots
-pub did_taking :
-    (work : Work) (s t : Store) → StoresAlike t (with_parts s work.parts) → t.slots ≡ (with_parts s work.parts).slots →
-    Takes s work.is_meant work.blocks work.headers t → Did work t s
-did_taking work s t files slots takes = record {
-  files = files;
-  slots = slots;
-  no_fewer = omega (arith, takes.slots);
-  others = takes.others;
-  free_blocks = takes.free;
-  headers = takes.slots_free;
-  last = λ n h. subst (λ (q : ℕ). (t.last n ≡ q) ⊎ (t.last n ≡ next_sequence q)) (sym (there n h)) (takes.last n);
-  no_header = λ e n h. takes.no_header e n ∙ sym (there n h);
-  limits = takes.same;
-}
-  where
-    there : (n : ℕ) → n ≤ t.slots → last_of s n ≡ s.last n
-    there n h = last_there s n (omega (arith, h, takes.slots))
 
 -- a file that grew
 pub extends_did : (u s : Store) (d : FileId) (n : ℕ) → Extends s d.number n u → Did (extend_work d.number (file_named s d).room n) u s

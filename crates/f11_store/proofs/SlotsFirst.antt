@@ -3,11 +3,11 @@ use Rattle.std.proofs.Common.{◌≡◌, ℕ, zero, suc, ◌+◌, ◌-◌, ◌�
 use Rattle.std.proofs.lemmas.Bool.Decides.{nat_tests}
 use Rattle.std.proofs.lemmas.List.Elements.{filter-append}
 use Rattle.f11_store.proofs.RangeLemmas.{range_with_len-append}
-use Rattle.f11_store.specs.Changes.{next_sequence, GetsSlots, Grows, GrowsIndex, MayGrow, grown_file, with_grown_file, with_more_slots, with_slots_if}
+use Rattle.f11_store.specs.Changes.{next_sequence, GetsSlots, Grows, GrowsIndex, MayGrow, grown_file, with_grown_file, with_more_slots, with_slots_added}
 use Rattle.f11_store.specs.File.{File, no_file, need}
 use Rattle.f11_store.specs.Headroom.{lacking, lacks_headers, may_get_slots, slots_first}
 use Rattle.f11_store.specs.Store.{Store, free_headers, free_slots, index_file}
-use Rattle.f11_store.specs.SlotsFirst.{EnoughAreFree, FirstMayBeAdded, GainedIsReady, GainingLags, HasNoOtherSlots, IsReady, ReadyLags, ReadyMayExtend}
+use Rattle.f11_store.specs.SlotsFirst.{EnoughAreFree, GainedIsReady, GainingLags, HasNoOtherSlots, IsReady, ReadyLags, ReadyMayExtend}
 use Rattle.f11_store.specs.Store.{Access, file_named, file_of, free_among, id_held, id_in, of_sequence}
 use Rattle.f11_store.specs.declared.callers.Uic.{Uic}
 use Rattle.f11_store.specs.Changes.{new_file}
@@ -177,17 +177,17 @@ pub held-stays : (s t : Store) (n task lun : ℕ) → IsReady s n t → id_held 
 held-stays s t n task lun ready = ap (λ (a : ℕ → ℕ → Option Access). id_in (a task lun)) ready.access
 
 -- the free slots are those of the store with as many slots
-pub free-stays : (s t : Store) (n : ℕ) → IsReady s n t → free_slots t ≡ free_slots (with_slots_if n s)
+pub free-stays : (s t : Store) (n : ℕ) → IsReady s n t → free_slots t ≡ free_slots (with_slots_added n s)
 unfolding free_slots
 free-stays s t n ready = (λ i. free_among (ready.slots i) (ready.in_use i)) ∙ sym (used n)
   where
-    used : (n : ℕ) → free_slots (with_slots_if n s) ≡ free_among (with_slots_if n s).slots s.in_use
+    used : (n : ℕ) → free_slots (with_slots_added n s) ≡ free_among (with_slots_added n s).slots s.in_use
     used zero = refl
     used (suc n) = refl
 
 -- so a new file is the same
 pub new-file-stays : (s t : Store) (n : ℕ) (caller : Uic) (word : ℕ) (ident attr : List ℕ) → IsReady s n t
-    → new_file_work t caller word ident attr ≡ new_file_work (with_slots_if n s) caller word ident attr
+    → new_file_work t caller word ident attr ≡ new_file_work (with_slots_added n s) caller word ident attr
 new-file-stays s t n caller word ident attr ready = λ i.
     let slot : ℕ = slice_index (free-stays s t n ready i) 0 in
     create_work slot (new_file slot (next_sequence (ready.last i slot)) caller word ident attr)
@@ -289,7 +289,7 @@ ready-free : (s t : Store) (n : ℕ) → HasNoOtherSlots s → IsReady s n t →
 unfolding free_slots
 ready-free s t n has ready = ap length (free-stays s t n ready) ∙ by_count n
   where
-    by_count : (n : ℕ) → free_headers (with_slots_if n s) ≡ free_headers s + n
+    by_count : (n : ℕ) → free_headers (with_slots_added n s) ≡ free_headers s + n
     by_count zero = omega arith
     by_count (suc n) = added-free s (suc n) has
 
@@ -298,23 +298,6 @@ unfolding slots_first
 enough-are-free s t headers has lacks gains =
     let all : slots_first s headers ≡ lacking s headers = rw lacks refl in
     omega (arith, ready-free s t (slots_first s headers) has (gained-is-ready s t headers gains), all)
-
-pub first-may-be-added : FirstMayBeAdded
-first-may-be-added s headers n held is blocks =
-    let fits = first-fit s headers in
-    let places : suc n ≤ (index_file s).room = omega (arith, fits.places, is) in
-    let none : need (index_file s).room (suc n) ≡ 0 = none-needed (index_file s).room (suc n) places in (
-      rw none (none-holds (length (index_file s).held) (suc n) s.free (free_headers s) held blocks),
-      omega (arith, fits.within (omega (arith, is)), is),
-    )
-  where
-    none-holds : (h m free headers : ℕ) → h ≤ 256 → m ≤ free →
-        first_of ((TooManySegments ⇐ nat_lt 256 (h + 0)) ∷ (DeviceFull ⇐ nat_lt free m) ∷ (NoHeader ⇐ nat_lt headers 0) ∷ []) ≡ None
-    none-holds h m free headers few enough =
-        let one : nat_lt 256 (h + 0) ≡ false = grind (arith, nat_tests, few) in
-        let two : nat_lt free m ≡ false = grind (arith, nat_tests, enough) in
-        let three : nat_lt headers 0 ≡ false = grind (arith, nat_tests) in
-        rw (one, two, three) refl
 
 pub ready-may-extend : ReadyMayExtend
 ready-may-extend s t n f gains enough none =

@@ -20,10 +20,10 @@ use Rattle.f11_store.specs.Laws.{NoneHoldsIndex, StepLags}
 use Rattle.f11_store.specs.Causes.{is_bad}
 use Rattle.f11_store.specs.Changes.{MakesFile, with_slots_first}
 use Rattle.f11_store.specs.Moments.{Did}
-use Rattle.f11_store.proofs.ProgressLaws.{did_both, did_lags, frees_did}
+use Rattle.f11_store.proofs.ProgressLaws.{did_both, frees_did}
 use Rattle.f11_store.specs.Headroom.{slots_first}
 use Rattle.f11_store.specs.Lags.{lengthen_work, make_work, new_file_work}
-use Rattle.f11_store.proofs.LagLaws.{change_lags, created_lags, cut_lags, entered_behind, frees_lags, gone_lags, grown_lags, unchanged_lags, work_served}
+use Rattle.f11_store.proofs.LagLaws.{change_lags, created_lags, cut_lags, did_lags, entered_behind, frees_lags, gone_lags, grown_lags, unchanged_lags, work_served}
 use Rattle.f11_store.proofs.Respects.{end_respectful}
 use Rattle.f11_store.proofs.SlotsFirst.{gained-is-ready, lengthens-did, new-file-stays, no_index, ready-lags}
 use Rattle.f11_store.proofs.StoreLemmas.{none_first, none_rest}

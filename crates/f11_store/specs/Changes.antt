@@ -174,12 +174,12 @@ abbrev pub Lengthens : Store → FileId → ℕ → Store → Type 0
 Lengthens s f n s' = AfterSlots s (need (file_named s f).room n) (λ t. Extends t f.number n s')
 
 -- as much of it as each such growth makes: the slots that are there then
-abbrev pub with_slots_if : ℕ → Store → Store
-with_slots_if zero s = s
-with_slots_if (suc n) s = with_more_slots s (suc n)
+abbrev pub with_slots_added : ℕ → Store → Store
+with_slots_added zero s = s
+with_slots_added (suc n) s = with_more_slots s (suc n)
 
 abbrev pub with_slots_first : Store → ℕ → Store
-with_slots_first s headers = with_slots_if (slots_first s headers) s
+with_slots_first s headers = with_slots_added (slots_first s headers) s
 
 -- the file with its first blocks alone
 abbrev pub with_first_blocks : ℕ → File → File

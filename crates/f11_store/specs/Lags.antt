@@ -11,7 +11,8 @@ use Rattle.f11_store.specs.File.{File, without_contiguous, need, zero_blocks}
 use Rattle.f11_store.specs.Store.{Store, Access, file_named, id_held, file_held, index_file, least_free, free_headers, is_accessed}
 use Rattle.f11_store.specs.Directory.{index_of_empty, entry_count, needs_block, record_bytes, empty_record, index_of_name}
 use Rattle.f11_store.specs.Causes.{first_refusal}
-use Rattle.f11_store.specs.Changes.{is_in, next_sequence, with_file, with_change, file_created, with_access, is_due, after_deaccess, with_slots_first}
+use Rattle.f11_store.specs.Changes.{is_in, next_sequence, with_file, with_change, file_created, with_access, is_due}
+use Rattle.f11_store.specs.Changes.{after_deaccess, with_slots_first}
 use Rattle.f11_store.specs.Headroom.{slots_first}
 use Rattle.f11_store.specs.Changes.{with_delete_mark, with_first_blocks, with_block, with_entry, with_end_after, with_replacement}
 

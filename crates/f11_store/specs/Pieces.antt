@@ -1,5 +1,6 @@
 -- How a file grows piece by piece, the index file or another, and what stands meanwhile (profile).
-use Rattle.std.specs.Prelude.{◌≡◌, ◌≢◌, ◌⊎◌, ℕ, ◌+◌, ◌-◌, ◌≤◌, ◌==◌, Bool, false, IsTrue, Some, None, unwrap_or, List, ◌++◌, [], if◌then◌else◌}
+use Rattle.std.specs.Prelude.{◌≡◌, ◌≢◌, ◌⊎◌, ℕ, ◌+◌, ◌-◌, ◌≤◌, ◌==◌, Bool, false, IsTrue, Some, None, unwrap_or}
+use Rattle.std.specs.Prelude.{List, ◌++◌, [], if◌then◌else◌}
 use Rattle.f11_store.specs.Causes.{first_of, growth_causes}
 use Rattle.f11_store.specs.Changes.{next_sequence, with_change, with_more_slots, Extends, Grows, GrowsIndex}
 use Rattle.f11_store.specs.File.{File, no_file, need, without_contiguous, zero_blocks}

@@ -1,7 +1,7 @@
 -- What the index file's growth makes of a store before headers are taken, and what stands meanwhile (profile).
 use Rattle.std.specs.Prelude.{◌≡◌, ℕ, suc, ◌-◌, ◌+◌, ◌<◌, ◌≤◌, ◌==◌, false, length, None}
 use Rattle.f11_store.specs.Causes.{first_of, extend_causes, growth_causes}
-use Rattle.f11_store.specs.Changes.{GetsSlots, GrowsIndex, with_slots_if}
+use Rattle.f11_store.specs.Changes.{GetsSlots, GrowsIndex, with_slots_added}
 use Rattle.f11_store.specs.File.{File, need}
 use Rattle.f11_store.specs.Headroom.{lacks_headers, slots_first}
 use Rattle.f11_store.specs.Lags.{Part, SameLimits, Work, LagsBy, grow_work, with_headers_first}
@@ -12,9 +12,9 @@ use Rattle.f11_store.specs.Store.{Store, free_headers, index_file}
 pub record IsReady (s : Store) (n : ℕ) (t : Store) : Type 0 where
   pub others : (m : ℕ) → (m == 1) ≡ false → t.file m ≡ s.file m
   pub free : t.free ≡ s.free - n
-  pub slots : t.slots ≡ (with_slots_if n s).slots
+  pub slots : t.slots ≡ (with_slots_added n s).slots
   pub in_use : t.in_use ≡ s.in_use
-  pub last : t.last ≡ (with_slots_if n s).last
+  pub last : t.last ≡ (with_slots_added n s).last
   pub access : t.access ≡ s.access
   pub limits : SameLimits s t
 
@@ -44,12 +44,6 @@ abbrev pub EnoughAreFree : Type 0
 EnoughAreFree =
     (s t : Store) (headers : ℕ) → HasNoOtherSlots s → lacks_headers s headers ≡ false → GetsSlots (slots_first s headers) s t →
     headers ≤ free_headers t
-
--- the slots that come first may be added where the blocks for them are free: they need no header
-abbrev pub FirstMayBeAdded : Type 0
-FirstMayBeAdded =
-    (s : Store) (headers n : ℕ) → length (index_file s).held ≤ 256 → slots_first s headers ≡ suc n → suc n ≤ s.free →
-    (first_of (growth_causes s (index_file s) (suc n)) ≡ None) × (s.slots + suc n ≤ s.limit)
 
 -- once they are, a file may grow by as many blocks as may be asked for
 abbrev pub ReadyMayExtend : Type 0

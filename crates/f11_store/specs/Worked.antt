@@ -311,7 +311,8 @@ crowded_with limit free = record crowded_volume { limit = limit; free = free }
 abbrev pub SlotsRunOut : Type 0
 SlotsRunOut =
     MayAnswer (crowded_with 16 174) (asks 0 create ∷ asks 0 (request.Extend 0 1) ∷ []) (no refusal.NoHeader ∷ no refusal.NoHeader ∷ [])
-    × MayAnswer (crowded_with 4000 0) (asks 0 create ∷ asks 0 (request.Extend 2 1) ∷ []) (no refusal.DeviceFull ∷ no refusal.DeviceFull ∷ [])
+    × MayAnswer (crowded_with 4000 0) (asks 0 create ∷ asks 0 (request.Extend 2 1) ∷ [])
+    (no refusal.DeviceFull ∷ no refusal.DeviceFull ∷ [])
     × MayAnswer (crowded_with 4000 1) (asks 0 (request.Extend 0 1) ∷ []) (no refusal.DeviceFull ∷ [])
     × MayAnswer crowded_volume (asks 0 create ∷ asks 0 (request.Extend 0 1) ∷ []) (no refusal.NoMemory ∷ no refusal.NoMemory ∷ [])
 

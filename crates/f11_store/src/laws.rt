@@ -97,9 +97,8 @@ pub fn slots_first()
     ensures lags { slots_first.ReadyLags }
 {}
 
-/// What may be done then: the slots added, and after them what takes headers.
+/// What may be done then: what takes headers.
 pub fn headers_for()
-    ensures added { slots_first.FirstMayBeAdded }
     ensures enough { slots_first.EnoughAreFree }
     ensures extend { slots_first.ReadyMayExtend }
 {}

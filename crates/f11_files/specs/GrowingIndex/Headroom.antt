@@ -38,8 +38,8 @@ pub record ReadiesHeaders (home : HomeFields) (headers n : ℕ) (old new : Disk)
 abbrev pub FailsToReady : Bool → HomeFields → ℕ → ℕ → Refusal → Disk → Disk → Type 0
 FailsToReady failed home headers n refusal old new =
     let s = store_of old.image home in
-    FailsOrWants (gets_slots (slots_first s headers)) failed (header_causes s headers n) (slots_cost s headers) (ready_work s headers) home refusal
-    old new
+    FailsOrWants (gets_slots (slots_first s headers)) failed (header_causes s headers n) (slots_cost s headers) (ready_work s headers) home
+    refusal old new
 
 -- Where the index file gets n slots, no block is changed but its headers, new ones, the bitmaps, and blocks that were free.
 abbrev pub ConfinesSlots : ℕ → HomeFields → Disk → Disk → Type 0

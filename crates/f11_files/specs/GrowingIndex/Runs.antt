@@ -45,8 +45,8 @@ GrowsHeld home n old new =
 abbrev pub FailsToGrowHeld : HomeFields → ℕ → Refusal → Disk → Disk → Type 0
 FailsToGrowHeld home n refusal old new =
     let s = store_of old.image home in
-    FailsOrWants true false [] (growth_cost s (index_file s) n - header_count (index_file s)) (grow_work (index_file s).room n) home refusal old
-    new
+    FailsOrWants true false [] (growth_cost s (index_file s) n - header_count (index_file s)) (grow_work (index_file s).room n) home
+    refusal old new
 
 -- and so many there are then
 abbrev pub IsSlotsAfter : HomeFields → ℕ → Disk → ℕ → Type 0
