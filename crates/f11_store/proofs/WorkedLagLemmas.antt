@@ -1,11 +1,13 @@
 -- What is no lag, computed.
-use Rattle.std.proofs.Common.{◌≡◌, ℕ, zero, suc, ◌+◌, ◌≤◌, Some, None, take, refl, ap, arith}
+use Rattle.std.proofs.Common.{◌≡◌, ℕ, zero, suc, ◌+◌, ◌≤◌, List, [], length, Some, None, take, refl, ap, arith}
+use Rattle.f11_store.specs.declared.requests.Request.TheVariants as request
 use Rattle.f11_store.specs.File.{File, zero_blocks}
 use Rattle.f11_store.specs.Headroom.{lacks_headers, slots_first}
 use Rattle.f11_store.specs.Store.{free_slots, is_held}
 use Rattle.f11_store.specs.Changes.{with_delete_mark}
-use Rattle.f11_store.specs.Lags.{LagsBy, AreLike, with_parts, extend_parts, grow_parts, grow_work}
-use Rattle.f11_store.specs.WorkedLags.{CreateTakesOneHeader, ExtendTakesWhatItAsks, GrowIndexClearsFirst, DeleteLeavesOthers, ReleaseFreesOnce, a_file, contiguous_index}
+use Rattle.f11_store.specs.Lags.{Part, LagsBy, AreLike, IsLike, work_of, with_parts, extend_parts, grow_parts, grow_work}
+use Rattle.f11_store.specs.Worked.{first_user, crowded_volume, create}
+use Rattle.f11_store.specs.WorkedLags.{CreateTakesOneHeader, ExtendTakesWhatItAsks, GrowIndexClearsFirst, DeleteLeavesOthers, ReleaseFreesOnce, CreateGetsSlotFirst, ExtendGetsSlotFirst, a_file, contiguous_index, file_without_slot, block_without_slot}
 
 -- pointers that differ in two files said to be one
 no_pointers : {f g : File} → Some f ≡ Some g → f.pointers ≡ g.pointers
@@ -51,4 +53,56 @@ release_frees_once = record {
   once = refl;
   accessed = λ lags. let gone : None ≡ Some (with_delete_mark a_file) = lags.others 6 refl in absurd (cc);
   others = λ lags. let same : 1 ≡ 0 = no_pointers (lags.others 5 refl) in omega (arith, same);
+}
+
+-- a file is there after its slot alone
+no_file_yet : LagsBy (work_of crowded_volume 0 first_user create []) file_without_slot crowded_volume → ⊥
+unfolding free_slots lacks_headers slots_first grow_parts
+no_file_yet lags = by_number lags.done lags.slots (lags.files 17)
+  where
+    parts : List Part
+    parts = (work_of crowded_volume 0 first_user create []).parts
+
+    by_number : (done : ℕ) → 16 ≡ (with_parts crowded_volume (take done parts)).slots →
+        AreLike (file_without_slot.file 17) ((with_parts crowded_volume (take done parts)).file 17) → ⊥
+    by_number zero slots like = like
+    by_number (suc zero) slots like = like
+    by_number (suc (suc zero)) slots like = like
+    by_number (suc (suc (suc zero))) slots like = let same : 16 ≡ 17 = slots in omega (arith, same)
+    by_number (suc (suc (suc (suc n)))) slots like = let same : 16 ≡ 17 = slots in omega (arith, same)
+
+pub create_gets_slot_first : CreateGetsSlotFirst
+unfolding free_slots is_held lacks_headers slots_first
+create_gets_slot_first = record {
+  blocks = λ lags. let few : 174 ≤ 172 + 1 = lags.free_blocks in omega (arith, few);
+  others = λ lags. let same : 1 ≡ 0 = no_pointers (lags.others 5 refl) in omega (arith, same);
+  order = λ lags. no_file_yet lags;
+}
+
+-- a block is there after the slot for its header alone
+no_block_yet : LagsBy (work_of crowded_volume 0 first_user (request.Extend 0 1) []) block_without_slot crowded_volume → ⊥
+unfolding free_slots is_held zero_blocks lacks_headers slots_first grow_parts extend_parts
+no_block_yet lags = by_number lags.done lags.slots (lags.files 6)
+  where
+    parts : List Part
+    parts = (work_of crowded_volume 0 first_user (request.Extend 0 1) []).parts
+
+    no_blocks : {f g : File} → IsLike f g → length f.blocks ≡ 1 → length g.blocks ≡ 0 → ⊥
+    no_blocks {f} {g} like one none = let same : length f.blocks ≡ length g.blocks = ap (λ (bs : List (List ℕ)). length bs) like.blocks in omega (arith, same, one, none)
+
+    by_number : (done : ℕ) → 16 ≡ (with_parts crowded_volume (take done parts)).slots →
+        AreLike (block_without_slot.file 6) ((with_parts crowded_volume (take done parts)).file 6) → ⊥
+    by_number zero slots like = no_blocks like refl refl
+    by_number (suc zero) slots like = no_blocks like refl refl
+    by_number (suc (suc zero)) slots like = let same : 16 ≡ 17 = slots in omega (arith, same)
+    by_number (suc (suc (suc zero))) slots like = let same : 16 ≡ 17 = slots in omega (arith, same)
+    by_number (suc (suc (suc (suc zero)))) slots like = let same : 16 ≡ 17 = slots in omega (arith, same)
+    by_number (suc (suc (suc (suc (suc n))))) slots like = let same : 16 ≡ 17 = slots in omega (arith, same)
+
+pub extend_gets_slot_first : ExtendGetsSlotFirst
+unfolding free_slots is_held zero_blocks lacks_headers slots_first
+extend_gets_slot_first = record {
+  blocks = λ lags. let few : 174 ≤ 171 + 2 = lags.free_blocks in omega (arith, few);
+  others = λ lags. let same : 1 ≡ 0 = no_pointers (lags.others 5 refl) in omega (arith, same);
+  order = λ lags. no_block_yet lags;
 }

@@ -2,6 +2,7 @@
 use Rattle.std.proofs.Common.{◌≡◌, ◌≤◌, ℕ, List, [], Some, None, refl, sym, subst, arith}
 use Rattle.f11_store.specs.declared.callers.Uic.{Uic}
 use Rattle.f11_store.specs.declared.refusals.Refusal.{Refusal}
+use Rattle.f11_store.specs.declared.refusals.Refusal.TheVariants.{NoHeader, NoMemory}
 use Rattle.f11_store.specs.declared.requests.Request.{Request}
 use Rattle.f11_store.specs.File.{File, zero_block, zero_blocks, stated_end}
 use Rattle.f11_store.specs.Store.{Store, free_slots, is_held}
@@ -9,7 +10,7 @@ use Rattle.f11_store.specs.Directory.{is_directory, record_at, entries_of, has_n
 use Rattle.f11_store.specs.Causes.{first_refusal}
 use Rattle.f11_store.specs.Changes.{Changes, MayGrow, Grows, with_grown_file}
 use Rattle.f11_store.specs.Step.{MayRefuse, Refuses, Serves, reply_of, block_after}
-use Rattle.f11_store.specs.Worked.{own_records, mfd_block, crowded_block, SequenceNumbers, FullVolume, TooLong, DeferredDelete, TruncatedUnderAReader, Conflicts, EnteredAndRemoved, EnteredInNewBlock, EndMoves, HeadersRunOut, SlotsRunOut, Bounds}
+use Rattle.f11_store.specs.Worked.{own_records, mfd_block, crowded_block, SequenceNumbers, FullVolume, TooLong, DeferredDelete, TruncatedUnderAReader, Conflicts, EnteredAndRemoved, EnteredInNewBlock, EnteredBehindSlot, EndMoves, HeadersRunOut, SlotsRunOut, RefusedForSlotsAlone, Bounds, BoundsBehindSlots}
 use Rattle.f11_store.specs.Changes.{AfterSlots, GetsSlots, GrowsIndex, with_more_slots}
 use Rattle.f11_store.specs.Headroom.{lacks_headers, slots_first}
 use Rattle.f11_store.specs.Store.{free_headers}
@@ -100,6 +101,16 @@ unfolding free_slots is_held zero_blocks lacks_headers slots_first
 slots_run_out =
     ((_, (_, refused refl, (_, refused refl, refl))), (_, (_, refused refl, (_, refused refl, refl))), (_, (_, refused refl, refl)), (_, (_, refused refl, (_, refused refl, refl))))
 
+pub refused_for_slots_alone : RefusedForSlotsAlone
+unfolding free_slots is_held zero_blocks lacks_headers slots_first stated_end is_directory record_at entries_of has_name record_bytes with_end own_records mfd_block
+refused_for_slots_alone = record {
+  free_header = λ s' block' h. h.may_refuse;
+  room_left = λ s' block' h. h.may_refuse;
+  empty_record = λ s' block' h. h.may_refuse;
+  no_slot = λ s' block' h. let same : NoMemory ≡ NoHeader = h.may_refuse in absurd (cc);
+  slot_first = λ s' block' h. let same : NoHeader ≡ NoMemory = h.may_refuse in absurd (cc);
+}
+
 pub entered_and_removed : EnteredAndRemoved
 unfolding free_slots is_held zero_blocks lacks_headers slots_first stated_end is_directory record_at entries_of has_name record_bytes with_record with_end own_records mfd_block
 entered_and_removed =
@@ -109,6 +120,11 @@ pub entered_in_new_block : EnteredInNewBlock
 unfolding free_slots is_held zero_blocks lacks_headers slots_first zero_block stated_end is_directory record_at entries_of has_name record_bytes with_record with_end own_records crowded_block
 entered_in_new_block =
     (_, (_, refused refl, (_, served refl (_, at_once refl (omega arith) (grows 0 2 100 refl (record { headers = omega arith; no_fewer = omega arith; no_more = omega arith; places = refl; filled = λ h. omega arith })), refl), (_, served refl refl, (_, served refl refl, (_, served refl refl, refl))))))
+
+pub entered_behind_slot : EnteredBehindSlot
+unfolding free_slots is_held zero_blocks lacks_headers slots_first zero_block stated_end is_directory record_at entries_of has_name record_bytes with_record with_end own_records crowded_block
+entered_behind_slot =
+    (_, (_, served refl (_, after_slot refl (slot_more 2 100 refl (record { headers = omega arith; no_fewer = omega arith; no_more = omega arith; places = refl; filled = λ h. omega arith })) (omega arith) (grows 1 103 101 refl (record { headers = omega arith; no_fewer = omega arith; no_more = omega arith; places = refl; filled = λ h. omega arith })), refl), (_, served refl refl, (_, served refl refl, (_, served refl refl, refl)))))
 
 pub end_moves : EndMoves
 unfolding with_end
@@ -127,4 +143,14 @@ bounds = record {
   read = refl;
   close = refl;
   release = refl;
+}
+
+pub bounds_behind_slots : BoundsBehindSlots
+unfolding stated_end with_end free_slots is_directory entries_of record_at mfd_block crowded_block own_records record_bytes
+bounds_behind_slots = record {
+  made = refl;
+  not_made = refl;
+  extended = refl;
+  entered_in_place = refl;
+  entered = refl;
 }

@@ -17,6 +17,7 @@ use Rattle.f11_store.specs.Directory.{word_bytes, record_bytes, with_end}
 use Rattle.f11_store.specs.Changes.{new_file}
 use Rattle.f11_store.specs.Cost.{cost}
 use Rattle.f11_store.specs.Run.{Call, Answer, Run}
+use Rattle.f11_store.specs.Step.{Step}
 
 -- the user [1,1], who is of the system class, and the user [200,1], who isn't
 abbrev pub first_user : Uic
@@ -316,6 +317,39 @@ SlotsRunOut =
     × MayAnswer (crowded_with 4000 1) (asks 0 (request.Extend 0 1) ∷ []) (no refusal.DeviceFull ∷ [])
     × MayAnswer crowded_volume (asks 0 create ∷ asks 0 (request.Extend 0 1) ∷ []) (no refusal.NoMemory ∷ no refusal.NoMemory ∷ [])
 
+-- the crowded volume with the crowded directory in place of its own, whose header has no room
+abbrev pub crowded_everywhere : Store
+crowded_everywhere = record crowded_volume {
+  file = λ n. if n == 4 then Some (own_file 4 mfd (directory_attr 32) 102 (crowded_block ∷ [])) else crowded_volume.file n;
+}
+
+-- a record for which the directory takes a block, that block a header, and that header a slot
+abbrev pub EnteredBehindSlot : Type 0
+EnteredBehindSlot =
+    MayAnswer crowded_everywhere
+    (asks 0 (request.Enter (id 4 4) (n_txt 34) (id 7 1)) ∷ asks 0 (request.Find (id 4 4) (n_txt 34))
+    ∷ asks 0 (request.ReadAttr (id 4 4)) ∷ asks 0 request.Space ∷ [])
+    (gets reply.Done ∷ gets (reply.Found (id 7 1))
+    ∷ gets (reply.Attr (record {
+      owner = first_user;
+      protection = 57344;
+      characteristics = 0;
+      ident = ident_of mfd;
+      attr = with_end (directory_attr 32) 2 528;
+    })) ∷ gets (reply.Space 172 0 17) ∷ [])
+
+-- the first user's request, as task 0, is never refused so
+abbrev pub IsNoRefusal : Store → Request → Refusal → Type 0
+IsNoRefusal s r e = (s' : Store) (block' : List ℕ) → Step s 0 first_user r [] (Err e) s' block' → ⊥
+
+-- want of memory is answered where a slot comes first and nothing else stands against the request, and no header where no slot can come
+pub record RefusedForSlotsAlone : Type 0 where
+  pub free_header : IsNoRefusal small_volume create refusal.NoMemory
+  pub room_left : IsNoRefusal crowded_volume (request.Extend 2 3) refusal.NoMemory
+  pub empty_record : IsNoRefusal crowded_volume (request.Enter (id 4 4) a_txt (id 6 1)) refusal.NoMemory
+  pub no_slot : IsNoRefusal (crowded_with 16 174) create refusal.NoMemory
+  pub slot_first : IsNoRefusal crowded_volume create refusal.NoHeader
+
 -- bounds on the transfers of requests: one bitmap block, one index bitmap block, files of one header, a
 -- directory of one block
 pub record Bounds : Type 0 where
@@ -329,3 +363,11 @@ pub record Bounds : Type 0 where
   pub read : cost crowded_volume 0 (request.ReadBlock 0 1) ≡ 2
   pub close : cost crowded_volume 0 (request.Deaccess 0) ≡ 0
   pub release : cost crowded_volume 0 request.Release ≡ 0
+
+-- the same where no header is free: a slot's bound is added, whether or not it may come, and none where no header is taken
+pub record BoundsBehindSlots : Type 0 where
+  pub made : cost crowded_volume 0 create ≡ 29
+  pub not_made : cost (crowded_with 16 174) 0 create ≡ 29
+  pub extended : cost crowded_volume 0 (request.Extend 0 1) ≡ 50
+  pub entered_in_place : cost crowded_volume 0 (request.Enter (id 4 4) a_txt (id 6 1)) ≡ 34
+  pub entered : cost crowded_everywhere 0 (request.Enter (id 4 4) a_txt (id 6 1)) ≡ 59

@@ -1,14 +1,14 @@
 -- Worked examples of what no request may leave behind, on a small volume.
-use Rattle.std.specs.Prelude.{◌≡◌, ℕ, ◌==◌, ◌&&◌, ◌||◌, nat_lt, Bool, true, false, [], ◌∷◌, Option, Some, None, if◌then◌else◌}
+use Rattle.std.specs.Prelude.{◌≡◌, ℕ, ◌==◌, ◌&&◌, ◌||◌, nat_lt, Bool, true, false, [], ◌∷◌, Option, Some, None, option_map, if◌then◌else◌}
 use Rattle.f11_store.specs.declared.files.Mode.TheVariants as mode
 use Rattle.f11_store.specs.declared.requests.Request.{Request}
 use Rattle.f11_store.specs.declared.requests.Request.TheVariants as request
 use Rattle.f11_store.specs.File.{File}
 use Rattle.f11_store.specs.Store.{Store}
 use Rattle.f11_store.specs.Changes.{new_file, with_delete_mark}
-use Rattle.f11_store.specs.Lags.{Lags, file_goes, work_of}
+use Rattle.f11_store.specs.Lags.{Lags, file_goes, with_zero_block, work_of}
 use Rattle.f11_store.specs.Worked.{first_user, id, a_txt, corimg, indexf, ident_of, no_attr, empty_attr, full_attr}
-use Rattle.f11_store.specs.Worked.{own_file, own_files, small_volume, create}
+use Rattle.f11_store.specs.Worked.{own_file, own_files, small_volume, crowded_volume, create}
 
 -- a file A.TXT;1 with protection 0 and no blocks
 abbrev pub a_file : File
@@ -91,3 +91,30 @@ pub record ReleaseFreesOnce : Type 0 where
   pub once : (work_of (marked_and_held false) 0 first_user request.Release []).parts ≡ file_goes 6 ∷ []
   pub accessed : IsNoLag (without_a (marked_and_held true)) (marked_and_held true) request.Release
   pub others : IsNoLag (without_a (with_other_changed (marked_and_held false))) (marked_and_held false) request.Release
+
+-- A.TXT;1 in slot 17
+abbrev pub behind_file : File
+behind_file = new_file 17 1 first_user 0 (ident_of a_txt) no_attr
+
+-- the crowded volume with A.TXT;1 in a slot that there isn't
+abbrev pub file_without_slot : Store
+file_without_slot = record crowded_volume { file = files_with 17 (Some behind_file) crowded_volume.file }
+
+-- Create where no header is free takes the block of one slot and no other, changes no other file, and has the slot before the file
+pub record CreateGetsSlotFirst : Type 0 where
+  pub blocks : IsNoLag (record crowded_volume { free = 172 }) crowded_volume create
+  pub others : IsNoLag (with_other_changed crowded_volume) crowded_volume create
+  pub order : IsNoLag file_without_slot crowded_volume create
+
+-- the crowded volume with a block more in the first of its files that are full, and no slot more
+abbrev pub block_without_slot : Store
+block_without_slot = record crowded_volume {
+  file = files_with 6 (option_map with_zero_block (crowded_volume.file 6)) crowded_volume.file;
+  free = 173;
+}
+
+-- Extend of 1 where a slot comes first takes two blocks and not three, changes no other file, and has the slot before the block
+pub record ExtendGetsSlotFirst : Type 0 where
+  pub blocks : IsNoLag (record crowded_volume { free = 171 }) crowded_volume (request.Extend 0 1)
+  pub others : IsNoLag (with_other_changed crowded_volume) crowded_volume (request.Extend 0 1)
+  pub order : IsNoLag block_without_slot crowded_volume (request.Extend 0 1)

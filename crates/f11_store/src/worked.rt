@@ -17,18 +17,21 @@ pub fn headers()
     ensures too_long { worked.TooLong }
     ensures headers_run_out { worked.HeadersRunOut }
     ensures slots_run_out { worked.SlotsRunOut }
+    ensures refused_for_slots_alone { worked.RefusedForSlotsAlone }
 {}
 
 /// What requests on directories are answered.
 pub fn directories()
     ensures entered_and_removed { worked.EnteredAndRemoved }
     ensures entered_in_new_block { worked.EnteredInNewBlock }
+    ensures entered_behind_slot { worked.EnteredBehindSlot }
     ensures end_moves { worked.EndMoves }
 {}
 
 /// How many transfers requests may take.
 pub fn transfers()
     ensures bounds { worked.Bounds }
+    ensures bounds_behind_slots { worked.BoundsBehindSlots }
 {}
 
 /// What no request on a small volume may leave behind.
@@ -38,4 +41,10 @@ pub fn no_lags()
     ensures grow_index { lags.GrowIndexClearsFirst }
     ensures delete { lags.DeleteLeavesOthers }
     ensures release { lags.ReleaseFreesOnce }
+{}
+
+/// The same where the index file gets a slot first.
+pub fn no_lags_behind_slots()
+    ensures create { lags.CreateGetsSlotFirst }
+    ensures extend { lags.ExtendGetsSlotFirst }
 {}

@@ -14,7 +14,10 @@ fn open<D: Device>(alloc: Global, accepted: Accepted<D>) -> Result<Files<D>, Ope
 }
 
 /// Opens an accepted volume, once more where there was no memory.
-fn opened(alloc: Global, accepted: Accepted<Memory>) -> Result<Files<Memory>, OpenFault<Memory>> {
+pub fn opened(
+    alloc: Global,
+    accepted: Accepted<Memory>,
+) -> Result<Files<Memory>, OpenFault<Memory>> {
     match open(alloc, accepted) {
         Err(OpenFault::NoMemory(accepted)) => open(alloc, accepted),
         done => done,

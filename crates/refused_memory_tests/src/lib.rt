@@ -7,6 +7,8 @@ mod devices;
 #[cfg(test)]
 mod files;
 #[cfg(test)]
+mod headers;
+#[cfg(test)]
 mod index;
 #[cfg(test)]
 mod names;

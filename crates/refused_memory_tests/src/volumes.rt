@@ -24,7 +24,7 @@ fn faulty(alloc: Global) -> Result<Memory, Fail> {
 }
 
 /// What `verify` gives.
-type Verified = Result<Report<Memory>, VfyError<Memory>>;
+pub type Verified = Result<Report<Memory>, VfyError<Memory>>;
 
 fn once(alloc: Global, device: Memory) -> Verified {
     verify(alloc, device)
@@ -141,14 +141,14 @@ fn faulty_rt(alloc: Global) -> Result<Memory, Fail> {
 }
 
 /// What `verify` gives of an RT-11 volume.
-type RtVerified = Result<RtReport<Memory>, RtVfyError<Memory>>;
+pub type RtVerified = Result<RtReport<Memory>, RtVfyError<Memory>>;
 
 fn rt_once(alloc: Global, device: Memory) -> RtVerified {
     rt11_volume::verify(alloc, device)
 }
 
 /// Verifies an RT-11 volume, once more where there was no memory.
-fn rt_verified(alloc: Global, device: Memory) -> RtVerified {
+pub fn rt_verified(alloc: Global, device: Memory) -> RtVerified {
     match rt_once(alloc, device) {
         Err(RtVfyError::NoMemory(device)) => rt_once(alloc, device),
         done => done,
@@ -177,7 +177,7 @@ fn an_rt_report_is_written(rt: HostRuntime) -> Result<(), Fail> {
 }
 
 /// A volume with file `A.TXT` of two blocks, and four empty areas of none.
-fn with_areas(alloc: Global) -> Result<Memory, Fail> {
+pub fn with_areas(alloc: Global) -> Result<Memory, Fail> {
     let mut device = rt_volumes::made(memory(alloc, rt_volumes::BLOCKS)?)?;
     put_words(&mut device, 6, &[(10, 0o2000), (12, 1600), (16, 32980)])?;
     for i in 0..4 {
