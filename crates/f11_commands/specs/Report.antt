@@ -40,4 +40,5 @@ note_text f =
     if f.code == 6 then with_number (codes "N6 file ") f.a (codes " in no directory") else
     if f.code == 7 then with_numbers (codes "N7 directory ") f.a (codes " record ") f.b (codes " names no file") else
     if f.code == 8 then with_numbers (codes "N8 directory ") f.a (codes " record ") f.b (codes " repeats a name") else
-    with_numbers (codes "N9 directory ") f.a (codes " record ") f.b (codes " has no name")
+    if f.code == 9 then with_numbers (codes "N9 directory ") f.a (codes " record ") f.b (codes " has no name") else
+    with_number (codes "N10 file ") f.a (codes " not contiguous")

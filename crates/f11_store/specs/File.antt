@@ -49,6 +49,10 @@ is_marked f = bit_at f.characteristics 15 == 1
 abbrev pub with_mark : ℕ → ℕ
 with_mark c = bit_or c 32768
 
+-- marked contiguous: UC.CON, bit 7 of the characteristics (file header, H.UCHA)
+abbrev pub has_contiguous_mark : File → Bool
+has_contiguous_mark f = bit_at f.characteristics 7 == 1
+
 -- the characteristics with UC.CON, bit 7, cleared (file header, H.UCHA)
 abbrev pub without_contiguous : ℕ → ℕ
 without_contiguous c = bit_and c 65407

@@ -2,5 +2,6 @@
 pub mod Found
 pub mod Lost
 pub mod Exact
+pub mod Contiguous
 pub mod Reading
 pub mod Verdict

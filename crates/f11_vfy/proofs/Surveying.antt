@@ -9,6 +9,7 @@ pub mod Slots
 pub mod Times
 pub mod Table
 pub mod Pointers
+pub mod Extents
 pub mod Headers
 pub mod Cells
 pub mod Common

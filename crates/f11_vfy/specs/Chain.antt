@@ -1,6 +1,7 @@
 -- Which headers are headers of files, and which are the next of which, by what is kept of them (Files-11 On-Disk Structure Level 1,
 -- "File Header").
-use Rattle.std.specs.Prelude.{◌≡◌, ◌≢◌, ◌≤◌, ◌<◌, ◌+◌, ◌&&◌, ◌==◌, ◌↔◌, ℕ, true, not, if◌then◌else◌, List, length, slice_index}
+use Rattle.std.specs.Prelude.{◌≡◌, ◌≢◌, ◌≤◌, ◌<◌, ◌+◌, ◌&&◌, ◌==◌, ◌↔◌, ℕ, zero, suc, true, not, if◌then◌else◌, List, length, slice_index}
+use Rattle.std.specs.Prelude.{Option, Some, None}
 use Rattle.f11_map.specs.HeaderBlock.{segment_number}
 use Rattle.f11_index.specs.Table.{Table, IsNext}
 use Rattle.f11_vfy.specs.Surveying.Bits.{has, limit_of}
@@ -27,6 +28,17 @@ pub record KeepsTable (t : Table) (slots : List Slot) : Type 0 where
 pub record NextsTo (t : Table) (nexts : List ℕ) (n : ℕ) : Type 0 where
   pub some : (k : ℕ) → k < n → slice_index nexts k ≢ 0 → IsNext t (k + 1) (slice_index nexts k)
   pub all : (k m : ℕ) → k < n → IsNext t (k + 1) m → slice_index nexts k ≡ m
+
+-- what is kept of the next headers of a table's slots
+pub record KnowsNexts (t : Table) (kept : List ℕ) : Type 0 where
+  pub fit : IsFit t
+  pub count : length kept ≡ t.slots
+  pub nexts : NextsTo t kept t.slots
+
+-- the header with this number; number 0 is none
+abbrev pub numbered : ℕ → Option ℕ
+numbered zero = None
+numbered (suc n) = Some (suc n)
 
 -- all marked headers are headers of files, and so are those that are next of them
 pub record IsClosed (t : Table) (marked : Bits) : Type 0 where

@@ -13,7 +13,7 @@ use f11_bytes::NoMemory;
 use std::alloc::Global;
 
 /// How many headers a file has at most (profile).
-const MOST_HEADERS: u32 = 256;
+pub(crate) const MOST_HEADERS: u32 = 256;
 
 /// What the links of a volume's headers say.
 #[derive(Drop)]

@@ -1,4 +1,5 @@
 //! What is found of a volume that was read: a scan for each code, and all of them together.
 
+pub(crate) mod contiguous;
 pub mod reading;
 pub(crate) mod scans;

@@ -52,12 +52,12 @@ pub enum VfyError<D: Device> {
 /// besides the candidates, and 256 headers for each directory.
 ///
 /// So the time is at most that of these reads, of a few steps for each pointer of a header that was read, or one for each of its 256
-/// blocks where one of them is read, and of a step for each record: n log n steps for n records of a directory. A header to which several
-/// directories lead, which is a fault, is read for each of them, with those of its blocks that hold a record: at most 256 headers a
-/// directory.
+/// blocks where one of them is read, of a step for each header of a file that is marked contiguous, and of a step for each record: n log n
+/// steps for n records of a directory. A header to which several directories lead, which is a fault, is read for each of them, with those
+/// of its blocks that hold a record: at most 256 headers a directory.
 ///
 /// It takes three bits for each block of the volume, one for each block of the volume or of the device, whichever has more, and where a
-/// retrieval pointer names a block outside, two bits for each that a pointer can name (4 MiB in all); some 20 bytes a slot, 12 bytes for
+/// retrieval pointer names a block outside, two bits for each that a pointer can name (4 MiB in all); some 34 bytes a slot, 12 bytes for
 /// each fault and each note, and for one directory at a time the names of its records, 10 bytes each and what a tree of them takes.
 ///
 /// # Errors
@@ -118,6 +118,7 @@ fn examine_volume<D: Device>(
     let reading = Reading::read(alloc, device, index, frame.places(), frame.size)?;
     let mut notes = reading.notes(alloc)?;
     reading.add_directory_notes(alloc, device, index, &mut notes)?;
+    reading.add_last_notes(&mut notes)?;
     Ok((reading.into_faults(alloc)?, notes))
 }
 

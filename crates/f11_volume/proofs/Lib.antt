@@ -7,4 +7,5 @@ pub mod MemberLemmas
 pub mod FileLemmas
 pub mod FreshBits
 pub mod FreshLemmas
+pub mod ContiguousLemmas
 pub mod NoteLemmas

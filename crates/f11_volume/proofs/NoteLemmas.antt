@@ -5,9 +5,11 @@ use Rattle.f11_dev.specs.Image.{Image}
 use Rattle.f11_map.specs.HeaderBlock.{segment_number}
 use Rattle.f11_index.specs.Headers.{IsInFile}
 use Rattle.f11_index.specs.Table.{first}
-use Rattle.f11_volume.specs.Notes.{IsLost, IsLostRun, IsEntered, IsVolumeNote, blocks_lost, orphan, in_no_directory}
-use Rattle.f11_volume.specs.NoteLaws.{LostRunsAreApart, IsInNoRun, LostRunsHaveTheLost, OrphansAreNoFiles, OthersAreEntered}
+use Rattle.f11_volume.specs.Contents.{blocks_reached}
+use Rattle.f11_volume.specs.Notes.{IsLost, IsLostRun, IsEntered, AreContiguous, IsVolumeNote, blocks_lost, orphan, in_no_directory, not_contiguous}
+use Rattle.f11_volume.specs.NoteLaws.{LostRunsAreApart, IsInNoRun, LostRunsHaveTheLost, OrphansAreNoFiles, OthersAreEntered, StandsFrom, OthersAreContiguous}
 use Rattle.f11_volume.specs.Volume.{Volume}
+use Rattle.f11_volume.proofs.ContiguousLemmas.{contiguous-stands, stands-contiguous}
 
 -- what a note of this code says
 run-noted : {image : Image} {v : Volume} {low high : ℕ} → IsVolumeNote image v 1 low high → IsLostRun v low high
@@ -18,6 +20,9 @@ orphan-noted (orphan n live later none) = none
 
 lonely-noted : {image : Image} {v : Volume} {n : ℕ} → IsVolumeNote image v 6 n 0 → ¬ IsEntered image v.table n
 lonely-noted (in_no_directory n file none) = none
+
+apart-noted : {image : Image} {v : Volume} {n : ℕ} → IsVolumeNote image v 10 n 0 → ¬ AreContiguous (blocks_reached v.table n)
+apart-noted (not_contiguous n file mark apart) = apart
 
 -- a run that begins before another ends before the block in front of that one
 ends-before : (v : Volume) (low high next last : ℕ) → IsLostRun v low high → IsLostRun v next last → low < next → high + 1 < next
@@ -138,3 +143,9 @@ orphans-are image v n live = (
 
 pub others-are : OthersAreEntered
 others-are image v n file = (lonely-noted, λ (none : ¬ IsEntered image v.table n). in_no_directory n file none)
+
+pub contiguous-are : OthersAreContiguous
+contiguous-are image v n file mark = (
+  λ note. λ k stands. apart-noted note (stands-contiguous k (blocks_reached v.table n) stands),
+  λ (nowhere : (k : ℕ) → ¬ StandsFrom k (blocks_reached v.table n)). not_contiguous n file mark (λ is. nowhere _ (contiguous-stands (blocks_reached v.table n) is)),
+)

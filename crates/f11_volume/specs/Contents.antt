@@ -20,6 +20,10 @@ following (suc most) t (Some n) = n ∷ following most t (next_of t n)
 abbrev pub headers_reached : Table → ℕ → List ℕ
 headers_reached t n = following 256 t (Some n)
 
+-- the LBNs of the blocks of file n, in the order of its headers
+abbrev pub blocks_reached : Table → ℕ → List ℕ
+blocks_reached t n = blocks_by t (headers_reached t n)
+
 -- a block of an image, which past the device's end counts as zeros (profile)
 abbrev pub block_or_zeros : Image → ℕ → List ℕ
 block_or_zeros image lbn = slice_index_or image lbn zero_block
@@ -48,5 +52,5 @@ file_of image t n =
       held = headers;
       pointers = sum_by (pointer_count t) headers;
       room = room_left t headers;
-      blocks = map (block_or_zeros image) (blocks_by t headers);
+      blocks = map (block_or_zeros image) (blocks_reached t n);
     }

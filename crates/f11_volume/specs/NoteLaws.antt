@@ -1,8 +1,10 @@
 -- Laws of what is noted, which show that the notes say all that they speak of (profile).
-use Rattle.std.specs.Prelude.{◌≡◌, ◌⊎◌, ◌↔◌, ℕ, ◌+◌, ◌<◌, ◌≤◌}
+use Rattle.std.specs.Prelude.{◌≡◌, ◌⊎◌, ◌↔◌, ℕ, ◌+◌, ◌<◌, ◌≤◌, IsTrue, List, length, slice_index}
 use Rattle.f11_dev.specs.Image.{Image}
 use Rattle.f11_index.specs.Headers.{IsInFile}
 use Rattle.f11_index.specs.Table.{IsLive, IsFile}
+use Rattle.f11_store.specs.File.{has_contiguous_mark}
+use Rattle.f11_volume.specs.Contents.{blocks_reached, file_of}
 use Rattle.f11_volume.specs.Notes.{IsLost, IsEntered, IsVolumeNote}
 use Rattle.f11_volume.specs.Volume.{Volume}
 
@@ -27,3 +29,13 @@ OrphansAreNoFiles = (image : Image) (v : Volume) (n : ℕ) → IsLive v.table n 
 -- a file is noted as one in no directory exactly where no record names it
 abbrev pub OthersAreEntered : Type 0
 OthersAreEntered = (image : Image) (v : Volume) (n : ℕ) → IsFile v.table n → IsVolumeNote image v 6 n 0 ↔ ¬ IsEntered image v.table n
+
+-- block i of these, from 0, is block k + i of the volume
+abbrev pub StandsFrom : ℕ → List ℕ → Type 0
+StandsFrom k lbns = (i : ℕ) → i < length lbns → slice_index lbns i ≡ k + i
+
+-- a file with the contiguous mark is noted exactly where there is no k such that each block i of it is block k + i of the volume
+abbrev pub OthersAreContiguous : Type 0
+OthersAreContiguous =
+    (image : Image) (v : Volume) (n : ℕ) → IsFile v.table n → IsTrue (has_contiguous_mark (file_of image v.table n)) →
+    IsVolumeNote image v 10 n 0 ↔ ((k : ℕ) → ¬ StandsFrom k (blocks_reached v.table n))

@@ -1,16 +1,16 @@
 -- What the verifier notes of a volume whose frame is as it should be (profile: what is noted, and the codes).
-use Rattle.std.specs.Prelude.{◌≡◌, ℕ, ◌+◌, ◌-◌, ◌<◌, ◌≤◌, ◌==◌, false, true, IsTrue, List, Some}
+use Rattle.std.specs.Prelude.{◌≡◌, ℕ, ◌+◌, ◌-◌, ◌<◌, ◌≤◌, ◌==◌, false, true, IsTrue, List, Some, length, slice_index}
 use Rattle.std.specs.Int.{bit_at}
-use Rattle.std.specs.List.{slice_get}
+use Rattle.std.specs.List.{slice_get, range_with_len}
 use Rattle.f11_dev.specs.Image.{Image}
 use Rattle.f11_rad50.specs.Name.{IsName}
 use Rattle.f11_map.specs.HeaderBlock.{segment_number}
 use Rattle.f11_index.specs.Headers.{IsInFile}
 use Rattle.f11_index.specs.Table.{Table, IsLive, IsDeadSlot, IsFile, last_sequence}
 use Rattle.f11_store.specs.Directory.{is_directory, entries_of, is_empty, record_id, record_name}
-use Rattle.f11_store.specs.File.{File, is_marked}
+use Rattle.f11_store.specs.File.{File, is_marked, has_contiguous_mark}
 use Rattle.f11_store.specs.declared.files.FileId.{FileId}
-use Rattle.f11_volume.specs.Contents.{file_of}
+use Rattle.f11_volume.specs.Contents.{blocks_reached, file_of}
 use Rattle.f11_volume.specs.Volume.{Volume, IsNamed}
 
 -- block lbn of the volume is lost: it is neither free nor named
@@ -64,6 +64,10 @@ pub record IsRepeated (image : Image) (t : Table) (d i : ℕ) (bytes : List ℕ)
 abbrev pub was_open : File → Type 0
 was_open f = (bit_at f.characteristics 6 == 1) ≡ true
 
+-- blocks are contiguous: they are those from the first one on, each behind the one before it ("File Header", H.UCHA, UC.CON)
+abbrev pub AreContiguous : List ℕ → Type 0
+AreContiguous lbns = lbns ≡ range_with_len (slice_index lbns 0) (length lbns)
+
 -- The notes, each with its code and two numbers.
 pub data IsVolumeNote (image : Image) (v : Volume) : ℕ → ℕ → ℕ → Type 0 where
   -- blocks low to high are lost
@@ -86,3 +90,6 @@ pub data IsVolumeNote (image : Image) (v : Volume) : ℕ → ℕ → ℕ → Typ
       IsVolumeNote image v 8 d i
   -- it has no name
   no_name : (d i : ℕ) (bytes : List ℕ) → IsRecord image v.table d i bytes → ¬ IsName (record_name bytes) → IsVolumeNote image v 9 d i
+  -- file n has the contiguous mark, and isn't contiguous
+  not_contiguous : (n : ℕ) → IsFile v.table n → IsTrue (has_contiguous_mark (file_of image v.table n)) →
+      ¬ AreContiguous (blocks_reached v.table n) → IsVolumeNote image v 10 n 0

@@ -38,11 +38,12 @@ pub fn fresh_volumes()
     ensures { laws.FreshIsSound }
 {}
 
-/// Notes leave nothing out: the runs of lost blocks are apart and have them all, a live header is an orphan or a file's, and a file
-/// stands in a directory or is noted.
+/// Notes leave nothing out: the runs of lost blocks are apart and have them all, a live header is an orphan or a file's, a file stands
+/// in a directory or is noted, and so is one that is marked contiguous and isn't.
 pub fn notes()
     ensures apart { noted.LostRunsAreApart }
     ensures lost { noted.LostRunsHaveTheLost }
     ensures orphans { noted.OrphansAreNoFiles }
     ensures entered { noted.OthersAreEntered }
+    ensures contiguous { noted.OthersAreContiguous }
 {}

@@ -56,7 +56,8 @@ impl fmt::Display for NoteText {
             6 => write!(f, "N6 file {a} in no directory"),
             7 => write!(f, "N7 directory {a} record {b} names no file"),
             8 => write!(f, "N8 directory {a} record {b} repeats a name"),
-            _ => write!(f, "N9 directory {a} record {b} has no name"),
+            9 => write!(f, "N9 directory {a} record {b} has no name"),
+            _ => write!(f, "N10 file {a} not contiguous"),
         }
     }
 }

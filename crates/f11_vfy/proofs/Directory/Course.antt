@@ -1,5 +1,5 @@
 -- A directory's headers, taken one after another.
-use Rattle.std.proofs.Common.{◌≡◌, ◌≢◌, ◌≤◌, ◌<◌, ◌+◌, ◌-◌, ◌*◌, ◌/◌, inl, inr, ℕ, zero, suc, refl, ap, sym, ◌∙◌, subst, arith, List, [], ◌∷◌, ◌++◌, length, drop, get_or, Option, Some, None, IsTrue}
+use Rattle.std.proofs.Common.{◌≡◌, ◌≢◌, ◌≤◌, ◌<◌, ◌+◌, ◌-◌, ◌*◌, ◌/◌, inl, inr, ℕ, suc, refl, ap, sym, ◌∙◌, subst, arith, List, [], ◌++◌, length, drop, get_or, Option, IsTrue}
 use Rattle.std.proofs.lemmas.Bool.{cases_Bool, cond-true, cond-false}
 use Rattle.std.proofs.Math.Seq.{drop-append_seam}
 use Rattle.std.proofs.lemmas.List.{drop-drop, length-append, length-map, length-drop, get_or-drop, get_or_append_left, get_or-map}
@@ -12,15 +12,14 @@ use Rattle.f11_header.specs.Fields.{attributes}
 use Rattle.f11_map.specs.HeaderBlock.{blocks_named}
 use Rattle.f11_index.specs.Headers.{next_of}
 use Rattle.f11_index.specs.IndexFile.{Index, is_in_use}
-use Rattle.f11_index.specs.Table.{Table, table_in, IsLive, IsNext}
-use Rattle.f11_index.proofs.NextLemmas.{next-found}
+use Rattle.f11_index.specs.Table.{Table, table_in, IsLive}
 use Rattle.f11_store.specs.Directory.{entry_count}
 use Rattle.f11_store.specs.File.{stated_end}
 use Rattle.f11_vfy.specs.Surveying.Bits.{limit_of}
-use Rattle.f11_vfy.specs.Chain.{KeepsTable}
-use Rattle.f11_volume.specs.Contents.{following, headers_reached, block_or_zeros, file_of}
+use Rattle.f11_vfy.specs.Chain.{KeepsTable, KnowsNexts, numbered}
+use Rattle.f11_volume.specs.Contents.{following, blocks_reached, block_or_zeros, file_of}
 use Rattle.f11_vfy.specs.Directory.Blank.{HoldNoRecord}
-use Rattle.f11_vfy.specs.Directory.Reading.{KnowsNexts, HasBlocks, HoldsBlocks, HoldsHeaderBlocks, TakesBlocks, TakesHeader, TakesHeaders, TakesDirectory, LooksAtHeader, LooksAtHeaders, LooksFor, ComesTo, numbered, until, wanted}
+use Rattle.f11_vfy.specs.Directory.Reading.{HasBlocks, HoldsBlocks, HoldsHeaderBlocks, TakesBlocks, TakesHeader, TakesHeaders, TakesDirectory, LooksAtHeader, LooksAtHeaders, LooksFor, ComesTo, until, wanted}
 use Rattle.f11_vfy.specs.Directory.Later.{Begins, TakesRecords}
 use Rattle.f11_vfy.specs.Surveying.Headers.{ReadsSlot, reads_of}
 use Rattle.f11_vfy.specs.declared.directories.contents.Directory.{Directory}
@@ -28,57 +27,15 @@ use Rattle.f11_vfy.specs.declared.directories.later.Later.{Later}
 use Rattle.f11_vfy.specs.declared.survey.slot.Slot.{Slot}
 use Rattle.f11_vfy.specs.declared.survey.slot.State.{State}
 use Rattle.f11_vfy.specs.declared.survey.slot.State.TheVariants.{Live}
+use Rattle.f11_vfy.proofs.FollowingLemmas.{numbered-some, next-kept, next-live, following-more, following-zero}
 use Rattle.f11_vfy.proofs.Surveying.Slots.{live-to}
 use Rattle.f11_vfy.proofs.Directory.Taking.{takes-same, takes-begin}
 use Rattle.f11_vfy.proofs.Directory.Walk.{still}
 use Rattle.f11_volume.proofs.FileLemmas.{following-none}
 
-numbered-some : (n : ℕ) → 1 ≤ n → numbered n ≡ Some n
-numbered-some zero some = absurd (omega arith)
-numbered-some (suc n) some = refl
-
--- the next header as it is kept
-next-none : (t : Table) (n : ℕ) (o : Option ℕ) → ((m : ℕ) → o ≢ Some m) → o ≡ None
-next-none t n None never = refl
-next-none t n (Some m) never = absurd (never m refl)
-
-next-kept : (t : Table) (nexts : List ℕ) (n : ℕ) → KnowsNexts t nexts → IsLive t n → (m : ℕ) → m ≡ get_or nexts (n - 1) 0 → next_of t n ≡ numbered m
-next-kept t nexts n knows live zero is =
-    let low : 1 ≤ n = knows.fit.low n live.in_use in
-    let high : n ≤ t.slots = knows.fit.high n live.in_use in
-    next-none t n (next_of t n) (λ m found.
-    let next : IsNext t n m = (next-found t n m).0 found in
-    let same : n ≡ n - 1 + 1 = omega arith in
-    let kept : get_or nexts (n - 1) 0 ≡ m = knows.nexts.all (n - 1) m (omega arith) (subst (λ (k : ℕ). IsNext t k m) same next) in
-    let some : 1 ≤ m = knows.fit.low m next.to.in_use in
-    omega arith)
-next-kept t nexts n knows live (suc m) is =
-    let low : 1 ≤ n = knows.fit.low n live.in_use in
-    let high : n ≤ t.slots = knows.fit.high n live.in_use in
-    let same : n - 1 + 1 ≡ n = omega arith in
-    let next : IsNext t (n - 1 + 1) (get_or nexts (n - 1) 0) = knows.nexts.some (n - 1) (omega arith) (λ none. omega arith) in
-    (next-found t n (suc m)).1 (subst (λ (k : ℕ). IsNext t n k) (sym is) (subst (λ (k : ℕ). IsNext t k (get_or nexts (n - 1) 0)) same next))
-
-next-live : (t : Table) (n m : ℕ) → next_of t n ≡ numbered m → 1 ≤ m → IsLive t m
-next-live t n zero found some = absurd (omega arith)
-next-live t n (suc m) found some = ((next-found t n (suc m)).0 found).to
-
-following-more : (t : Table) (most n : ℕ) → 1 ≤ n → following (suc most) t (numbered n) ≡ n ∷ following most t (next_of t n)
-unfolding following
-following-more t most zero some = absurd (omega arith)
-following-more t most (suc n) some = refl
-
-following-zero : (t : Table) (o : Option ℕ) → following 0 t o ≡ []
-unfolding following
-following-zero t o = refl
-
--- the blocks of a file
-abbrev pub all : Table → ℕ → List ℕ
-all t d = blocks_by t (headers_reached t d)
-
-long : (image : Image) (t : Table) (d : ℕ) → length (file_of image t d).blocks ≡ length (all t d)
+long : (image : Image) (t : Table) (d : ℕ) → length (file_of image t d).blocks ≡ length (blocks_reached t d)
 unfolding file_of
-long image t d = length-map (all t d) (block_or_zeros image)
+long image t d = length-map (blocks_reached t d) (block_or_zeros image)
 
 pub comes-begin : (t : Table) (nexts : List ℕ) (d : ℕ) → KnowsNexts t nexts → IsLive t d → ComesTo t d 0 d 256
 comes-begin t nexts d knows live = record {
@@ -89,21 +46,21 @@ comes-begin t nexts d knows live = record {
 
 -- header n, which comes next
 module _ (t : Table) (d at n most left : ℕ) (comes : ComesTo t d at n most) (some : 1 ≤ n) (step : most ≡ left + 1) where
-  parts : drop at (all t d) ≡ blocks_named (t.header n) ++ blocks_by t (following left t (next_of t n))
+  parts : drop at (blocks_reached t d) ≡ blocks_named (t.header n) ++ blocks_by t (following left t (next_of t n))
   parts =
       let one : most ≡ suc left = omega (arith, step) in
       comes.rest ∙ ap (λ (k : ℕ). blocks_by t (following k t (numbered n))) one ∙ ap (blocks_by t) (following-more t left n some)
 
-  pub comes-within : at + length (blocks_named (t.header n)) ≤ length (all t d)
+  pub comes-within : at + length (blocks_named (t.header n)) ≤ length (blocks_reached t d)
   comes-within =
-      omega (arith, comes.within, ap length parts, length-drop at (all t d), length-append (blocks_named (t.header n)) (blocks_by t (following left t (next_of t n))))
+      omega (arith, comes.within, ap length parts, length-drop at (blocks_reached t d), length-append (blocks_named (t.header n)) (blocks_by t (following left t (next_of t n))))
 
   pub comes-more : (nexts : List ℕ) (m count : ℕ) → KnowsNexts t nexts → m ≡ get_or nexts (n - 1) 0 → count ≡ length (blocks_named (t.header n)) → ComesTo t d (at + count) m left
   comes-more nexts m count knows next is =
       let to : next_of t n ≡ numbered m = next-kept t nexts n knows (comes.live some) m next in
       record {
         within = omega (arith, is, comes-within);
-        rest = sym (drop-drop count at (all t d)) ∙ ap (drop count) parts ∙ ap (λ (k : ℕ). drop k (blocks_named (t.header n) ++ blocks_by t (following left t (next_of t n)))) is
+        rest = sym (drop-drop count at (blocks_reached t d)) ∙ ap (drop count) parts ∙ ap (λ (k : ℕ). drop k (blocks_named (t.header n) ++ blocks_by t (following left t (next_of t n)))) is
             ∙ drop-append_seam (blocks_named (t.header n)) (blocks_by t (following left t (next_of t n))) ∙ ap (λ (o : Option ℕ). blocks_by t (following left t o)) to;
         live = next-live t n m to;
       }
@@ -111,20 +68,20 @@ module _ (t : Table) (d at n most left : ℕ) (comes : ComesTo t d at n most) (s
   pub comes-has : (image : Image) → HasBlocks image (blocks_named (t.header n)) at (file_of image t d).blocks
   unfolding file_of
   comes-has image k below =
-      let here : get_or (all t d) (at + k) 0 ≡ get_or (blocks_named (t.header n)) k 0 =
-      sym (get_or-drop at (all t d) k 0) ∙ ap (λ (l : List ℕ). get_or l k 0) parts ∙ get_or_append_left (blocks_named (t.header n)) (blocks_by t (following left t (next_of t n))) 0 k below in
-      get_or-map (block_or_zeros image) (all t d) (at + k) 0 [] (omega (arith, below, comes-within)) ∙ ap (block_or_zeros image) here
+      let here : get_or (blocks_reached t d) (at + k) 0 ≡ get_or (blocks_named (t.header n)) k 0 =
+      sym (get_or-drop at (blocks_reached t d) k 0) ∙ ap (λ (l : List ℕ). get_or l k 0) parts ∙ get_or_append_left (blocks_named (t.header n)) (blocks_by t (following left t (next_of t n))) 0 k below in
+      get_or-map (block_or_zeros image) (blocks_reached t d) (at + k) 0 [] (omega (arith, below, comes-within)) ∙ ap (block_or_zeros image) here
 
 -- where no header comes next, or none may, or no block that is left holds a record before the end
-pub comes-end : (t : Table) (d at n most : ℕ) → ComesTo t d at n most → n ≡ 0 → at ≡ length (all t d)
+pub comes-end : (t : Table) (d at n most : ℕ) → ComesTo t d at n most → n ≡ 0 → at ≡ length (blocks_reached t d)
 comes-end t d at n most comes none =
-    let rest : drop at (all t d) ≡ [] = comes.rest ∙ ap (λ (k : ℕ). blocks_by t (following most t (numbered k))) none ∙ ap (blocks_by t) (following-none t most) in
-    omega (arith, comes.within, ap length rest, length-drop at (all t d))
+    let rest : drop at (blocks_reached t d) ≡ [] = comes.rest ∙ ap (λ (k : ℕ). blocks_by t (following most t (numbered k))) none ∙ ap (blocks_by t) (following-none t most) in
+    omega (arith, comes.within, ap length rest, length-drop at (blocks_reached t d))
 
-pub comes-last : (t : Table) (d at n most : ℕ) → ComesTo t d at n most → most ≡ 0 → at ≡ length (all t d)
+pub comes-last : (t : Table) (d at n most : ℕ) → ComesTo t d at n most → most ≡ 0 → at ≡ length (blocks_reached t d)
 comes-last t d at n most comes none =
-    let rest : drop at (all t d) ≡ [] = comes.rest ∙ ap (λ (k : ℕ). blocks_by t (following k t (numbered n))) none ∙ ap (blocks_by t) (following-zero t (numbered n)) in
-    omega (arith, comes.within, ap length rest, length-drop at (all t d))
+    let rest : drop at (blocks_reached t d) ≡ [] = comes.rest ∙ ap (λ (k : ℕ). blocks_by t (following k t (numbered n))) none ∙ ap (blocks_by t) (following-zero t (numbered n)) in
+    omega (arith, comes.within, ap length rest, length-drop at (blocks_reached t d))
 
 -- a slot's header is one read at most
 reads-most : (index : Index) (n : ℕ) → reads_of index n ≤ 1
@@ -247,7 +204,7 @@ module _ (index : Index) (slots : List Slot) (nexts : List ℕ) (dir : Directory
     }
 
     -- and no other is to be
-    pub courses-end : (IsTrue old.honest → KnowsNexts t nexts → ComesTo t dir.d behind n (256 - counter) → until dir.end behind ≡ until dir.end (length (all t dir.d)))
+    pub courses-end : (IsTrue old.honest → KnowsNexts t nexts → ComesTo t dir.d behind n (256 - counter) → until dir.end behind ≡ until dir.end (length (blocks_reached t dir.d)))
         → TakesHeaders index slots nexts dir at second 255 before now old disk
     courses-end done = record {
       limit = is.limit;
@@ -297,14 +254,14 @@ module _ (index : Index) (slots : List Slot) (nexts : List ℕ) (dir : Directory
   named-is : IsTrue old.honest → length (blocks_named b) ≡ length (blocks_named (of.header dir.d))
   named-is honest = ap (λ (x : List ℕ). length (blocks_named x)) (header-is honest)
 
-  first-within : IsTrue old.honest → KnowsNexts of nexts → IsLive of dir.d → length (blocks_named b) ≤ length (all of dir.d)
+  first-within : IsTrue old.honest → KnowsNexts of nexts → IsLive of dir.d → length (blocks_named b) ≤ length (blocks_reached of dir.d)
   first-within honest knows alive =
       omega (arith, named-is honest, comes-within of dir.d 0 dir.d 256 255 (comes-begin of nexts dir.d knows alive) (knows.fit.low dir.d alive.in_use) (omega arith))
 
   count-is : IsTrue old.honest → until dir.end (length (file_of old.image of dir.d).blocks) ≡ entry_count (file_of old.image of dir.d)
   count-is honest = ended old.image of dir.d dir.end (end_is ∙ ap (λ (x : List ℕ). stated_end (attributes x) / 16) (header-is honest))
 
-  few-is : (n : ℕ) → IsTrue old.honest → n ≤ 256 + wanted dir.end 0 (length (all of dir.d)) → n ≤ 256 + (entry_count (file_of old.image of dir.d) + 31) / 32
+  few-is : (n : ℕ) → IsTrue old.honest → n ≤ 256 + wanted dir.end 0 (length (blocks_reached of dir.d)) → n ≤ 256 + (entry_count (file_of old.image of dir.d) + 31) / 32
   few-is n honest less = omega (arith, less, count-is honest, long old.image of dir.d)
 
   -- its blocks were looked at
@@ -350,7 +307,7 @@ module _ (index : Index) (slots : List Slot) (nexts : List ℕ) (dir : Directory
       looked = looked_more (looked_more (slot-looked index dir.d reads.looked) takes.looked) looks.looked;
       few = λ honest knows alive.
           let less = subst (λ (i : Image). KnowsNexts (table_in i index) nexts → ComesTo (table_in i index) dir.d count second 255
-          → wanted dir.end 0 count + looks.reads ≤ 255 + wanted dir.end 0 (length (all (table_in i index) dir.d))) image-is (looks.few (honest-still honest)) knows (comes-next honest knows alive) in
+          → wanted dir.end 0 count + looks.reads ≤ 255 + wanted dir.end 0 (length (blocks_reached (table_in i index) dir.d))) image-is (looks.few (honest-still honest)) knows (comes-next honest knows alive) in
           few-is _ honest (omega (arith, less, counted));
     }
 

@@ -11,12 +11,12 @@ use Rattle.f11_index.proofs.NextLemmas.{live-tested}
 use Rattle.f11_index.specs.IndexFile.{Index}
 use Rattle.f11_index.specs.Table.{Table, table_in}
 use Rattle.f11_vfy.specs.Surveying.Bits.{has}
-use Rattle.f11_vfy.specs.Chain.{KeepsTable}
-use Rattle.f11_vfy.specs.Directory.Reading.{KnowsNexts, LooksFor, TakesDirectory, most_reads}
+use Rattle.f11_vfy.specs.Chain.{KeepsTable, KnowsNexts}
+use Rattle.f11_vfy.specs.Directory.Reading.{LooksFor, TakesDirectory, most_reads}
 use Rattle.f11_vfy.specs.Directory.Notes.{IsLaterNote, has_directory, reads_at, JudgesSlot, JudgesUpTo, LooksAt, LooksUpTo, LooksThrough}
 use Rattle.f11_vfy.specs.Scanning.Found.{Finds, FoundAmong}
 use Rattle.f11_vfy.specs.Directory.Later.{FlawsUpTo, IsNewLater, ShowsLater}
-use Rattle.f11_volume.specs.Notes.{IsDirectory, IsEntered, IsVolumeNote, blocks_lost, header_dead, orphan, marked, not_closed, in_no_directory, names_no_file, name_repeated, no_name}
+use Rattle.f11_volume.specs.Notes.{IsDirectory, IsEntered, IsVolumeNote, blocks_lost, header_dead, orphan, marked, not_closed, in_no_directory, names_no_file, name_repeated, no_name, not_contiguous}
 use Rattle.f11_vfy.specs.Scanning.Reading.{ShowsVolume, volume_in}
 use Rattle.f11_vfy.specs.Scanning.Scans.{IsFileSlot}
 use Rattle.f11_vfy.specs.Surveying.Slot.{KeepsSlot, kept_slot}
@@ -30,7 +30,7 @@ use Rattle.f11_vfy.proofs.Scanning.Reading.{directory-said}
 use Rattle.f11_vfy.proofs.Surveying.Slots.{live-from, live-to}
 use Rattle.f11_vfy.proofs.Surveying.Sums.{sum_to-more, sum_to-le}
 use Rattle.f11_vfy.proofs.Scanning.Found.{finds-more, finds-same}
-use Rattle.f11_vfy.proofs.Directory.Records.{flaw-low}
+use Rattle.f11_vfy.proofs.Directory.Records.{flaw-low, flaw-high}
 use Rattle.f11_vfy.specs.declared.directories.flaws.Flaw.{Flaw}
 use Rattle.f11_vfy.specs.declared.directories.flaws.Flaw.TheVariants.{NoFile, Repeated, NoName}
 use Rattle.std.specs.Prelude.{Contains}
@@ -151,6 +151,7 @@ module _ (image : Image) (v : Volume) (r : Reading) (is : ShowsVolume v r) (late
   unentered-noted : (f : Finding) (k : ℕ) → k < length r.survey.slots.items → IsFileSlot (kept_slot r.survey.slots.items k) → has later.entered (k + 1) ≡ false → f ≡ finding 6 (k + 1) 0 → IsLaterNote image v f.code f.a f.b
   unentered-noted f k below file none same = subst (λ (g : Finding). IsLaterNote image v g.code g.a g.b) (sym same) (record {
     later = omega arith;
+    early = omega arith;
     note = in_no_directory (k + 1) (record { live = live-from v.table (k + 1) _ (kept k below).state file.0; first = sym ((kept k below).header file.0).segment ∙ file.1 })
         (λ e. both_ways _ none (all-entered (k + 1) e));
   })
@@ -158,7 +159,7 @@ module _ (image : Image) (v : Volume) (r : Reading) (is : ShowsVolume v r) (late
   flaw-found : (flaw : Flaw) (list : List Finding) → Finds (FlawsUpTo image v flaw (length r.survey.slots.items)) [] list → (code a b : ℕ) → Of list code a b → IsLaterNote image v code a b
   flaw-found flaw list finds code a b c = elim (finds.no_others (finding code a b) c) [
     | inl none ↦ absurd (omega (arith, none.1))
-    | inr f ↦ record { later = omega (arith, f.0, flaw-low flaw); note = f.1.1 }
+    | inr f ↦ record { later = omega (arith, f.0, flaw-low flaw); early = omega (arith, f.0, flaw-high flaw); note = f.1.1 }
   ]
 
   found-noted : (code a b : ℕ) → Found code a b → IsLaterNote image v code a b
@@ -170,13 +171,13 @@ module _ (image : Image) (v : Volume) (r : Reading) (is : ShowsVolume v r) (late
   within : (d : ℕ) → IsDirectory image v.table d → d ≤ length r.survey.slots.items
   within d dir = let high = is.fit.high d dir.file.live.in_use in omega (arith, high, is.surveys.slots.count)
 
-  noted-found : (code a b : ℕ) → IsVolumeNote image v code a b → 5 < code → Found code a b
-  noted-found code a b (blocks_lost low high run) past = absurd (omega (arith, past))
-  noted-found code a b (header_dead n dead) past = absurd (omega (arith, past))
-  noted-found code a b (orphan n live later none) past = absurd (omega (arith, past))
-  noted-found code a b (marked n file mark) past = absurd (omega (arith, past))
-  noted-found code a b (not_closed n file was) past = absurd (omega (arith, past))
-  noted-found code a b (in_no_directory n file none) past =
+  noted-found : (code a b : ℕ) → IsVolumeNote image v code a b → 5 < code → code ≤ 9 → Found code a b
+  noted-found code a b (blocks_lost low high run) past early = absurd (omega (arith, past))
+  noted-found code a b (header_dead n dead) past early = absurd (omega (arith, past))
+  noted-found code a b (orphan n live later none) past early = absurd (omega (arith, past))
+  noted-found code a b (marked n file mark) past early = absurd (omega (arith, past))
+  noted-found code a b (not_closed n file was) past early = absurd (omega (arith, past))
+  noted-found code a b (in_no_directory n file none) past early =
       let low = is.fit.low n file.live.in_use in
       let high = is.fit.high n file.live.in_use in
       let below : n - 1 < length r.survey.slots.items = omega (arith, low, high, is.surveys.slots.count) in
@@ -189,13 +190,14 @@ module _ (image : Image) (v : Volume) (r : Reading) (is : ShowsVolume v r) (late
         holds = ((alive, (here.header alive).segment ∙ file.first), false_from_ne_true _ (λ e. none ((shows.entered n).0 (ap (has later.entered) (sym same) ∙ e)).entered));
         is = ap (λ (m : ℕ). finding 6 m 0) (sym same);
       })))
-  noted-found code a b (names_no_file d i bytes e none) past = inl (inl (inr (shows.no_file.added 7 d i (refl, (within d e.directory, names_no_file d i bytes e none)))))
-  noted-found code a b (name_repeated d i bytes e again) past = inl (inr (shows.repeated.added 8 d i (refl, (within d e.directory, name_repeated d i bytes e again))))
-  noted-found code a b (no_name d i bytes e none) past = inr (shows.no_name.added 9 d i (refl, (within d e.directory, no_name d i bytes e none)))
+  noted-found code a b (names_no_file d i bytes e none) past early = inl (inl (inr (shows.no_file.added 7 d i (refl, (within d e.directory, names_no_file d i bytes e none)))))
+  noted-found code a b (name_repeated d i bytes e again) past early = inl (inr (shows.repeated.added 8 d i (refl, (within d e.directory, name_repeated d i bytes e again))))
+  noted-found code a b (no_name d i bytes e none) past early = inr (shows.no_name.added 9 d i (refl, (within d e.directory, no_name d i bytes e none)))
+  noted-found code a b (not_contiguous n file mark apart) past early = absurd (omega (arith, early))
 
   both : (R S : ℕ → ℕ → ℕ → Type 0) (a b c : List Finding) → Finds R a b → Finds S b c → Finds (λ code x y. R code x y ⊎ S code x y) a c
   both R S a b c one other = finds-more R S (λ code x y. R code x y ⊎ S code x y) a b c one other (λ code x y h. inl h) (λ code x y h. inr h) (λ code x y h. h)
 
   pub later-found : (a b c d e : List Finding) → Finds Unentered a b → Finds (Of later.no_file) b c → Finds (Of later.repeated) c d → Finds (Of later.no_name) d e → Finds (IsLaterNote image v) a e
   later-found a b c d e one two three four =
-      finds-same Found _ a e (both _ _ a d e (both _ _ a c d (both _ _ a b c one two) three) four) found-noted (λ code x y n. noted-found code x y n.note n.later)
+      finds-same Found _ a e (both _ _ a d e (both _ _ a c d (both _ _ a b c one two) three) four) found-noted (λ code x y n. noted-found code x y n.note n.later n.early)

@@ -16,12 +16,12 @@ use Rattle.f11_vfy.specs.declared.directories.flaws.Flaw.TheVariants.{NoFile, Re
 use Rattle.f11_vfy.specs.declared.directories.later.Later.{Later}
 use Rattle.f11_vfy.proofs.Directory.Blank.{blank-none}
 use Rattle.f11_vfy.proofs.Scanning.Found.{finds-none, finds-more, finds-same}
-use Rattle.f11_vfy.proofs.Directory.Records.{flaw-low, flaw-noted, noted-flaw, noted-directory, enters-noted, enters-found}
+use Rattle.f11_vfy.proofs.Directory.Records.{flaw-low, flaw-high, flaw-noted, noted-flaw, noted-directory, enters-noted, enters-found}
 
 module _ (image : Image) (v : Volume) (low : (n : ℕ) → v.table.in_use n ≡ true → 1 ≤ n) where
   none-yet : (flaw : Flaw) (code a b : ℕ) → ¬ FlawsUpTo image v flaw 0 code a b
   none-yet flaw code a b f =
-      let of = noted-directory image v code a b f.1.1 (omega (arith, f.0, flaw-low flaw)) in
+      let of = noted-directory image v code a b f.1.1 (omega (arith, f.0, flaw-low flaw)) (omega (arith, f.0, flaw-high flaw)) in
       let some = low a of.file.live.in_use in
       omega (arith, some, f.1.0)
 
@@ -42,7 +42,7 @@ module _ (image : Image) (v : Volume) (low : (n : ℕ) → v.table.in_use n ≡ 
     still : (flaw : Flaw) (code a b : ℕ) → FlawsUpTo image v flaw (k + 1) code a b → FlawsUpTo image v flaw k code a b
     still flaw code a b f = elim (cases_lt k a) [
       | inl past ↦
-          let of = noted-directory image v code a b f.1.1 (omega (arith, f.0, flaw-low flaw)) in
+          let of = noted-directory image v code a b f.1.1 (omega (arith, f.0, flaw-low flaw)) (omega (arith, f.0, flaw-high flaw)) in
           let same : a ≡ k + 1 = omega (arith, past, f.1.0) in
           absurd (none (subst (λ (d : ℕ). IsDirectory image v.table d) same of))
       | inr within ↦ (f.0, (within, f.1.1))

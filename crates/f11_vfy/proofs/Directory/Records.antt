@@ -9,7 +9,7 @@ use Rattle.f11_store.specs.Directory.{entries_of, entry_count, is_empty, record_
 use Rattle.f11_store.specs.File.{File}
 use Rattle.f11_volume.specs.Contents.{file_of}
 use Rattle.f11_vfy.specs.Directory.Flaws.{EntersIn, HasFlaw, flaw_code}
-use Rattle.f11_volume.specs.Notes.{IsVolumeNote, IsDirectory, IsRecord, IsIdOf, IsEntered, IsRepeated, blocks_lost, header_dead, orphan, marked, not_closed, in_no_directory, names_no_file, name_repeated, no_name}
+use Rattle.f11_volume.specs.Notes.{IsVolumeNote, IsDirectory, IsRecord, IsIdOf, IsEntered, IsRepeated, blocks_lost, header_dead, orphan, marked, not_closed, in_no_directory, names_no_file, name_repeated, no_name, not_contiguous}
 use Rattle.f11_volume.specs.Volume.{Volume}
 use Rattle.f11_vfy.specs.declared.directories.flaws.Flaw.{Flaw}
 use Rattle.f11_vfy.specs.declared.directories.flaws.Flaw.TheVariants.{NoFile, Repeated, NoName}
@@ -29,17 +29,23 @@ flaw-low NoFile = omega arith
 flaw-low Repeated = omega arith
 flaw-low NoName = omega arith
 
+pub flaw-high : (flaw : Flaw) → flaw_code flaw ≤ 9
+flaw-high NoFile = omega arith
+flaw-high Repeated = omega arith
+flaw-high NoName = omega arith
+
 -- such a note is of a directory
-pub noted-directory : (image : Image) (v : Volume) (code d i : ℕ) → IsVolumeNote image v code d i → 7 ≤ code → IsDirectory image v.table d
-noted-directory image v code d i (blocks_lost low high run) is = absurd (omega (arith, is))
-noted-directory image v code d i (header_dead n dead) is = absurd (omega (arith, is))
-noted-directory image v code d i (orphan n live later none) is = absurd (omega (arith, is))
-noted-directory image v code d i (marked n file mark) is = absurd (omega (arith, is))
-noted-directory image v code d i (not_closed n file was) is = absurd (omega (arith, is))
-noted-directory image v code d i (in_no_directory n file none) is = absurd (omega (arith, is))
-noted-directory image v code d i (names_no_file f j bytes r none) is = r.directory
-noted-directory image v code d i (name_repeated f j bytes r again) is = r.directory
-noted-directory image v code d i (no_name f j bytes r none) is = r.directory
+pub noted-directory : (image : Image) (v : Volume) (code d i : ℕ) → IsVolumeNote image v code d i → 7 ≤ code → code ≤ 9 → IsDirectory image v.table d
+noted-directory image v code d i (blocks_lost low high run) is early = absurd (omega (arith, is))
+noted-directory image v code d i (header_dead n dead) is early = absurd (omega (arith, is))
+noted-directory image v code d i (orphan n live later none) is early = absurd (omega (arith, is))
+noted-directory image v code d i (marked n file mark) is early = absurd (omega (arith, is))
+noted-directory image v code d i (not_closed n file was) is early = absurd (omega (arith, is))
+noted-directory image v code d i (in_no_directory n file none) is early = absurd (omega (arith, is))
+noted-directory image v code d i (names_no_file f j bytes r none) is early = r.directory
+noted-directory image v code d i (name_repeated f j bytes r again) is early = r.directory
+noted-directory image v code d i (no_name f j bytes r none) is early = r.directory
+noted-directory image v code d i (not_contiguous n file mark apart) is early = absurd (omega (arith, early))
 
 module _ (image : Image) (v : Volume) (d : ℕ) (directory : IsDirectory image v.table d) where
   abbrev pub blocks : List (List ℕ)
@@ -94,6 +100,7 @@ module _ (image : Image) (v : Volume) (d : ℕ) (directory : IsDirectory image v
   noted-flaw flaw code e i (marked n file mark) is same = absurd (omega (arith, is, flaw-low flaw))
   noted-flaw flaw code e i (not_closed n file was) is same = absurd (omega (arith, is, flaw-low flaw))
   noted-flaw flaw code e i (in_no_directory n file none) is same = absurd (omega (arith, is, flaw-low flaw))
+  noted-flaw flaw code e i (not_contiguous n file mark apart) is same = absurd (omega (arith, is, flaw-high flaw))
   noted-flaw NoFile code e i (names_no_file f j bytes r none) is same = let here = of-record e i bytes same r in (record-below i bytes here, no-file-found i bytes here none)
   noted-flaw Repeated code e i (names_no_file f j bytes r none) is same = absurd (omega (arith, is))
   noted-flaw NoName code e i (names_no_file f j bytes r none) is same = absurd (omega (arith, is))

@@ -28,7 +28,7 @@ use Rattle.f11_vfy.proofs.Reclaiming.Space.{free-unnamed}
 use Rattle.f11_vfy.proofs.Reclaiming.Storage.{storage-then}
 use Rattle.f11_vfy.proofs.Scanning.Reading.{table-slots}
 use Rattle.f11_vfy.proofs.Surveying.Cells.{named-some, some-named}
-use Rattle.f11_volume.specs.Notes.{IsVolumeNote, IsLost, blocks_lost, header_dead, orphan, marked, not_closed, in_no_directory, names_no_file, name_repeated, no_name}
+use Rattle.f11_volume.specs.Notes.{IsVolumeNote, IsLost, blocks_lost, header_dead, orphan, marked, not_closed, in_no_directory, names_no_file, name_repeated, no_name, not_contiguous}
 use Rattle.f11_volume.specs.Sound.{HasSoundVolume}
 use Rattle.f11_volume.specs.Space.{storage_bitmap}
 use Rattle.f11_volume.specs.Verdict.{IsNote}
@@ -238,6 +238,7 @@ module _ (index : Index) (bitmap : Bitmap) (r : Reading) (home : HomeFields) (a 
         no-first code x y few (names_no_file m i bytes rec none) = omega (arith, few)
         no-first code x y few (name_repeated m i bytes rec repeated) = omega (arith, few)
         no-first code x y few (no_name m i bytes rec none) = omega (arith, few)
+        no-first code x y few (not_contiguous n file mark apart) = omega (arith, few)
 
         no-note : (code x y : ℕ) → code ≤ 3 → ¬ IsNote d code x y
         no-note code x y few note =

@@ -16,7 +16,7 @@ use Rattle.f11_vfy.specs.Chain.{IsLinkedTwice}
 use Rattle.f11_volume.specs.Contents.{file_of}
 use Rattle.f11_volume.specs.Faults.{IsVolumeFault, header_bad, pointer_outside, named_twice, named_free, wrong_link, linked_twice, link_past_last, link_to_volume}
 use Rattle.f11_vfy.specs.Scanning.Found.{Finds, FoundAmong}
-use Rattle.f11_volume.specs.Notes.{IsVolumeNote, blocks_lost, header_dead, orphan, marked, not_closed, in_no_directory, names_no_file, name_repeated, no_name}
+use Rattle.f11_volume.specs.Notes.{IsVolumeNote, blocks_lost, header_dead, orphan, marked, not_closed, in_no_directory, names_no_file, name_repeated, no_name, not_contiguous}
 use Rattle.f11_vfy.specs.Scanning.Parts.{IsReading}
 use Rattle.f11_vfy.specs.Scanning.Reading.{ShowsVolume, IsFirstNote}
 use Rattle.f11_vfy.specs.Scanning.Scans.{Holds, code_of, is_lost, ends_lost, start_of}
@@ -329,6 +329,7 @@ module _ (v : Volume) (r : Reading) (is : ShowsVolume v r) where
   notes-complete image code a b (names_no_file d i bytes entry none) few = absurd (omega (arith, few))
   notes-complete image code a b (name_repeated d i bytes entry again) few = absurd (omega (arith, few))
   notes-complete image code a b (no_name d i bytes entry none) few = absurd (omega (arith, few))
+  notes-complete image code a b (not_contiguous n file mark apart) few = absurd (omega (arith, few))
 
   -- found one after another
   pub notes-found : (a b c d e : List Finding)

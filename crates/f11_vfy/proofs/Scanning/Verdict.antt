@@ -13,6 +13,7 @@ use Rattle.f11_vfy.specs.Directory.Notes.{IsLaterNote}
 use Rattle.f11_volume.specs.Faults.{IsFramed, IsFrameFault, IsVolumeFault}
 use Rattle.f11_vfy.specs.Scanning.Found.{Finds}
 use Rattle.f11_volume.specs.Notes.{IsVolumeNote}
+use Rattle.f11_vfy.specs.Scanning.Contiguous.{IsLastNote}
 use Rattle.f11_vfy.specs.Scanning.Reading.{IsFirstNote}
 use Rattle.f11_volume.specs.Verdict.{IsFault, IsNote, of_frame, of_volume}
 use Rattle.f11_volume.specs.Volume.{Volume, volume_of}
@@ -50,18 +51,25 @@ no-note image code a fault = record {
   order = none-in-order;
 }
 
--- the notes of a volume are those of the first five codes and the others
-pub volume-notes : (image : Image) (v : Volume) (old new : List Finding) → IsExactly (IsFirstNote image v) old → Finds (IsLaterNote image v) old new → IsExactly (IsVolumeNote image v) new
-volume-notes image v old new is finds = record {
-  each = λ k d below. elim (finds.no_others (get_or new k d) (Contains-get_or new k d below)) [
-    | inl before ↦ (All-contains (λ f. IsFirstNote image v f.code f.a f.b) old (get_or new k d) is.each before).note
-    | inr later ↦ later.note
+-- the notes of a volume are those of the first five codes, those of directories, and the last
+pub volume-notes : (image : Image) (v : Volume) (old now new : List Finding) → IsExactly (IsFirstNote image v) old → Finds (IsLaterNote image v) old now → Finds (IsLastNote image v) now new
+    → IsExactly (IsVolumeNote image v) new
+volume-notes image v old now new is later last = record {
+  each = λ k d below. elim (last.no_others (get_or new k d) (Contains-get_or new k d below)) [
+    | inl before ↦ elim (later.no_others (get_or new k d) before) [
+      | inl first ↦ (All-contains (λ f. IsFirstNote image v f.code f.a f.b) old (get_or new k d) is.each first).note
+      | inr there ↦ there.note
+    ]
+    | inr there ↦ there.note
   ];
   all = λ code a b note. elim (cases_lt 5 code) [
-    | inl later ↦ finds.added code a b (record { later = later; note = note })
-    | inr first ↦ finds.kept (finding code a b) (is.all code a b (record { first = first; note = note }))
+    | inl past ↦ elim (cases_lt 9 code) [
+      | inl end ↦ last.added code a b (record { last = end; note = note })
+      | inr early ↦ last.kept (finding code a b) (later.added code a b (record { later = past; early = early; note = note }))
+    ]
+    | inr first ↦ last.kept (finding code a b) (later.kept (finding code a b) (is.all code a b (record { first = first; note = note })))
   ];
-  order = finds.order is.order;
+  order = last.order (later.order is.order);
 }
 
 module _ (image : Image) (home : HomeFields) (framed : IsFramed image home) where

@@ -22,9 +22,10 @@ use Rattle.f11_volume.specs.Volume.{Volume}
 use Rattle.f11_vfy.specs.declared.directories.later.Later.{Later}
 use Rattle.f11_vfy.specs.declared.findings.reading.Reading.{Reading}
 
--- a note of directories, by its code, which is above the first five
+-- a note of directories, by its code, which is above the first five and below the last
 pub record IsLaterNote (image : Image) (v : Volume) (code a b : ℕ) : Type 0 where
   pub later : 5 < code
+  pub early : code ≤ 9
   pub note : IsVolumeNote image v code a b
 
 -- header d is a directory's first

@@ -8,8 +8,6 @@ use Rattle.std.specs.Prelude.{
   ◌/◌,
   ◌<◌,
   ◌≤◌,
-  zero,
-  suc,
   min,
   IsTrue,
   List,
@@ -18,9 +16,6 @@ use Rattle.std.specs.Prelude.{
   drop,
   slice_index,
   slice_index_or,
-  Option,
-  Some,
-  None,
 }
 use Rattle.f11_chain.specs.FileHeaders.{blocks_by}
 use Rattle.f11_dev.specs.Disk.{Disk}
@@ -32,19 +27,13 @@ use Rattle.f11_index.specs.Table.{Table, table_in, IsLive}
 use Rattle.f11_store.specs.Directory.{entry_count}
 use Rattle.f11_store.specs.File.{File}
 use Rattle.f11_vfy.specs.Surveying.Bits.{limit_of}
-use Rattle.f11_vfy.specs.Chain.{IsFit, KeepsTable, NextsTo}
-use Rattle.f11_volume.specs.Contents.{following, headers_reached, block_or_zeros, file_of}
+use Rattle.f11_vfy.specs.Chain.{KeepsTable, KnowsNexts, numbered}
+use Rattle.f11_volume.specs.Contents.{following, blocks_reached, block_or_zeros, file_of}
 use Rattle.f11_vfy.specs.Directory.Blank.{HoldNoRecord}
 use Rattle.f11_vfy.specs.Directory.Later.{TakesOn, TakesRecords}
 use Rattle.f11_vfy.specs.declared.directories.contents.Directory.{Directory}
 use Rattle.f11_vfy.specs.declared.directories.later.Later.{Later}
 use Rattle.f11_vfy.specs.declared.survey.slot.Slot.{Slot}
-
--- what is kept of the next headers of a table's slots
-pub record KnowsNexts (t : Table) (kept : List ℕ) : Type 0 where
-  pub fit : IsFit t
-  pub count : length kept ≡ t.slots
-  pub nexts : NextsTo t kept t.slots
 
 -- how many records before an end there are in the first so many blocks
 abbrev pub until : ℕ → ℕ → ℕ
@@ -95,15 +84,10 @@ pub record TakesHeader (index : Index) (slots : List Slot) (dir : Directory) (at
   pub few : count ≤ 32512
   pub looked : Looked old new (1 + wanted dir.end at count) 0
 
--- the header with this number; number 0 is none
-abbrev pub numbered : ℕ → Option ℕ
-numbered zero = None
-numbered (suc n) = Some (suc n)
-
 -- Of the blocks of file d those from block `at` on are those of header n, 0 for none, and of those behind it, so many at most.
 pub record ComesTo (t : Table) (d at n most : ℕ) : Type 0 where
-  pub within : at ≤ length (blocks_by t (headers_reached t d))
-  pub rest : drop at (blocks_by t (headers_reached t d)) ≡ blocks_by t (following most t (numbered n))
+  pub within : at ≤ length (blocks_reached t d)
+  pub rest : drop at (blocks_reached t d) ≡ blocks_by t (following most t (numbered n))
   pub live : 1 ≤ n → IsLive t n
 
 -- A directory's headers from its second one on were looked at, and their blocks; so many transfers failed.
@@ -112,7 +96,7 @@ pub record LooksAtHeaders (index : Index) (nexts : List ℕ) (dir : Directory) (
   pub looked : Looked old new reads faults
   pub few : IsTrue old.honest → KnowsNexts (table_in old.image index) nexts → ComesTo (table_in old.image index) dir.d at n most
       → wanted dir.end 0 at + reads ≤ most + wanted dir.end 0
-      (length (blocks_by (table_in old.image index) (headers_reached (table_in old.image index) dir.d)))
+      (length (blocks_reached (table_in old.image index) dir.d))
 
 -- They were taken.
 pub record TakesHeaders (index : Index) (slots : List Slot) (nexts : List ℕ) (dir : Directory) (at n most : ℕ)

@@ -3,8 +3,10 @@ use Rattle.std.specs.Prelude.{◌≡◌, ◌+◌, ◌<◌, ◌&&◌, ◌==◌, �
 use Rattle.f11_bytes.specs.Words.{word}
 use Rattle.f11_header.specs.Fields.{file_sequence, characteristics, attributes, ident_area}
 use Rattle.f11_header.specs.Header.{IsHeader, IsDead}
-use Rattle.f11_map.specs.HeaderBlock.{segment_number, link_of}
+use Rattle.f11_map.specs.HeaderBlock.{segment_number, link_of, blocks_named}
 use Rattle.f11_index.specs.Table.{Table, IsLive, IsDeadSlot}
+use Rattle.f11_vfy.specs.Surveying.Extent.{LieAs}
+use Rattle.f11_vfy.specs.declared.survey.extent.Extent.TheVariants.{Empty}
 use Rattle.f11_vfy.specs.declared.survey.slot.Slot.{Slot}
 use Rattle.f11_vfy.specs.declared.survey.slot.State.{State}
 use Rattle.f11_vfy.specs.declared.survey.slot.State.TheVariants.{Unused, Dead, Bad, Live}
@@ -20,6 +22,7 @@ pub record KeepsHeader (b : List ℕ) (s : Slot) : Type 0 where
   pub characteristics_are : s.characteristics ≡ characteristics b
   pub link : s.link ≡ link_of b
   pub directory : segment_number b ≡ 0 → s.directory ≡ says_directory b
+  pub extent : LieAs (blocks_named b) s.extent
 
 -- header n is in use, and neither valid nor dead
 pub record IsBadSlot (t : Table) (n : ℕ) : Type 0 where
@@ -49,6 +52,7 @@ unused_slot = record {
   link =
       record { number = 0; sequence = 0; volume = 0 };
   directory = false;
+  extent = Empty;
 }
 
 -- what is kept of slot k + 1

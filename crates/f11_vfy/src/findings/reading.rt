@@ -47,7 +47,7 @@ impl Reading {
     /// Reads a volume of `size` blocks whose bitmap blocks are at these places: at most 126 places, with a bit for each block; one
     /// may be there more than once. It reads each of them once at most, and then each header whose slot is in use, once.
     ///
-    /// It takes three bits for each block of the volume, two for each that a pointer can name where one names a block outside, and some 16
+    /// It takes three bits for each block of the volume, two for each that a pointer can name where one names a block outside, and some 30
     /// bytes a slot.
     ///
     /// # Errors

@@ -80,7 +80,7 @@ fn is_linked(slot: &Slot, in_file: bool) -> bool
 }
 
 /// Whether a bit of a word is 1.
-fn has_bit(word: u16, k: u32) -> bool
+pub(crate) fn has_bit(word: u16, k: u32) -> bool
     requires { k < 16 }
     ensures { IsTrue result ↔ (bit_at word k ≡ 1) }
 {

@@ -31,7 +31,7 @@ use std::alloc::Global;
 /// too; and then each block of the storage bitmap that is to change is read again and written, once. So a block is free then exactly where no
 /// header names it, and a slot is in use exactly where its header is one of a file.
 ///
-/// It takes four bits for each block of the volume and some 16 bytes a slot, all before the first write.
+/// It takes four bits for each block of the volume and some 30 bytes a slot, all before the first write.
 ///
 /// # Errors
 ///

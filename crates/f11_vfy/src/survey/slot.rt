@@ -5,6 +5,7 @@ ghost use Rattle.f11_header.specs.Header.{IsHeader, IsDead, holds_header};
 ghost use Rattle.f11_map.specs.HeaderBlock.{segment_number, link_of};
 ghost use Rattle.f11_vfy.specs.Surveying.Slot.{KeepsHeader, says_directory};
 
+use crate::survey::extent::{Extent, extent_of};
 use f11_bytes::{Block, read_word};
 use f11_header::{Header, HeaderFault, check};
 use f11_map::in_hand::{link, segment};
@@ -23,7 +24,7 @@ pub enum State {
     Live,
 }
 
-/// What is kept of a slot. All but its state is of a valid header, and 0 where it has none.
+/// What is kept of a slot. All but its state is of a valid header, and nothing where it has none.
 #[derive(Clone, Copy, Debug)]
 pub struct Slot {
     pub state: State,
@@ -37,6 +38,8 @@ pub struct Slot {
     pub link: FileId,
     /// The header is a file's first, and the file is a directory.
     pub directory: bool,
+    /// Where the blocks lie that the header names.
+    pub extent: Extent,
 }
 
 impl Slot {
@@ -87,6 +90,7 @@ pub(crate) fn keep(state: State, block: &Block) -> Slot
                 volume: 0,
             },
             directory: false,
+            extent: Extent::Empty,
         },
     }
 }
@@ -106,6 +110,7 @@ fn keep_header(block: &Block) -> Slot
         characteristics: header.characteristics(),
         link: link(block),
         directory: segment == 0 && is_directory(block),
+        extent: extent_of(block),
     }
 }
 

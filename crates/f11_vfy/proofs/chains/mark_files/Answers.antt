@@ -1,19 +1,14 @@
-use Rattle.std.proofs.Common.{◌+◌, ◌∙◌, inl, inr, false, ap, sym, subst, arith}
+use Rattle.std.proofs.Common.{◌+◌, ◌∙◌, inl, inr, ap, sym, subst, arith}
 use Rattle.std.proofs.lemmas.Bool.{cases_lt, both_ways}
 use Rattle.f11_index.specs.Table.{IsFile}
 use Rattle.f11_vfy.specs.Surveying.Bits.{has, limit_of}
 use Rattle.f11_vfy.specs.Chain.{IsClosed}
-use Rattle.f11_vfy.specs.declared.survey.slot.Slot.{Slot}
-use Rattle.f11_vfy.specs.declared.survey.slot.State.TheVariants.{Unused}
+use Rattle.f11_vfy.specs.Surveying.Slot.{unused_slot}
 use Rattle.f11_vfy.proofs.ChainLemmas.{held_marked, first_is, is_first}
 use Rattle.f11_vfy.proofs.chains.mark_files.Goals as goal
 use Rattle.f11_vfy.proofs.chains.mark_files.Goals.{then-is_file, else-is_file}
 
-none : Slot
-none = record { state = Unused; segment = 0; sequence = 0; characteristics = 0; link = record { number = 0; sequence = 0; volume = 0 }; directory = false }
-
 pub loop-k-preserved : goal.loop-k-preserved
-unfolding none
 loop-k-preserved c = record {
   limit = elim c.if-is_file.branch [
     | then-is_file w ↦ ap limit_of w.marked-is ∙ w.walk.ensures.limit ∙ c.loop-k.invariant.limit
@@ -21,7 +16,7 @@ loop-k-preserved c = record {
   ];
   closed = λ v l is. elim c.if-is_file.branch [
     | then-is_file w ↦ subst (IsClosed v) (sym w.marked-is) (w.walk.ensures.closed v l.fit is
-        (first_is v c.args.slots.now l c.loop-k.k (omega (arith, c.loop-k-test.true, c.requires.count)) none (c.is_file.ensures.0 w.if-is_file.true)) (c.loop-k.invariant.closed v l is))
+        (first_is v c.args.slots.now l c.loop-k.k (omega (arith, c.loop-k-test.true, c.requires.count)) unused_slot (c.is_file.ensures.0 w.if-is_file.true)) (c.loop-k.invariant.closed v l is))
     | else-is_file w ↦ subst (IsClosed v) (sym w.marked-is) (c.loop-k.invariant.closed v l is)
   ];
   firsts = λ v l f low high x. elim c.if-is_file.branch [
@@ -32,7 +27,7 @@ loop-k-preserved c = record {
     | else-is_file w ↦ ap (λ m. has m f) w.marked-is ∙ elim (cases_lt f (c.loop-k.k + 1)) [
       | inl before ↦ c.loop-k.invariant.firsts v l f low (omega arith) x
       | inr here ↦ absurd (both_ways c.is_file.result w.if-is_file.false
-          (c.is_file.ensures.1 (is_first v c.args.slots.now l c.loop-k.k (omega (arith, c.loop-k-test.true, c.requires.count)) none (subst (IsFile v) (omega arith) x))))
+          (c.is_file.ensures.1 (is_first v c.args.slots.now l c.loop-k.k (omega (arith, c.loop-k-test.true, c.requires.count)) unused_slot (subst (IsFile v) (omega arith) x))))
     ]
   ];
 }
