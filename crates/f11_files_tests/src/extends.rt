@@ -1,7 +1,7 @@
 //! Files of a Files-11 volume that are extended.
-ghost use Rattle.std.specs.Prelude.{◌<◌, ◌+◌, OnOk};
+ghost use Rattle.std.specs.Prelude.{◌≡◌, ◌<◌, ◌+◌, OnOk};
 ghost use Rattle.f11_image_store.specs.Allocation.{GainsBlocks};
-ghost use Rattle.f11_files.specs.Open.{disk_in, home_in, is_honest, IsIdFrom};
+ghost use Rattle.f11_files.specs.Open.{disk_in, home_in, is_honest, store_in, IsIdFrom};
 ghost use Rattle.f11_volume.specs.Volume.{volume_of};
 
 use crate::calls::{Call, Given, Id, Row, go, is_accepted, opened, transfers};
@@ -21,7 +21,8 @@ const B: Id = (7, 1);
 
 const AFTER: Id = (6, 2);
 
-/// Extends a file, and then once more. It has the lowest free blocks then, as if it had been extended at once.
+/// Extends a file, and then once more. Where the index file gets no slot first, it has the lowest free blocks then, as if it had been
+/// extended at once.
 fn extended_twice<D: Device>(
     files: &mut Files<D>,
     f: FileId,
@@ -30,7 +31,8 @@ fn extended_twice<D: Device>(
 ) -> Result<u32, Refusal>
     requires id { IsIdFrom 4 f }
     requires some { (0 < n) × (0 < more) }
-    ensures gains { is_honest files.old → OnOk result (GainsBlocks f.number (n + more)
+    ensures gains { is_honest files.old → (store_in files.new).slots ≡ (store_in files.old).slots
+        → OnOk result (GainsBlocks f.number (n + more)
         (volume_of (disk_in files.old).image (home_in files.old))
         (volume_of (disk_in files.new).image (home_in files.new))) }
 {
