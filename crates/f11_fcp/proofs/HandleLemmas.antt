@@ -9,11 +9,11 @@ use Rattle.f11_store.specs.Causes.{Cause, first_of, first_refusal}
 use Rattle.f11_store.specs.Changes.{Changes}
 use Rattle.f11_store.specs.Cost.{cost}
 use Rattle.f11_store.specs.Lags.{Work, LagsBy, work_if, work_of, served_work}
-use Rattle.f11_store.specs.Step.{MayRefuse, may_want_memory, reply_of, block_after}
+use Rattle.f11_store.specs.Step.{MayRefuse, asks_for_run, may_want_memory, reply_of, block_after}
 use Rattle.f11_store.specs.Store.{Store}
 use Rattle.f11_store.specs.declared.callers.Uic.{Uic}
 use Rattle.f11_store.specs.declared.refusals.Refusal.{Refusal}
-use Rattle.f11_store.specs.declared.refusals.Refusal.TheVariants.{VolumeFailed, NoMemory, DeviceFault, Damaged}
+use Rattle.f11_store.specs.declared.refusals.Refusal.TheVariants.{VolumeFailed, NoMemory, DeviceFault, Damaged, NoRun}
 use Rattle.f11_store.specs.declared.requests.Reply.{Reply}
 use Rattle.f11_store.specs.declared.requests.Request.{Request}
 use Rattle.f11_files.specs.Answers.{ReadsAtMost, WritesAtMost, FailsOrWants, FailsToWrite, Does, is_among, is_fatal, is_clean, is_cause, faults_of, Meanwhile as FilesMeanwhile}
@@ -44,17 +44,28 @@ cause-not-fatal Damaged h = absurd (cc)
 cause-not-fatal _ h = refl
 
 -- the first refusal may be the answer
-may-first : (o : Option Refusal) (b : Bool) (e : Refusal) → o ≡ Some e → MayRefuse o b e
-may-first (Some x) b e is = let same : x ≡ e = cc in sym same
-may-first None b e is = absurd (cc)
+may-first : (o : Option Refusal) (b c : Bool) (e : Refusal) → o ≡ Some e → MayRefuse o b c e
+may-first (Some x) b c e is = let same : x ≡ e = cc in sym same
+may-first None b c e is = absurd (cc)
 
 -- so may want of memory, where there is no cause and some may be taken
-may-want : (o : Option Refusal) (b : Bool) → o ≡ None → b ≡ true → MayRefuse o b NoMemory
-may-want None true none takes = refl
-may-want None false none takes = absurd (cc)
-may-want (Some x) b none takes = absurd (cc)
+may-want : (o : Option Refusal) (b c : Bool) → o ≡ None → b ≡ true → MayRefuse o b c NoMemory
+may-want None true c none takes = refl
+may-want None false c none takes = absurd (cc)
+may-want (Some x) b c none takes = absurd (cc)
+
+-- and of a run of free blocks, where there is no cause and one is asked for
+may-lack-run : (o : Option Refusal) (b c : Bool) → o ≡ None → b ≡ false → c ≡ true → MayRefuse o b c NoRun
+may-lack-run None false true none takes asks = refl
+may-lack-run None true c none takes asks = absurd (cc)
+may-lack-run None false false none takes asks = absurd (cc)
+may-lack-run (Some x) b c none takes asks = absurd (cc)
 
 -- memory was wanting, or not
+pub run-cases : (e : Refusal) → (e ≡ NoRun) ⊎ (e ≢ NoRun)
+run-cases NoRun = inl refl
+run-cases _ = inr (λ is. absurd (cc))
+
 pub memory-cases : (e : Refusal) → (e ≡ NoMemory) ⊎ (e ≢ NoMemory)
 memory-cases NoMemory = inl refl
 memory-cases _ = inr (λ is. absurd (cc))
@@ -99,7 +110,7 @@ module _ (task : ℕ) (caller : Uic) (r : Request) (block : List ℕ) (old : Sta
 
   -- it is refused as it may be, and nothing was written
   handled-unchanged : (e : Refusal) (new : State) → is_fatal e ≡ false → e ≢ VolumeFailed → is_among (own_causes s task caller r) e ≡ true
-      → (IsTrue old.disk.honest → MayRefuse (first_refusal s task caller r) (may_want_memory s task r) e)
+      → (IsTrue old.disk.honest → MayRefuse (first_refusal s task caller r) (may_want_memory s task r) (asks_for_run r) e)
       → ReadsAtMost (cost s task r) old.disk new.disk 0 → new.home ≡ old.home → new.table ≡ old.table → new.counts ≡ old.counts → Handles task caller r (Err e) old block new block
   handled-unchanged e new clean other own may reads home table counts =
       let tests = clean-cause e clean other in
@@ -129,7 +140,7 @@ module _ (task : ℕ) (caller : Uic) (r : Request) (block : List ℕ) (old : Sta
   pub handled-clean : (e : Refusal) (new : State) → is_fatal e ≡ false → e ≢ VolumeFailed → is_among (own_causes s task caller r) e ≡ true → (IsTrue old.disk.honest → first_refusal s task caller r ≡ Some e)
       → ReadsAtMost (cost s task r) old.disk new.disk 0 → new.home ≡ old.home → new.table ≡ old.table → new.counts ≡ old.counts → Handles task caller r (Err e) old block new block
   handled-clean e new clean other own first =
-      handled-unchanged e new clean other own (λ honest. may-first (first_refusal s task caller r) (may_want_memory s task r) e (first honest))
+      handled-unchanged e new clean other own (λ honest. may-first (first_refusal s task caller r) (may_want_memory s task r) (asks_for_run r) e (first honest))
 
   -- it failed the volume
   pub handled-fatal : (e : Refusal) (new : State) (block' : List ℕ) → is_fatal e ≡ true → (IsTrue old.disk.honest → e ≢ Damaged) → WritesAtMost P (cost s task r) old.disk new.disk (faults_of e)
@@ -251,7 +262,7 @@ module _ (task : ℕ) (caller : Uic) (r : Request) (block : List ℕ) (old : Sta
       let wants = λ (honest : IsTrue old.disk.honest). (fails.wanting is).1 (reads.looked.honest ∙ honest) in
       subst (λ (x : Refusal). Handles task caller r (Err x) old block new block) (sym is)
       (handled-unchanged NoMemory new refl (λ same. absurd (cc)) own
-      (λ honest. may-want (first_refusal s task caller r) (may_want_memory s task r) (sym (first honest) ∙ (wants honest).0) (sym (may honest) ∙ (wants honest).1))
+      (λ honest. may-want (first_refusal s task caller r) (may_want_memory s task r) (asks_for_run r) (sym (first honest) ∙ (wants honest).0) (sym (may honest) ∙ (wants honest).1))
       (within-when fewer (reads-more reads (fails.unchanged (ap is_fatal is)))) (home' ∙ home) table (counts' (ap is_clean is) ∙ counts))
 
   -- one or the other
@@ -265,6 +276,17 @@ module _ (task : ℕ) (caller : Uic) (r : Request) (block : List ℕ) (old : Sta
       by_case : (e ≡ NoMemory) ⊎ (e ≢ NoMemory) → Handles task caller r (Err e) old block new block
       by_case (inl is) = handled-wanting e causes work takes mid new is reads home counts fails own' fewer first may home' table counts'
       by_case (inr other) = handled-refused e causes work mid new block reads home counts (without-memory other fails) own fewer first works home' table counts' (λ _. refl)
+
+  -- and one for which nowhere enough free blocks follow one another
+  pub handled-lacking : (e : Refusal) (mid new : State) {m n : ℕ} → e ≡ NoRun → ReadsAtMost m old.disk mid.disk 0 → mid.home ≡ old.home → mid.counts ≡ old.counts
+      → ReadsAtMost n mid.disk new.disk 0 → is_among (own_causes s task caller r) NoRun ≡ true → may_want_memory s task r ≡ false → asks_for_run r ≡ true
+      → (IsTrue old.disk.honest → m + n ≤ cost s task r) → (IsTrue old.disk.honest → first_refusal s task caller r ≡ None)
+      → new.home ≡ mid.home → new.table ≡ old.table → (is_clean e ≡ true → new.counts ≡ mid.counts) → Handles task caller r (Err e) old block new block
+  handled-lacking e mid new is reads home counts more own takes asks fewer first home' table counts' =
+      subst (λ (x : Refusal). Handles task caller r (Err x) old block new block) (sym is)
+      (handled-unchanged NoRun new refl (λ same. absurd (cc)) own
+      (λ honest. may-lack-run (first_refusal s task caller r) (may_want_memory s task r) (asks_for_run r) (first honest) takes asks)
+      (within-when fewer (reads-more reads more)) (home' ∙ home) table (counts' (ap is_clean is) ∙ counts))
 
 -- nothing was read
 pub reads-none : (d : Disk) → ReadsAtMost 0 d d 0

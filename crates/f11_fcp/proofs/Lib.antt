@@ -3,6 +3,7 @@ mod AccessedLemmas
 mod AppendLemmas
 mod AttributeLemmas
 mod ByWindowLemmas
+mod ContiguousLemmas
 mod DeaccessLemmas
 mod DeleteLemmas
 mod DirectoryLemmas
@@ -11,6 +12,7 @@ mod EntryLemmas
 mod FindLemmas
 mod GrowIndexLemmas
 mod HandleLemmas
+mod InOneRunLemmas
 mod KnownLemmas
 pub mod ListLemmas
 mod LengthLemmas

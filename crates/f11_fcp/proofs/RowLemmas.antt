@@ -9,12 +9,13 @@ use Rattle.f11_store.specs.declared.callers.Uic.{Uic}
 use Rattle.f11_store.specs.declared.files.Change.{Change}
 use Rattle.f11_store.specs.declared.files.FileId.{FileId}
 use Rattle.f11_volume.specs.Sound.{HasSoundVolume}
-use Rattle.f11_files.proofs.Rows.{altered-rows, created-rows, cut-rows, deleted-rows, extended-rows, grown-rows, replaced-rows, stored-rows}
+use Rattle.f11_files.proofs.Rows.{altered-rows, created-rows, cut-rows, deleted-rows, extended-rows, grown-rows, laid-rows, replaced-rows, stored-rows}
 use Rattle.f11_files.specs.Changing.Fields.{Alters}
 use Rattle.f11_files.specs.Create.{Creates}
 use Rattle.f11_files.specs.Extending.Runs.{ExtendsFile}
 use Rattle.f11_files.specs.Finding.Blocks.{StoresBlock}
 use Rattle.f11_files.specs.GrowingIndex.Runs.{GrowsIndexFile}
+use Rattle.f11_files.specs.LayingOut.Whole.{LaysOutFile}
 use Rattle.f11_files.specs.Open.{disk_in, home_in, is_honest}
 use Rattle.f11_files.specs.Removing.Delete.{Deletes}
 use Rattle.f11_files.specs.Removing.Truncate.{Cuts}
@@ -52,6 +53,9 @@ module _ {D : Type 0} {met : Ghosts D} (old new : Files D met) (image : IsImage 
 
   pub extended-leaves : (f : FileId) (n : ℕ) → ExtendsFile (home_in old) f n (disk_in old) (disk_in new) → LeavesRows old new
   extended-leaves f n does honest = extended-rows (home_in old) f n (disk_in old) (disk_in new) (before honest) (after (extended-honest does) honest) honest does
+
+  pub laid-leaves : (f : FileId) (n : ℕ) → LaysOutFile (home_in old) f n (disk_in old) (disk_in new) → LeavesRows old new
+  laid-leaves f n does honest = laid-rows (home_in old) f n (disk_in old) (disk_in new) (before honest) (after does.writes.went.honest honest) honest does
 
   pub grown-leaves : (n : ℕ) → GrowsIndexFile (home_in old) n (disk_in old) (disk_in new) → LeavesRows old new
   grown-leaves n does honest = grown-rows (home_in old) n (disk_in old) (disk_in new) (before honest) (after does.writes.went.honest honest) honest does

@@ -13,7 +13,7 @@ use Rattle.f11_store.specs.Store.{Store, file_named}
 use Rattle.f11_store.specs.declared.callers.Uic.{Uic}
 use Rattle.f11_store.specs.declared.refusals.Refusal.{Refusal}
 use Rattle.f11_store.specs.declared.refusals.Refusal.TheVariants as refusal
-use Rattle.f11_store.specs.declared.refusals.Refusal.TheVariants.{NoMemory}
+use Rattle.f11_store.specs.declared.refusals.Refusal.TheVariants.{NoMemory, NoRun}
 use Rattle.f11_store.specs.declared.requests.Reply.{Reply}
 use Rattle.f11_store.specs.declared.requests.Request.{Request}
 use Rattle.f11_store.specs.declared.requests.Request.TheVariants as request
@@ -66,14 +66,19 @@ is_damage e = refusal_number e == 20
 abbrev pub memory_cause : List Cause
 memory_cause = (NoMemory ⇐ true) ∷ []
 
--- what may be answered for a cause: the request's own causes, for Enter those against one block more of the directory too, and want of
--- memory where the index file grows or may grow first
+-- no run of free blocks
+abbrev pub run_cause : List Cause
+run_cause = (NoRun ⇐ true) ∷ []
+
+-- what may be answered for a cause: the request's own causes, for Enter those against one block more of the directory too, want of memory
+-- where the index file grows or may grow first, and that of a run where one is asked for
 abbrev pub own_causes : Store → ℕ → Uic → Request → List Cause
 own_causes s task caller (request.Create word ident attr) = causes_of s task caller (request.Create word ident attr) ++ memory_cause
 own_causes s task caller (request.Extend lun n) = causes_of s task caller (request.Extend lun n) ++ memory_cause
 own_causes s task caller (request.Enter d name id) =
     causes_of s task caller (request.Enter d name id) ++ (extend_causes s (file_named s d) 1 ++ memory_cause)
 own_causes s task caller (request.GrowIndex n) = causes_of s task caller (request.GrowIndex n) ++ memory_cause
+own_causes s task caller (request.Contiguous lun n) = causes_of s task caller (request.Contiguous lun n) ++ run_cause
 own_causes s task caller r = causes_of s task caller r
 
 -- Nothing was changed: not the image, what tasks hold, the counts, nor the block that was lent.

@@ -2,6 +2,7 @@ pub mod Accesses
 pub mod Directories
 pub mod Entries
 pub mod Handles
+pub mod InOneRun
 pub mod Laws
 pub mod Lengths
 pub mod Lists

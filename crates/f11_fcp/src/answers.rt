@@ -2,6 +2,7 @@
 ghost use Rattle.std.specs.Prelude.{◌≡◌, false, OnOk};
 ghost use Rattle.f11_fcp.specs.ByWindow.{WindowsAfter, TakesOneTransfer};
 ghost use Rattle.f11_fcp.specs.Handles.{Handles, IsOpen, StaysOpen, state_of};
+ghost use Rattle.f11_fcp.specs.InOneRun.{InOneRun};
 ghost use Rattle.f11_fcp.specs.Places.{table_of};
 ghost use Rattle.f11_fcp.specs.Serving.{fills_block};
 
@@ -29,6 +30,8 @@ impl Accesses {
             (state_of (table_of self.old) files.old) (state_of (table_of self.new) files.new)) }
         ensures once { TakesOneTransfer task request.now
             (state_of (table_of self.old) files.old) (state_of (table_of self.new) files.new) }
+        ensures run { InOneRun task caller request.now result
+            (state_of (table_of self.old) files.old) (state_of (table_of self.new) files.new) }
         ensures spared { fills_block request.now ≡ false → block.new ≡ block.old }
     {
         match request {
@@ -38,6 +41,7 @@ impl Accesses {
                 attr,
             } => self.create(files, task, caller, *protection, ident, attr),
             Request::Extend(lun, n) => self.extend(files, task, caller, *lun, *n),
+            Request::Contiguous(lun, n) => self.contiguous(files, task, caller, *lun, *n),
             Request::Truncate(lun, to) => self.truncate(files, task, caller, *lun, *to),
             Request::Delete(file) => self.delete(files, task, caller, *file),
             Request::GrowIndex(n) => self.grow_index(files, task, caller, *n),

@@ -12,6 +12,7 @@ mod append;
 mod attributes;
 mod blocks;
 mod call;
+mod contiguous;
 mod create;
 mod deaccess;
 mod delete;

@@ -1,7 +1,6 @@
 -- What is right to answer.
-use Rattle.std.proofs.Common.{true, ◌≡◌, ◌≢◌, ◌≤◌, ◌+◌, ℕ, Bool, false, IsTrue, List, Some, Result, Ok, Err, sym, ap, subst, ◌∙◌, arith}
+use Rattle.std.proofs.Common.{true, ◌≡◌, ◌≢◌, ◌≤◌, ◌+◌, ◌&&◌, ℕ, Bool, false, not, nat_lt, IsTrue, List, Some, Result, Ok, Err, sym, ap, subst, ◌∙◌, arith}
 use Rattle.std.specs.Prelude.{IsErrAnd, IfErr, OnOk}
-use Rattle.std.proofs.lemmas.Bool.{ltb-true}
 use Rattle.f11_dev.specs.Disk.{Disk}
 use Rattle.f11_dev.specs.Looked.{Looked}
 use Rattle.f11_dev.proofs.LookedLemmas.{looked_more}
@@ -9,7 +8,7 @@ use Rattle.f11_store.specs.Causes.{Cause, first_of}
 use Rattle.f11_store.specs.Refusal.{refusal_number}
 use Rattle.f11_store.specs.declared.refusals.Refusal.{Refusal}
 use Rattle.f11_store.specs.declared.refusals.Refusal.TheVariants.{VolumeFailed, DeviceFault, Damaged}
-use Rattle.f11_files.specs.Answers.{FailsToRead, is_among, is_clean, is_fatal, is_refused, IsRight, ReadsAtMost}
+use Rattle.f11_files.specs.Answers.{FailsToRead, is_among, is_cause, is_clean, is_fatal, is_refused, IsRight, ReadsAtMost}
 
 -- an error that is handed on
 pub handed : {T E : Type 0} (P : E → Type 0) (r : Result T E) (x : E) → IsErrAnd r (λ y. y ≡ x) → P x → IfErr r P
@@ -30,9 +29,16 @@ each-ok (Err x) more is = is
 pub not-clean : {T P : Type 0} (r : Result T Refusal) (x : Refusal) → IsErrAnd r (λ y. y ≡ x) → is_fatal x ≡ true → is_refused is_clean r ≡ true → P
 not-clean (Ok y) x is fatal clean = absurd is
 not-clean (Err y) x is fatal clean =
-    let more = ltb-true 18 (refusal_number x) fatal in
-    let less = ltb-true (refusal_number x) 19 (subst (λ (z : Refusal). is_clean z ≡ true) is clean) in
-    absurd (omega (arith, more, less))
+    let no : true ≡ false = sym (subst (λ (z : Refusal). is_clean z ≡ true) is clean) ∙ ap not fatal in absurd cc
+
+-- nor is it that of a cause
+pub fatal-no-cause : (r : Refusal) → is_fatal r ≡ true → is_cause r ≡ true → ⊥
+fatal-no-cause r fatal is = go (nat_lt 1 (refusal_number r)) (is_fatal r) fatal is
+  where
+    go : (a b : Bool) → b ≡ true → (a && not b) ≡ true → ⊥
+    go true true fatal is = absurd cc
+    go false b fatal is = absurd cc
+    go a false fatal is = absurd cc
 
 -- another refusal is not that one
 apart : (r s : Refusal) → refusal_number r ≢ refusal_number s → r ≢ s

@@ -1,5 +1,5 @@
 -- What a call does where blocks were read before it.
-use Rattle.std.proofs.Common.{◌≡◌, ◌+◌, ◌≤◌, ◌&&◌, ℕ, zero, suc, Bool, true, false, IsTrue, List, [], Option, None, Result, Ok, Err, ltb, sym, ap, subst, ◌∙◌, arith}
+use Rattle.std.proofs.Common.{◌≡◌, ◌+◌, ◌≤◌, ◌&&◌, ◌||◌, ℕ, zero, suc, Bool, true, false, not, IsTrue, List, [], Option, None, Result, Ok, Err, ltb, eqb, sym, ap, subst, ◌∙◌, arith}
 use Rattle.std.specs.Prelude.{IsErrAnd}
 use Rattle.f11_dev.specs.Disk.{Disk}
 use Rattle.f11_dev.specs.Image.{Image}
@@ -56,7 +56,7 @@ module _ {m : ℕ} {a b : Disk} (reads : ReadsAtMost m a b 0) (home : HomeFields
   moment-behind work image is honest = subst (λ (i : Image). IsUnderWay work home i image) image-read (is (honest-read ∙ honest))
 
   -- writes behind it
-  writes-read : {work : Work} {n faults : ℕ} {c : Disk} → WritesAtMost (Meanwhile work home b) n b c faults → WritesAtMost (Meanwhile work home a) (m + n) a c faults
+  pub writes-read : {work : Work} {n faults : ℕ} {c : Disk} → WritesAtMost (Meanwhile work home b) n b c faults → WritesAtMost (Meanwhile work home a) (m + n) a c faults
   writes-read {work = work} writes = record {
     transfers = reads.reads + writes.transfers;
     went = went_more (Meanwhile work home a) (went_looked (Meanwhile work home a) reads.looked) (went_weaker (Meanwhile work home b) (Meanwhile work home a) (moment-behind work) writes.went);
@@ -119,7 +119,7 @@ wants-for {causes = causes} {work = work} {home = home} {a = a} none fails = rec
 
 -- a refusal without a cause: nothing was written
 pub unread-wants : {takes : Bool} {causes : List Cause} {work : Work} {m n : ℕ} {home : HomeFields} {r : Refusal} {a b : Disk} → m ≤ n → FailsToRead false [] m r a b → FailsOrWants takes false causes n work home r a b
-unread-wants {r = r} few fails = as-wanting (λ is. let no : false ≡ true = fails.right.among (ap (λ (k : ℕ). ltb 1 k && ltb k 19) is) in absurd cc) (fails-unread few (fails-anyway fails))
+unread-wants {r = r} few fails = as-wanting (λ is. let no : false ≡ true = fails.right.among (ap (λ (k : ℕ). ltb 1 k && not (eqb k 19 || eqb k 20)) is) in absurd cc) (fails-unread few (fails-anyway fails))
 
 -- what a structure is for after a refusal that is handed on
 pub stays-handed : {T : Type 0} (result : Result T Refusal) (r : Refusal) (s t : Structure) (disk : Disk) → IsErrAnd result (λ y. y ≡ r) → StaysFor (is_fatal r) s t disk → StaysFor (is_refused is_fatal result) s t disk

@@ -4,6 +4,7 @@ pub mod Again
 pub mod Zero
 pub mod Reserved
 pub mod Written
+pub mod Pieces
 pub mod NameRun
 pub mod Clear
 pub mod LinkTail

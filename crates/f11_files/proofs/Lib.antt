@@ -7,6 +7,7 @@ pub mod Creating
 pub mod Confining
 pub mod Removing
 pub mod Extending
+pub mod LayingOut
 pub mod GrowingIndex
 pub mod Rows
 pub mod Readied

@@ -1,6 +1,6 @@
 -- What a call does that readies headers first, where it goes on, and where it breaks off.
 use Rattle.std.proofs.Common.{◌≡◌, ◌≢◌, ℕ, zero, suc, ◌+◌, ◌≤◌, ◌==◌, ◌||◌, Bool, true, false, IsTrue, List, ◌++◌, Option, Some, None, refl, sym, ap, subst, ◌∙◌, arith}
-use Rattle.std.proofs.lemmas.Bool.{ltb-true, or_parts}
+use Rattle.std.proofs.lemmas.Bool.{or_parts}
 use Rattle.std.proofs.lemmas.List.{append-nil}
 use Rattle.f11_dev.specs.Disk.{Disk}
 use Rattle.f11_dev.specs.Image.{Image}
@@ -139,7 +139,7 @@ module _ {home : HomeFields} {headers n : ℕ} {a b : Disk} (readies : ReadiesHe
         WritesAtMost (Meanwhile (work_if (first_of others) rest) home b) k b c (faults_of r) →
         FailsOrWants takes false causes (slots_cost s headers + few) (with_headers_first s headers work) home r a c
     fails-ready causes others few r none no_other within fatal undamaged writes =
-        as-wanting (λ is. let more = ltb-true 18 (refusal_number r) fatal in omega (arith, more, is))
+        as-wanting (λ is. let no : false ≡ true = sym (ap (λ (k : ℕ). (k == 19) || (k == 20)) is) ∙ fatal in absurd cc)
         (breaks-off none fatal (fatal-right causes r a.honest fatal undamaged) (writes-ready few (moment-refused others no_other) within writes))
 
 -- where nothing was done nothing was changed

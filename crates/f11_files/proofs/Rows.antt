@@ -32,7 +32,7 @@ use Rattle.f11_image_store.specs.StoreOf.{store_of}
 use Rattle.f11_image_store.proofs.KeptBlocksLemmas.{file-keeps-blocks, held-stored, is-stored}
 use Rattle.f11_files.specs.Extending.Runs.{headers_for}
 use Rattle.f11_files.specs.GrowingIndex.Headroom.{AllotsSlots, ReadiesHeaders}
-use Rattle.f11_files.specs.Rows.{AlteredKeepsRows, CreatedKeepsRows, CutKeepsRows, DeletedKeepsRows, ExtendedKeepsRows, GrownKeepsRows, KeepsRows, ReplacedKeepsRows, StoredKeepsRows, no_number, this_number}
+use Rattle.f11_files.specs.Rows.{AlteredKeepsRows, CreatedKeepsRows, CutKeepsRows, DeletedKeepsRows, ExtendedKeepsRows, GrownKeepsRows, KeepsRows, LaidOutKeepsRows, ReplacedKeepsRows, StoredKeepsRows, no_number, this_number}
 use Rattle.f11_files.proofs.Finding.Windows.{is-there}
 
 -- the headers of a file of the plain store, where there is one
@@ -253,6 +253,14 @@ extended-rows home f n old new sound sound' honest extends =
     (readied-rows home (headers_for home f n old) n extends.read extends.ready (subst (λ (i : Image). HasSoundVolume i home) (sym read) sound) honest' extends.readies))
     (rows-gain home extends.ready.image new.image (extends.readies.sound honest') sound' f.number n _
     (held-grown (store_of extends.ready.image home) (store_of new.image home) f.number n _ (does.makes honest'')) (does.allots honest''))
+
+pub laid-rows : LaidOutKeepsRows
+unfolding volume_of
+laid-rows home f n old new sound sound' honest does =
+    let made = does.makes honest in
+    rows-more home old.image new.image sound sound' f.number _ _
+    (λ g away. ap (λ (s : Store). held_of (s.file g)) made.store_is ∙ held-other (store_of old.image home) f.number g _ away)
+    (does.allots honest).names
 
 pub grown-rows : GrownKeepsRows
 grown-rows home n old new sound sound' honest does = index-rows home n old.image new.image sound sound' (does.makes honest) (does.allots honest)

@@ -1,6 +1,5 @@
 -- What is kept of an open volume, where blocks are written.
-use Rattle.std.proofs.Common.{◌≡◌, ◌≢◌, ◌⊎◌, ◌+◌, ◌≤◌, ℕ, Bool, true, false, cond, IsTrue, List, Option, None, length, inl, inr, refl, sym, ap, subst, ◌∙◌, arith}
-use Rattle.std.proofs.lemmas.Bool.{cases_eq, lt-ltb, ne_eqb}
+use Rattle.std.proofs.Common.{◌≡◌, ◌≢◌, ◌+◌, ◌≤◌, ◌||◌, ℕ, Bool, true, false, cond, IsTrue, List, Option, None, length, eqb, refl, sym, ap, subst, ◌∙◌, arith}
 use Rattle.f11_bits.specs.Bitmap.{Bitmap, KeepsBitmap}
 use Rattle.f11_bits.specs.Storage.{Keeps}
 use Rattle.f11_bits.proofs.LawLemmas.{Keeps-kept}
@@ -119,11 +118,11 @@ fails-unread {causes = causes} {work = work} {home = home} {r = r} {old = old} {
 }
   where
     no-fault : (r : Refusal) → is_fatal r ≡ false → faults_of r ≡ 0
-    no-fault r clean = go (cases_eq (refusal_number r) 19)
+    no-fault r clean = go (eqb (refusal_number r) 19) (eqb (refusal_number r) 20) clean
       where
-        go : (refusal_number r ≡ 19) ⊎ (refusal_number r ≢ 19) → faults_of r ≡ 0
-        go (inl is) = let heavy = lt-ltb 18 (refusal_number r) (omega (arith, is)) in let no : true ≡ false = sym heavy ∙ clean in absurd cc
-        go (inr other) = ap (λ (b : Bool). cond b 1 0) (ne_eqb (refusal_number r) 19 other)
+        go : (a b : Bool) → (a || b) ≡ false → ◌≡◌ {A = ℕ} (cond a 1 0) 0
+        go true b out = absurd cc
+        go false b out = refl
 
 -- the volume had failed, and nothing is done
 pub had-failed : {failed : Bool} {causes : List Cause} {n : ℕ} {work : Work} {home : HomeFields} (old : Disk) → failed ≡ true → FailsToWrite failed causes n work home VolumeFailed old old

@@ -1,5 +1,5 @@
 -- What the answer of a call on files tells, whatever the call (profile).
-use Rattle.std.specs.Prelude.{◌≡◌, ◌≢◌, ℕ, ◌≤◌, ◌==◌, ◌&&◌, Bool, true, false, nat_lt, IsTrue}
+use Rattle.std.specs.Prelude.{◌≡◌, ◌≢◌, ℕ, ◌≤◌, ◌==◌, ◌&&◌, ◌||◌, Bool, true, false, not, nat_lt, IsTrue}
 use Rattle.std.specs.Prelude.{if◌then◌else◌, List, [], Some, None, Result, Ok, Err}
 use Rattle.std.specs.List.{list_any}
 use Rattle.f11_chain.specs.FileHeaders.{file_blocks}
@@ -30,11 +30,11 @@ use Rattle.f11_image_store.specs.StoreOf.{store_of}
 
 -- DeviceFault and Damaged fail the volume
 abbrev pub is_fatal : Refusal → Bool
-is_fatal refusal = nat_lt 18 (refusal_number refusal)
+is_fatal refusal = (refusal_number refusal == 19) || (refusal_number refusal == 20)
 
 -- any other refusal leaves all as it was
 abbrev pub is_clean : Refusal → Bool
-is_clean refusal = nat_lt (refusal_number refusal) 19
+is_clean refusal = not (is_fatal refusal)
 
 -- a transfer failed
 abbrev pub is_fault : Refusal → Bool
@@ -42,7 +42,7 @@ is_fault refusal = refusal_number refusal == 19
 
 -- any other than these and VolumeFailed is that of a cause
 abbrev pub is_cause : Refusal → Bool
-is_cause refusal = nat_lt 1 (refusal_number refusal) && nat_lt (refusal_number refusal) 19
+is_cause refusal = nat_lt 1 (refusal_number refusal) && not (is_fatal refusal)
 
 -- a refusal is that of one of these causes
 abbrev pub is_among : List Cause → Refusal → Bool

@@ -9,6 +9,7 @@ pub mod Create
 pub mod Opening
 pub mod Removing
 pub mod Extending
+pub mod LayingOut
 pub mod GrowingIndex
 pub mod Rows
 pub mod Overall

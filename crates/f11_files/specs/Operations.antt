@@ -21,6 +21,10 @@ length_causes s f blocks = (NoSuchFile ⇐ is_missing s f) ∷ (EndOfFile ⇐ na
 abbrev pub extend_causes : Store → FileId → ℕ → List Cause
 extend_causes s f n = (NoSuchFile ⇐ is_missing s f) ∷ causes.extend_causes s (file_named s f) n
 
+-- or it may not be laid out in one run of n blocks
+abbrev pub contiguous_causes : Store → FileId → ℕ → List Cause
+contiguous_causes s f n = (NoSuchFile ⇐ is_missing s f) ∷ causes.contiguous_causes s (file_named s f) n
+
 -- or there is none without slots that come first
 abbrev pub held_causes : Store → FileId → ℕ → List Cause
 held_causes s f n = (NoSuchFile ⇐ is_missing s f) ∷ growth_causes s (file_named s f) n

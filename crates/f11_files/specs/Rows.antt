@@ -17,6 +17,7 @@ use Rattle.f11_files.specs.Create.{Creates}
 use Rattle.f11_files.specs.Extending.Runs.{ExtendsFile}
 use Rattle.f11_files.specs.Finding.Blocks.{StoresBlock}
 use Rattle.f11_files.specs.GrowingIndex.Runs.{GrowsIndexFile}
+use Rattle.f11_files.specs.LayingOut.Whole.{LaysOutFile}
 use Rattle.f11_files.specs.Removing.Delete.{Deletes}
 use Rattle.f11_files.specs.Removing.Truncate.{Cuts}
 
@@ -66,6 +67,12 @@ abbrev pub ExtendedKeepsRows : Type 0
 ExtendedKeepsRows =
     (home : HomeFields) (f : FileId) (n : ℕ) (old new : Disk) → HasSoundVolume old.image home → HasSoundVolume new.image home →
     IsTrue old.honest → ExtendsFile home f n old new → KeepsRows no_number home old.image new.image
+
+-- where a file is laid out in one run
+abbrev pub LaidOutKeepsRows : Type 0
+LaidOutKeepsRows =
+    (home : HomeFields) (f : FileId) (n : ℕ) (old new : Disk) → HasSoundVolume old.image home → HasSoundVolume new.image home →
+    IsTrue old.honest → LaysOutFile home f n old new → KeepsRows no_number home old.image new.image
 
 -- where the index file grows
 abbrev pub GrownKeepsRows : Type 0

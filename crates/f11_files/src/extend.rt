@@ -5,6 +5,7 @@ pub(crate) mod header;
 pub(crate) mod link;
 pub(crate) mod mark;
 pub(crate) mod name;
+pub(crate) mod pieces;
 pub(crate) mod room;
 pub(crate) mod runs;
 pub(crate) mod slots;

@@ -9,6 +9,7 @@ pub fn rows_kept()
     ensures replaced { rows.ReplacedKeepsRows }
     ensures created { rows.CreatedKeepsRows }
     ensures extended { rows.ExtendedKeepsRows }
+    ensures laid { rows.LaidOutKeepsRows }
     ensures grown { rows.GrownKeepsRows }
 {}
 

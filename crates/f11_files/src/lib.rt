@@ -7,6 +7,7 @@
 
 mod answer;
 mod change;
+mod contiguous;
 mod create;
 mod extend;
 mod files;

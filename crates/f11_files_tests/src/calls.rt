@@ -37,6 +37,8 @@ pub enum Call {
     Extend(Id, u32),
     /// Extends files 6,1 and 7,1 by a block each in turn, so many times.
     ExtendInTurn(u32),
+    /// Lays a file out in one run of so many blocks.
+    Contiguous(Id, u32),
     Truncate(Id, u32),
     Delete(Id),
     GrowIndex(u32),
@@ -164,6 +166,13 @@ fn extend<D: Device>(files: &mut Files<D>, id: FileId, n: u32) -> Answer {
     count(files.extend(id, n))
 }
 
+fn contiguous<D: Device>(files: &mut Files<D>, id: FileId, n: u32) -> Answer {
+    if id.number < 4 || id.volume != 0 || n == 0 {
+        return Ok(Given::Wrong);
+    }
+    count(files.contiguous(id, n))
+}
+
 fn extend_in_turn<D: Device>(files: &mut Files<D>, times: u32) -> Answer {
     for blocks in 1..=times {
         for number in [6, 7] {
@@ -232,6 +241,7 @@ impl Call {
             Call::Write(id, vbn, byte) => write(files, id_of(id), vbn, byte),
             Call::Extend(id, n) => extend(files, id_of(id), n),
             Call::ExtendInTurn(times) => extend_in_turn(files, times),
+            Call::Contiguous(id, n) => contiguous(files, id_of(id), n),
             Call::Truncate(id, to) => truncate(files, id_of(id), to),
             Call::Delete(id) => delete(files, id_of(id)),
             Call::GrowIndex(n) => grow_index(files, n),

@@ -17,4 +17,6 @@ mod opens;
 #[cfg(test)]
 mod reclaims;
 #[cfg(test)]
+mod runs;
+#[cfg(test)]
 mod volumes;

@@ -104,5 +104,5 @@ entry-refused making who id e s t u h (inl d) = d.2.store_stays
 entry-refused making who id e s t u h (inr (v, g, inl d)) =
     let own : StaysOwn h.file t id.number = record { now = h.file; there = h.there; sequence = refl; owner = refl; mark = refl } in
     let here = own-entered (index_of_empty (file_named t making.directory)) h.file t v id.number making.directory (record_bytes id making.name) (not-index id.number 6 (omega arith) h.low) g.3.changes own in
-    absurd (subst (λ o. MayRefuse o false e) (protectable id h.file making.protection who v h.low h.volume h.sequence h.owner h.unmarked here) d.2.may_refuse)
+    absurd (subst (λ o. MayRefuse o false false e) (protectable id h.file making.protection who v h.low h.volume h.sequence h.owner h.unmarked here) d.2.may_refuse)
 entry-refused making who id e s t u h (inr (v, g, inr (w, k, none))) = absurd none

@@ -1,6 +1,6 @@
 -- What a copy from RT-11 tells of the device that its file is made on.
 use Rattle.std.proofs.Common.{◌≡◌, inl, inr, ℕ, ◌+◌, ◌==◌, ◌||◌, Bool, true, false, IsTrue, if◌then◌else◌, List, [], ◌∷◌, ◌++◌, Result, Ok, Err, refl, sym, ap, ◌∙◌, subst, arith}
-use Rattle.std.proofs.lemmas.Bool.{eqb-true, lt-ltb, or_right}
+use Rattle.std.proofs.lemmas.Bool.{or_right}
 use Rattle.f11_dev.specs.Disk.{Disk}
 use Rattle.f11_dev.specs.declared.device.Device.{Ghosts}
 use Rattle.f11_store.specs.Ident.{ident_with}
@@ -51,7 +51,7 @@ calm-fault : (f : FlxRefusal) → is_lethal f ≡ false → of_files is_fault (r
 calm-fault (Files e) h = by (refusal_number e == 19) refl
   where
     by : (b : Bool) → (refusal_number e == 19) ≡ b → b ≡ false
-    by true is = absurd (true-false (sym (lt-ltb 18 (refusal_number e) (omega (arith, eqb-true (refusal_number e) 19 is))) ∙ h))
+    by true is = absurd (true-false (sym (ap (λ b. b || (refusal_number e == 20)) is) ∙ h))
     by false is = refl
 calm-fault (Rt e) h = refl
 calm-fault BadRecord h = refl

@@ -221,7 +221,7 @@ module _ (caller : Uic) (id : FileId) (s : Store) where
   -- so it isn't refused
   pub undenied-delete : (who : Who) (t u : Store) (e : Refusal) → who.caller ≡ caller → AccessesStand s → IsNewIn caller id s.access s t → Denies plain who (asks (request.Delete id)) e t u → ⊥
   undenied-delete who t u e is stand h d =
-      subst (λ o. MayRefuse o false e) (subst (λ c. first_refusal t who.task c (request.Delete id) ≡ None) (sym is) (deletable t who.task stand h)) d.2.may_refuse
+      subst (λ o. MayRefuse o false false e) (subst (λ c. first_refusal t who.task c (request.Delete id) ≡ None) (sym is) (deletable t who.task stand h)) d.2.may_refuse
 
   pub deleted : (who : Who) (t u : Store) → FreeIsEmpty s → AccessesStand s → IsNewIn caller id s.access s t → Grants plain who (asks (request.Delete id)) t u → IsAsBefore s u
   deleted who t u tidy stand h g =
@@ -374,7 +374,7 @@ module _ (caller : Uic) (id : FileId) (s : Store) where
     pub undenied-deaccess : (t u : Store) (e : Refusal) → IsOpenIn t → Denies plain who (asks (request.Deaccess lun)) e t u → ⊥
     undenied-deaccess t u e h d =
         let held : holds_none t who.task lun ≡ false = ap (λ o. is_none o) (holds t h) in
-        subst (λ o. MayRefuse o false e) (none-of (NoSuchAccess ⇐ holds_none t who.task lun) [] held refl) d.2.may_refuse
+        subst (λ o. MayRefuse o false false e) (none-of (NoSuchAccess ⇐ holds_none t who.task lun) [] held refl) d.2.may_refuse
 
     pub given-back : (t u : Store) → IsOpenIn t → Grants plain who (asks (request.Deaccess lun)) t u → u ≡ with_access t who.task lun None
     given-back t u h g =

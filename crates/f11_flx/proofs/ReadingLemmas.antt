@@ -129,7 +129,7 @@ module _ (who : Who) (lun : ℕ) (source : FileId) (s : Store) where
 
   pub told-denied : IsFree s who.task lun source → (e : Refusal) (of : Attr) (s2 : Store) → Denies plain who (told (request.ReadAttr source) (reply.Attr of)) e held s2 → ⊥
   told-denied is e of s2 d =
-      subst (λ (o : Option Refusal). MayRefuse o false e)
+      subst (λ (o : Option Refusal). MayRefuse o false false e)
       (none-first (causes_of held who.task who.caller (request.ReadAttr source)) (is.good, (is.there, tt))) d.2.may_refuse
 
   pub count-denied : (e : Refusal) (n : ℕ) (s2 : Store) → Denies plain who (counts lun n) e held s2 → ⊥
@@ -139,12 +139,12 @@ module _ (who : Who) (lun : ℕ) (source : FileId) (s : Store) where
   read-denied e k b s2 less d =
       let within : nat_lt (length_of (file_held held who.task lun)) (suc k) ≡ false =
       subst (λ (f : File). nat_lt (length_of f) (suc k) ≡ false) (sym held-file) (le-ltb (length_of file) (suc k) (omega (arith, less))) in
-      subst (λ (o : Option Refusal). MayRefuse o false e)
+      subst (λ (o : Option Refusal). MayRefuse o false false e)
       (none-first (causes_of held who.task who.caller (request.ReadBlock lun (suc k))) (ne_eqb (suc k) 0 (λ h. omega (arith, h)), (some-held, (within, tt)))) d.2.may_refuse
 
   pub giving-denied : (e : Refusal) (s2 : Store) → Denies plain who (asks (request.Deaccess lun)) e held s2 → ⊥
   giving-denied e s2 d =
-      subst (λ (o : Option Refusal). MayRefuse o false e)
+      subst (λ (o : Option Refusal). MayRefuse o false false e)
       (none-first (causes_of held who.task who.caller (request.Deaccess lun)) (some-held, tt)) d.2.may_refuse
 
   pub reads-denied : (k : ℕ) (blocks : List (List ℕ)) (e : Refusal) (s2 : Store) → k + length blocks ≤ length_of file → BreaksOff plain who (reads_of lun k blocks) e held s2 → ⊥
@@ -206,7 +206,7 @@ module _ (who : Who) (lun : ℕ) (source : FileId) (s : Store) where
   pub access-denied : (e : Refusal) (s' : Store) → Denies plain who (asks (request.Access source mode.Locked lun)) e s s' → IsNotAccessed who lun source e s s'
   access-denied e s' d = record { stays = d.2.store_stays; cause = of-cause (first_refusal s who.task who.caller (request.Access source mode.Locked lun)) d.2.may_refuse }
     where
-      of-cause : (o : Option Refusal) → MayRefuse o false e → o ≡ Some e
+      of-cause : (o : Option Refusal) → MayRefuse o false false e → o ≡ Some e
       of-cause None h = absurd h
       of-cause (Some first) h = ap Some (sym h)
 

@@ -1,6 +1,7 @@
 -- The names of the refusals of copies (profile).
-use Rattle.std.specs.Prelude.{ℕ, Bool, false, nat_lt, List, codes}
-use Rattle.f11_store.specs.Refusal.{refusal_name as files_refusal_name, refusal_number}
+use Rattle.std.specs.Prelude.{ℕ, Bool, false, List, codes}
+use Rattle.f11_store.specs.Refusal.{refusal_name as files_refusal_name}
+use Rattle.f11_files.specs.Answers.{is_fatal}
 use Rattle.rt11_volume.specs.Files.{is_fault}
 use Rattle.rt11_volume.specs.Refusal.{refusal_name as rt_refusal_name}
 use Rattle.f11_flx.specs.declared.refusal.FlxRefusal.{FlxRefusal}
@@ -15,7 +16,7 @@ flx_refusal_name LineTooLong = codes "LineTooLong"
 
 -- a device fault or Damaged, after which no transfer follows
 abbrev pub is_lethal : FlxRefusal → Bool
-is_lethal (Files e) = nat_lt 18 (refusal_number e)
+is_lethal (Files e) = is_fatal e
 is_lethal (Rt e) = is_fault e
 is_lethal BadRecord = false
 is_lethal LineTooLong = false

@@ -1,5 +1,6 @@
 //! A copy to an RT-11 volume, of whatever answers for the Files-11 volume.
 ghost use Rattle.std.specs.Prelude.{◌≡◌, ◌≤◌, IfErr, IfOk, OnErr, OnOk};
+ghost use Rattle.f11_files.specs.Answers.{is_fatal};
 ghost use Rattle.f11_flx.specs.Asking.{who_asks};
 ghost use Rattle.f11_flx.specs.Refusal.{is_lethal};
 ghost use Rattle.rt11_volume.specs.Files.{is_fault};
@@ -12,7 +13,7 @@ use crate::refusal::FlxRefusal;
 use crate::source::{Source, copy, copy_lines, look};
 use crate::target::{Nowhere, delete, make};
 use f11_dev::Device;
-use f11_store::{FileId, Mode, Request};
+use f11_store::{FileId, Mode, Refusal, Request};
 use rt11_volume::{RtAccepted, RtName, RtRefusal};
 
 /// Whether a refusal is a device fault or `Damaged`.
@@ -20,11 +21,18 @@ pub fn is_lethal(refusal: &FlxRefusal) -> bool
     ensures { result ≡ is_lethal refusal.now }
 {
     match refusal {
-        FlxRefusal::Files(refusal) => refusal.number() > 18,
+        FlxRefusal::Files(refusal) => is_fatal(refusal),
         FlxRefusal::Rt(refusal) => is_fault(refusal),
         FlxRefusal::BadRecord => false,
         FlxRefusal::LineTooLong => false,
     }
+}
+
+/// Whether a refusal of a Files-11 volume fails it.
+fn is_fatal(refusal: &Refusal) -> bool
+    ensures { result ≡ is_fatal refusal.now }
+{
+    matches!(refusal, Refusal::DeviceFault | Refusal::Damaged)
 }
 
 /// Whether a refusal is that of a transfer that failed.

@@ -382,7 +382,7 @@ says-twice f ownership t u w one two = record {
     now n (inl of) = before n of (one.added n of) (cases_eq n f)
     now n (inr says) = inr says
 
-names-twice : (f : ℕ) (ownership : Uic × ℕ) (one two : List ℕ) (t u w : Table) → NamesMore f ownership one t u → NamesMore f ownership two u w
+pub names-twice : (f : ℕ) (ownership : Uic × ℕ) (one two : List ℕ) (t u w : Table) → NamesMore f ownership one t u → NamesMore f ownership two u w
     → NamesMore f ownership (one ++ two) t w
 names-twice f ownership one two t u w first_more then_more = record {
   blocks = then_more.blocks ∙ ap (λ (l : List ℕ). l ++ two) first_more.blocks ∙ append_assoc (file_blocks t f) one two;

@@ -21,8 +21,8 @@ use Rattle.f11_index.proofs.HeadersLemmas.{listed-are, headers_from-some, live-s
 use Rattle.f11_chain.specs.FileHeaders.{file_blocks}
 use Rattle.f11_chain.proofs.ChangeLemmas.{file-alike}
 use Rattle.f11_store.specs.Changes.{with_delete_mark, with_replacement}
-use Rattle.f11_store.specs.File.{File, with_mark, without_contiguous}
-use Rattle.f11_store.specs.Lags.{with_no_mark}
+use Rattle.f11_store.specs.File.{File, with_contiguous, with_mark, without_contiguous}
+use Rattle.f11_store.specs.Lags.{with_contiguous_mark, with_no_mark}
 use Rattle.f11_store.specs.declared.callers.Uic.{Uic}
 use Rattle.f11_store.specs.declared.files.Change.TheVariants as change
 use Rattle.f11_volume.specs.Contents.{block_or_zeros, file_of, headers_reached, pointer_count, room_left}
@@ -35,7 +35,7 @@ use Rattle.f11_writes.proofs.HeaderLemmas.{rewrite-keeps, file-rewrite-keeps}
 use Rattle.f11_writes.proofs.NameLemmas.{own-names}
 use Rattle.f11_writes.proofs.OtherSlotLemmas.{live-was, turned}
 use Rattle.f11_image_store.specs.Allocation.{ownership_in, AddsHeaders, GainsBlocksAs, KeepsBlocks}
-use Rattle.f11_image_store.specs.FieldLaws.{said_by, SaysBut, WrittenSays, AttributesAreReplaced, IdentIsReplaced, ProtectionIsReplaced, DeleteMarkIsSet, ContiguousMarkIsCleared, ChangesFile}
+use Rattle.f11_image_store.specs.FieldLaws.{said_by, SaysBut, WrittenSays, AttributesAreReplaced, IdentIsReplaced, ProtectionIsReplaced, DeleteMarkIsSet, ContiguousMarkIsCleared, ContiguousMarkIsSet, ChangesFile}
 use Rattle.f11_image_store.proofs.AllocationLemmas.{gains-none, keeps-slot, named-live, said-again}
 use Rattle.f11_image_store.proofs.FileLemmas.{sum-same}
 use Rattle.f11_image_store.proofs.InstanceLemmas.{first-alone, seen-stored, file-stored}
@@ -255,6 +255,9 @@ protection-replaced old protects = says-written (λ h. record h { protection = p
 
 pub delete-marked : DeleteMarkIsSet
 delete-marked old = says-written (λ h. record h { characteristics = with_mark (characteristics old) }) with_delete_mark old refl refl refl (λ f. refl)
+
+pub contiguous-set : ContiguousMarkIsSet
+contiguous-set old = says-written (λ h. record h { characteristics = with_contiguous (characteristics old) }) with_contiguous_mark old refl refl refl (λ f. refl)
 
 pub contiguous-cleared : ContiguousMarkIsCleared
 contiguous-cleared old = says-written (λ h. record h { characteristics = without_contiguous (characteristics old) }) with_no_mark old refl refl refl (λ f. refl)

@@ -14,3 +14,4 @@ pub mod SparedLemmas
 pub mod FreeingLemmas
 pub mod ConfinesLemmas
 pub mod KeptBlocksLemmas
+pub mod PointerLemmas

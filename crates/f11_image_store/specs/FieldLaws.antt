@@ -10,8 +10,8 @@ use Rattle.f11_home.specs.Home.{HomeFields}
 use Rattle.f11_index.specs.Growth.{with_header}
 use Rattle.f11_index.specs.Table.{table_of, IsFile}
 use Rattle.f11_store.specs.Changes.{with_delete_mark, with_replacement}
-use Rattle.f11_store.specs.File.{File, with_mark, without_contiguous}
-use Rattle.f11_store.specs.Lags.{with_no_mark}
+use Rattle.f11_store.specs.File.{File, with_mark, with_contiguous, without_contiguous}
+use Rattle.f11_store.specs.Lags.{with_contiguous_mark, with_no_mark}
 use Rattle.f11_store.specs.declared.files.Change.TheVariants as change
 use Rattle.f11_volume.specs.Sound.{HasSoundVolume}
 use Rattle.f11_image_store.specs.FileLaws.{ChangesFileAt}
@@ -53,6 +53,10 @@ ProtectionIsReplaced = (old : List ℕ) (protects : ℕ) →
 
 abbrev pub DeleteMarkIsSet : Type 0
 DeleteMarkIsSet = (old : List ℕ) → WrittenSays (λ h. record h { characteristics = with_mark (characteristics old) }) with_delete_mark old
+
+abbrev pub ContiguousMarkIsSet : Type 0
+ContiguousMarkIsSet = (old : List ℕ) →
+    WrittenSays (λ h. record h { characteristics = with_contiguous (characteristics old) }) with_contiguous_mark old
 
 abbrev pub ContiguousMarkIsCleared : Type 0
 ContiguousMarkIsCleared = (old : List ℕ) →

@@ -80,6 +80,7 @@ pub fn written_fields()
     ensures protection { fields.ProtectionIsReplaced }
     ensures marked { fields.DeleteMarkIsSet }
     ensures unmarked { fields.ContiguousMarkIsCleared }
+    ensures contiguous { fields.ContiguousMarkIsSet }
 {}
 
 /// A file whose first header says another thing of it.

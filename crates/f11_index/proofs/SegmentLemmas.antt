@@ -18,7 +18,7 @@ byte-first b low (suc n) bytes =
     let here = get_or-take (suc n) (drop low b) 0 0 (omega arith) ∙ get_or-drop low b 0 0 in omega (arith, here, bytes (low + 0))
 
 -- the bytes of a block of an image, and past its end
-image_block-bytes : (image : Image) (lbn i : ℕ) → IsImage image → slice_index (image_block image lbn) i < 256
+pub image_block-bytes : (image : Image) (lbn i : ℕ) → IsImage image → slice_index (image_block image lbn) i < 256
 image_block-bytes image lbn i is = elim (cases_lt lbn (length image)) [
   | inl within ↦ (is.each lbn (image_block image lbn) (slice_get-image_block image lbn within)).bytes i
   | inr past ↦ let none = ap (λ (b : List ℕ). slice_index b i) (get_or_past image lbn [] past) in omega (arith, none)

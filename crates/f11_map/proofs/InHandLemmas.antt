@@ -10,9 +10,10 @@ use Rattle.f11_header.specs.Writing.{KeepsHeader, with_check_word, with_map}
 use Rattle.f11_header.proofs.AreaLemmas.{length-map_area, length-with_map, with_map-map_area}
 use Rattle.f11_header.proofs.HeaderFacts.{header_in-held, map_within}
 use Rattle.f11_header.proofs.FieldLemmas.{ident_room-with_map, keeps-with_map, keeps-with_check_word, header_in-with_check_word, sum-with_check_word}
-use Rattle.f11_map.specs.InHand.{RewritesMap, AppendsBlocks, CutsBlocks, SetsLink}
+use Rattle.f11_map.specs.InHand.{RewritesMap, AppendsBlocks, AppendsRuns, CutsBlocks, SetsLink}
 use Rattle.f11_map.specs.MapArea.{runs_of, blocks_of}
-use Rattle.f11_map.specs.MapWriting.{with_blocks, cut_to, WritesPointers, WritesLink}
+use Rattle.f11_map.specs.MapWriting.{with_blocks, fewest_runs, cut_to, WritesPointers, WritesLink}
+use Rattle.f11_map.proofs.FewestLemmas.{length-behind}
 use Rattle.f11_store.specs.declared.files.FileId.{FileId}
 
 -- the map area that the header of a block says
@@ -52,6 +53,21 @@ AppendsBlocks-sealed b area m new lbn count long holds lent is writes pointers b
     record {
       header = header.0;
       pointers = ap runs_of header.1 ∙ pointers ∙ ap (λ (l : List ℕ). with_blocks (runs_of l) lbn count) lent;
+      blocks = ap blocks_of header.1 ∙ blocks ∙ ap (λ (l : List ℕ). blocks_of l ++ range_with_len lbn count) lent;
+      rest = subst (WritesPointers (map_area b)) (sym header.1) rest;
+    }
+
+pub AppendsRuns-sealed : (b area m new : List ℕ) (lbn count : ℕ) → length b ≡ 512 → IsTrue (holds_header b) → area ≡ map_area b → new ≡ with_check_word (with_map b m)
+    → WritesPointers area m → runs_of m ≡ runs_of area ++ fewest_runs lbn count → blocks_of m ≡ blocks_of area ++ range_with_len lbn count → AppendsRuns b new lbn count
+AppendsRuns-sealed b area m new lbn count long holds lent is writes pointers blocks =
+    let rest : WritesPointers (map_area b) m = subst (λ (l : List ℕ). WritesPointers l m) lent writes in
+    let header = RewritesMap-sealed b m new long holds rest.size rest.segment_stays rest.valid is in
+    let put : runs_of (map_area new) ≡ runs_of (map_area b) ++ fewest_runs lbn count =
+    ap runs_of header.1 ∙ pointers ∙ ap (λ (l : List ℕ). runs_of l ++ fewest_runs lbn count) lent in
+    record {
+      header = header.0;
+      pointers = put;
+      more = length-behind (runs_of (map_area b)) (runs_of (map_area new)) lbn count put;
       blocks = ap blocks_of header.1 ∙ blocks ∙ ap (λ (l : List ℕ). blocks_of l ++ range_with_len lbn count) lent;
       rest = subst (WritesPointers (map_area b)) (sym header.1) rest;
     }

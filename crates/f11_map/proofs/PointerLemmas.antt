@@ -175,6 +175,18 @@ WritesPointers-from old new i n writes area few =
 pub WritesPointers-same : (m : List ℕ) → IsMapArea m → WritesPointers m m
 WritesPointers-same m area = record { valid = area; size = refl; front = refl; segment_stays = refl; link_stays = refl; most = refl; behind = λ i past. refl }
 
+-- pointers are written twice, the second time no fewer
+pub WritesPointers-then : (old mid new : List ℕ) → length (runs_of mid) ≤ length (runs_of new) → WritesPointers old mid → WritesPointers mid new → WritesPointers old new
+WritesPointers-then old mid new more one two = record {
+  valid = two.valid;
+  size = two.size ∙ one.size;
+  front = two.front ∙ one.front;
+  segment_stays = two.segment_stays ∙ one.segment_stays;
+  link_stays = two.link_stays ∙ one.link_stays;
+  most = two.most ∙ one.most;
+  behind = λ i past. two.behind i past ∙ one.behind i (omega (arith, past, more));
+}
+
 -- an area with another link
 abbrev with_link : List ℕ → ℕ → ℕ → ℕ → List ℕ
 with_link m volume number sequence = with_word (with_word (set m 1 volume) 2 number) 4 sequence

@@ -120,7 +120,7 @@ unfolding runs_of
 AreSome-runs_of m = All-map (λ (run : ℕ × ℕ). 0 < run.1) (run_at m) (range_with_len 0 (words_in_use m / 2)) (λ k d below. omega arith)
 
 -- the blocks of one pointer more
-length-blocks_in-cons : (r : ℕ × ℕ) (runs : List (ℕ × ℕ)) → length (blocks_in (r ∷ runs)) ≡ r.1 + length (blocks_in runs)
+pub length-blocks_in-cons : (r : ℕ × ℕ) (runs : List (ℕ × ℕ)) → length (blocks_in (r ∷ runs)) ≡ r.1 + length (blocks_in runs)
 length-blocks_in-cons r runs = length-append (range_with_len r.0 r.1) (blocks_in runs) ∙ ap (λ (n : ℕ). n + length (blocks_in runs)) (length-range_with_len r.0 r.1)
 
 -- the pointers before the cut stay

@@ -2,6 +2,7 @@ pub mod MapArea
 pub mod Map
 pub mod MapWriting
 pub mod InHand
+pub mod Laws
 pub use Rattle.f11_bytes.specs.Block
 pub use Rattle.f11_bytes.specs.Words
 pub use Rattle.f11_header.specs.Fields

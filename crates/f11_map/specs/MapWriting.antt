@@ -1,10 +1,12 @@
 -- What writing retrieval pointers leaves of a map area (Files-11 On-Disk Structure Level 1, "Map Area" and "Retrieval
 -- Pointers"; how pointers join: profile).
-use Rattle.std.specs.Prelude.{◌≡◌, ℕ, ◌+◌, ◌-◌, ◌*◌, ◌/◌, ◌%◌, ◌≤◌, ◌==◌, nat_le, Bool, false, ◌&&◌, if◌then◌else◌}
-use Rattle.std.specs.Prelude.{List, [], ◌∷◌, length, take, drop, slice_index, slice_set}
+use Rattle.std.specs.Prelude.{◌≡◌, ℕ, ◌+◌, ◌-◌, ◌*◌, ◌/◌, ◌%◌, ◌≤◌, ◌==◌, nat_le, min, Bool, false, ◌&&◌, if◌then◌else◌}
+use Rattle.std.specs.Prelude.{List, [], ◌∷◌, length, map, take, drop, slice_index, slice_set}
+use Rattle.std.specs.List.{range_with_len}
 use Rattle.f11_bytes.specs.Words.{with_word}
 use Rattle.f11_header.specs.MapFields.{segment, link, most_words, IsMapArea}
 use Rattle.f11_map.specs.MapArea.{runs_of}
+use Rattle.f11_store.specs.File.{run_pointers}
 use Rattle.f11_store.specs.declared.files.FileId.{FileId}
 
 -- So many blocks from an LBN on join a pointer where they follow its last block and both are 256 blocks at most.
@@ -22,6 +24,10 @@ abbrev pub with_blocks : List (ℕ × ℕ) → ℕ → ℕ → List (ℕ × ℕ)
 with_blocks [] lbn count = (lbn, count) ∷ []
 with_blocks (run ∷ []) lbn count = if joins run lbn count then (run.0, run.1 + count) ∷ [] else run ∷ (lbn, count) ∷ []
 with_blocks (run ∷ next ∷ runs) lbn count = run ∷ with_blocks (next ∷ runs) lbn count
+
+-- The fewest pointers that name so many blocks in a row, from an LBN on: 256 blocks in each, and the rest in one more.
+abbrev pub fewest_runs : ℕ → ℕ → List (ℕ × ℕ)
+fewest_runs lbn count = map (λ i. (lbn + 256 * i, min 256 (count - 256 * i))) (range_with_len 0 (run_pointers count))
 
 -- The pointers cut to the first so many blocks: a pointer that names none of them goes.
 abbrev pub cut_to : List (ℕ × ℕ) → ℕ → List (ℕ × ℕ)

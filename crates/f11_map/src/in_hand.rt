@@ -1,15 +1,16 @@
 //! Retrieval pointers of a header in hand: a block that holds a header, valid or valid but for its check word. What changes
 //! it seals it again, so it is a valid header then.
-ghost use Rattle.std.specs.Prelude.{◌≡◌, ◌↔◌, ◌<◌, ◌≤◌, ◌^◌, ◌++◌, false, length, take, IsTrue, IsOk, IsErr, OnOk};
+ghost use Rattle.std.specs.Prelude.{◌≡◌, ◌↔◌, ◌+◌, ◌-◌, ◌<◌, ◌≤◌, ◌^◌, ◌++◌, false, length, take, IsTrue, IsOk, IsErr, OnOk};
 ghost use Rattle.std.specs.List.{range_with_len, slice_get};
 ghost use Rattle.f11_header.specs.Fields.{map_area};
 ghost use Rattle.f11_header.specs.MapFields.{IsMapArea, places};
 ghost use Rattle.f11_header.specs.Header.{holds_header};
 ghost use Rattle.f11_map.specs.HeaderBlock.{segment_number, link_of, blocks_named};
-ghost use Rattle.f11_map.specs.InHand.{AppendsBlocks, CutsBlocks, SetsLink};
+ghost use Rattle.f11_map.specs.InHand.{AppendsBlocks, AppendsRuns, CutsBlocks, SetsLink};
 ghost use Rattle.f11_map.specs.Map.{area_of};
 ghost use Rattle.f11_map.specs.MapArea.{runs_of, blocks_of};
-ghost use Rattle.f11_map.specs.MapWriting.{joins_last, with_blocks, cut_to, WritesPointers, WritesLink};
+ghost use Rattle.f11_map.specs.MapWriting.{joins_last, with_blocks, fewest_runs, cut_to, WritesPointers, WritesLink};
+ghost use Rattle.f11_store.specs.File.{run_pointers};
 
 use crate::map::Map;
 use crate::map_mut::{MapFull, MapMut};
@@ -85,6 +86,27 @@ pub fn append(block: &mut Block, lbn: u32, count: u32) -> Result<(), MapFull>
     Ok(())
 }
 
+/// Adds `count` blocks, however many, from LBN `lbn` on, all below 16,777,216, to those of the header, as
+/// [`MapMut::append_runs`] does, by the fewest pointers, all of them new; and seals it.
+///
+/// # Errors
+///
+/// [`MapFull`] where fewer places are left than those take; then the block is as it was.
+#[tactic(auto, using(f11_header::proofs::HeaderFacts::map_within))]
+pub fn append_runs(block: &mut Block, lbn: u32, count: u32) -> Result<(), MapFull>
+    requires header { IsTrue (holds_header block.old) }
+    requires lbns { lbn + count ≤ 2 ^ 24 }
+    ensures ok { OnOk result (AppendsRuns block.old block.new lbn count) }
+    ensures full { IsErr result
+        ↔ places (map_area block.old) - length (runs_of (map_area block.old)) < run_pointers count }
+    ensures unchanged { IsErr result → block.new ≡ block.old }
+{
+    let mut header = HeaderMut::new(block);
+    append_runs_to(header.map_mut(), lbn, count)?;
+    header.seal();
+    Ok(())
+}
+
 /// Keeps the first `place` blocks of those of the header, as [`MapMut::cut`] does, and seals it.
 #[tactic(auto, using(f11_header::proofs::HeaderFacts::map_within))]
 pub fn cut(block: &mut Block, place: u32)
@@ -121,6 +143,21 @@ fn append_to(area: &mut [u8], lbn: u32, count: u32) -> Result<(), MapFull>
     ensures rest { WritesPointers area.old area.new }
 {
     MapMut::new(area).append(lbn, count)
+}
+
+/// Adds pointers to those of a map area.
+fn append_runs_to(area: &mut [u8], lbn: u32, count: u32) -> Result<(), MapFull>
+    requires is_map { IsMapArea area.old }
+    requires lbns { lbn + count ≤ 2 ^ 24 }
+    ensures pointers { IsOk result → runs_of area.new ≡ runs_of area.old ++ fewest_runs lbn count }
+    ensures blocks { IsOk result → blocks_of area.new
+        ≡ blocks_of area.old ++ range_with_len lbn count }
+    ensures full { IsErr result
+        ↔ places area.old - length (runs_of area.old) < run_pointers count }
+    ensures unchanged { IsErr result → area.new ≡ area.old }
+    ensures rest { WritesPointers area.old area.new }
+{
+    MapMut::new(area).append_runs(lbn, count)
 }
 
 /// Keeps the first blocks of those that a map area names.

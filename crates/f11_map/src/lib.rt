@@ -3,6 +3,7 @@
 #![tactic(auto)]
 
 pub mod in_hand;
+pub mod laws;
 mod map;
 mod map_mut;
 mod pointer;

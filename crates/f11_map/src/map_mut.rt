@@ -1,17 +1,18 @@
 //! The retrieval pointers of a header, written where they stand.
-ghost use Rattle.std.specs.Prelude.{◌≡◌, ◌↔◌, ◌<◌, ◌≤◌, ◌^◌, ◌++◌, false, length, take, IsOk, IsErr};
+ghost use Rattle.std.specs.Prelude.{◌≡◌, ◌↔◌, ◌+◌, ◌-◌, ◌<◌, ◌≤◌, ◌^◌, ◌++◌, false, length, take, IsOk, IsErr};
 ghost use Rattle.std.specs.List.{range_with_len};
 ghost use Rattle.f11_header.specs.MapFields.{IsMapArea, places};
 ghost use Rattle.f11_map.specs.MapArea.{runs_of, blocks_of};
-ghost use Rattle.f11_map.specs.MapWriting.{joins_last, with_blocks, cut_to, WritesPointers, WritesLink};
+ghost use Rattle.f11_map.specs.MapWriting.{joins_last, with_blocks, fewest_runs, cut_to, WritesPointers, WritesLink};
+ghost use Rattle.f11_store.specs.File.{run_pointers};
 
 use crate::map::Map;
-use crate::pointer::{keep, put_last, put_link};
+use crate::pointer::{keep, put_last, put_link, put_runs, run_pointers};
 use f11_store::FileId;
 use std::error::Error;
 use std::fmt;
 
-/// No place is left for one more retrieval pointer, and the blocks join no other.
+/// No place is left for the retrieval pointers that blocks would take.
 #[derive(Clone, Copy, Debug, PartialEq, Eq, Hash)]
 pub struct MapFull;
 
@@ -86,6 +87,34 @@ impl<'a> MapMut<'a> {
         }
         put_last(self.area, pointers, lbn, count);
         Ok(())
+    }
+
+    /// Adds `count` blocks, however many, from LBN `lbn` on, all below 16,777,216, behind those that the pointers name: as the
+    /// fewest pointers that can name them, of 256 blocks each and one for the rest. All are new: unlike those of
+    /// [`append`](MapMut::append), no block joins the last pointer that there was.
+    ///
+    /// # Errors
+    ///
+    /// [`MapFull`] where fewer places are left than those take; then nothing is changed.
+    pub fn append_runs(&mut self, lbn: u32, count: u32) -> Result<(), MapFull>
+        requires lbns { lbn + count ≤ 2 ^ 24 }
+        ensures pointers { IsOk result → runs_of (written_area self.new)
+            ≡ runs_of (written_area self.old) ++ fewest_runs lbn count }
+        ensures blocks { IsOk result → blocks_of (written_area self.new)
+            ≡ blocks_of (written_area self.old) ++ range_with_len lbn count }
+        ensures full { IsErr result
+            ↔ places (written_area self.old) - length (runs_of (written_area self.old)) < run_pointers count }
+        ensures unchanged { IsErr result → written_area self.new ≡ written_area self.old }
+        ensures rest { WritesPointers (written_area self.old) (written_area self.new) }
+        ensures same_reference { area_loan self.new ≡ area_loan self.old }
+    {
+        let map = self.map();
+        let pointers = map.runs();
+        if run_pointers(count) as usize <= map.places_left() {
+            put_runs(self.area, pointers, lbn, count);
+            return Ok(());
+        }
+        Err(MapFull)
     }
 
     /// Keeps the first `place` blocks of those that the pointers name, all where they are no more: pointers behind them go,

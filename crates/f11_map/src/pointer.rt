@@ -3,11 +3,15 @@ ghost use Rattle.std.specs.Prelude.{◌≡◌, ◌+◌, ◌*◌, ◌<◌, ◌≤
 ghost use Rattle.f11_bytes.specs.Words.{with_word};
 ghost use Rattle.f11_header.specs.MapFields.{IsMapArea, places};
 ghost use Rattle.f11_map.specs.MapArea.{runs_of};
-ghost use Rattle.f11_map.specs.MapWriting.{with_run, with_words_in_use, WritesPointers, WritesLink};
+ghost use Rattle.f11_map.specs.MapWriting.{fewest_runs, with_run, with_words_in_use, WritesPointers, WritesLink};
+ghost use Rattle.f11_store.specs.File.{run_pointers};
 
 use f11_bytes::write_word;
 use f11_header::map_fields::{IN_USE, LINK_NUMBER, LINK_SEQUENCE, LINK_VOLUME, POINTERS};
 use f11_store::FileId;
+
+/// The most blocks that a pointer names.
+const MOST_BLOCKS: u32 = 256;
 
 /// Makes pointer `i` the last one, and lets it name `count` blocks, 1 to 256, from LBN `lbn` on, below 16,777,216.
 pub fn put_last(area: &mut [u8], i: usize, lbn: u32, count: u32)
@@ -21,6 +25,29 @@ pub fn put_last(area: &mut [u8], i: usize, lbn: u32, count: u32)
 {
     put_run(area, i, lbn, count);
     put_words_in_use(area, i + 1);
+}
+
+/// How many pointers `count` blocks in a row take.
+pub fn run_pointers(count: u32) -> u32
+    ensures { result ≡ run_pointers count }
+{
+    count.div_ceil(MOST_BLOCKS)
+}
+
+/// Puts the fewest pointers that name `count` blocks, from LBN `lbn` on, behind the `pointers` that there are.
+pub fn put_runs(area: &mut [u8], pointers: usize, lbn: u32, count: u32)
+    requires is_map { IsMapArea area.old }
+    requires pointers { pointers ≡ length (runs_of area.old) }
+    requires places { pointers + run_pointers count ≤ places area.old }
+    requires lbns { lbn + count ≤ 2 ^ 24 }
+    ensures pointers { runs_of area.new ≡ runs_of area.old ++ fewest_runs lbn count }
+    ensures rest { WritesPointers area.old area.new }
+{
+    for i in 0..run_pointers(count) {
+        let done = MOST_BLOCKS * i;
+        let named = MOST_BLOCKS.min(count - done);
+        put_last(area, pointers + i as usize, lbn + done, named);
+    }
 }
 
 /// Keeps the first `pointers` pointers, at most as many as there are.

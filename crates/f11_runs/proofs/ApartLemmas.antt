@@ -1,9 +1,9 @@
 -- Files hold their slots apart, through each kind of change.
-use Rattle.std.proofs.Common.{◌≡◌, ◌≢◌, ℕ, zero, suc, ◌≤◌, ◌==◌, ◌&&◌, ◌||◌, ◌⊎◌, inl, inr, Bool, true, false, not, List, [], ◌∷◌, ◌++◌, take, drop, Option, Some, None, refl, sym, ◌∙◌, ap, subst, arith, option_map, unwrap_or, if◌then◌else◌}
+use Rattle.std.proofs.Common.{◌≡◌, ◌≢◌, ℕ, zero, suc, ◌-◌, ◌≤◌, ◌==◌, ◌&&◌, ◌||◌, ◌⊎◌, inl, inr, Bool, true, false, not, List, [], ◌∷◌, ◌++◌, take, drop, Option, Some, None, refl, sym, ◌∙◌, ap, subst, arith, option_map, unwrap_or, if◌then◌else◌}
 use Rattle.std.proofs.lemmas.Bool.{eq-eqb, ne_eqb, cases_eq}
-use Rattle.f11_store.specs.File.{File, no_file}
+use Rattle.f11_store.specs.File.{File, no_file, run_need}
 use Rattle.f11_store.specs.Store.{Store, free_slots}
-use Rattle.f11_store.specs.Changes.{is_in, with_change, with_new_file, without_file_at, grown_file, Grows, Truncates}
+use Rattle.f11_store.specs.Changes.{is_in, laid_file, with_change, with_file, with_new_file, with_slots, without_file_at, grown_file, Grows, LaysOut, Truncates}
 use Rattle.f11_runs.specs.Standing.{AreDistinct, HoldsItsOwn, HoldApart}
 use Rattle.f11_runs.proofs.AccessLemmas.{true-false}
 use Rattle.f11_runs.proofs.SlotLists.{in-two, in-one, in-take, distinct-take, take-apart, distinct-two, taken-free, taken-distinct, fails-so, in-drop}
@@ -102,29 +102,29 @@ apart-made s slot f held free was =
       once = subst AreDistinct (sym held) (refl, tt);
     }
 
--- a file grows
-pub apart-grown : (s s' : Store) (k n : ℕ) (blocks : List (List ℕ)) → HoldApart s → Grows s k n blocks s' → HoldApart s'
-apart-grown s s' k n blocks was grows = subst HoldApart (sym grows.store_is) (
-    set-apart s _ k (Some (grown_file s f blocks grows.added grows.pointers grows.room)) was (λ n. refl)
-    (λ g is. let held : f.held ++ more ≡ g.held = ap held_of is in record {
+-- a file gets the least free slots more
+apart-more :
+    (s : Store) (k added free : ℕ) (f g : File) → HoldApart s → s.file k ≡ Some f → g.held ≡ f.held ++ take added (free_slots s) →
+    HoldApart (record (with_file (with_slots s (take added (free_slots s))) k (Some g)) { free = free })
+apart-more s k added free f g was is holds =
+    set-apart s _ k (Some g) was (λ n. refl)
+    (λ h e. let held : f.held ++ more ≡ h.held = sym holds ∙ ap held_of e in record {
       first = sym (ap (take 1) held) ∙ first-stays f.held own.first;
-      used = λ m h. used m (sym (in-two f.held more m) ∙ ap (λ xs. is_in xs m) held ∙ h);
-      once = subst AreDistinct held (distinct-two f.held more own.once (taken-distinct s grows.added) apart);
+      used = λ m x. used m (sym (in-two f.held more m) ∙ ap (λ xs. is_in xs m) held ∙ x);
+      once = subst AreDistinct held (distinct-two f.held more own.once (taken-distinct s added) apart);
     })
-    (λ g is m h. let held : f.held ++ more ≡ g.held = ap held_of is in where-from m (sym (in-two f.held more m) ∙ ap (λ xs. is_in xs m) held ∙ h))
-    (λ n m g ne is h. right (is_in more m) (s.in_use m) ((was.each n g is).used m h)))
+    (λ h e m x. let held : f.held ++ more ≡ h.held = sym holds ∙ ap held_of e in
+    where-from m (sym (in-two f.held more m) ∙ ap (λ xs. is_in xs m) held ∙ x))
+    (λ n m h ne e x. right (is_in more m) (s.in_use m) ((was.each n h e).used m x))
   where
-    f : File
-    f = grows.before
-
     more : List ℕ
-    more = take grows.added (free_slots s)
+    more = take added (free_slots s)
 
     held_of : Option File → List ℕ
     held_of o = (unwrap_or o no_file).held
 
     own : HoldsItsOwn s k f
-    own = was.each k f grows.was
+    own = was.each k f is
 
     right : (b c : Bool) → c ≡ true → (b || c) ≡ true
     right true c h = refl
@@ -139,7 +139,7 @@ apart-grown s s' k n blocks was grows = subst HoldApart (sym grows.store_is) (
       where
         by_test : (b : Bool) → is_in more m ≡ b → b ≡ false
         by_test false e = refl
-        by_test true e = absurd (true-false (sym (own.used m h) ∙ taken-free s grows.added m e))
+        by_test true e = absurd (true-false (sym (own.used m h) ∙ taken-free s added m e))
 
     used : (m : ℕ) → (is_in f.held m || is_in more m) ≡ true → (is_in more m || s.in_use m) ≡ true
     used m h = by_test (is_in f.held m) (is_in more m) refl h
@@ -153,9 +153,21 @@ apart-grown s s' k n blocks was grows = subst HoldApart (sym grows.store_is) (
     where-from m h = by_test (is_in f.held m) (is_in more m) refl refl h
       where
         by_test : (b c : Bool) → is_in f.held m ≡ b → is_in more m ≡ c → (b || c) ≡ true → Held s k m ⊎ (s.in_use m ≡ false)
-        by_test true c e d h = inl (f, grows.was, e)
-        by_test false true e d h = inr (taken-free s grows.added m d)
+        by_test true c e d h = inl (f, is, e)
+        by_test false true e d h = inr (taken-free s added m d)
         by_test false false e d h = absurd (cc)
+
+-- a file grows
+pub apart-grown : (s s' : Store) (k n : ℕ) (blocks : List (List ℕ)) → HoldApart s → Grows s k n blocks s' → HoldApart s'
+apart-grown s s' k n blocks was grows =
+    subst HoldApart (sym grows.store_is)
+    (apart-more s k grows.added (s.free - n) grows.before (grown_file s grows.before blocks grows.added grows.pointers grows.room) was grows.was refl)
+
+-- a file is laid out in one run
+pub apart-laid : (s s' : Store) (k n : ℕ) → HoldApart s → LaysOut s k n s' → HoldApart s'
+apart-laid s s' k n was laid =
+    subst HoldApart (sym laid.store_is)
+    (apart-more s k (run_need laid.before.room n) (s.free - n) laid.before (laid_file s laid.before n) was laid.was refl)
 
 -- a slot of another file isn't among those that leave use
 stays-in-use : (b c : Bool) → b ≡ false → c ≡ true → (not b && c) ≡ true

@@ -48,7 +48,7 @@ locked-is-read s s' task lun id blocks caller vbn block block' result is some h 
     long : length (file_held s task lun).blocks ≡ length blocks
     long = ap (λ (f : File). length f.blocks) same ∙ ap (λ (bs : List (List ℕ)). length bs) is.blocks_are
 
-    by_test : (b : Bool) → nat_lt (length (file_held s task lun).blocks) vbn ≡ b → (e : Refusal) → MayRefuse (if b then Some EndOfFile else None) false e → (length blocks < vbn) × (e ≡ EndOfFile)
+    by_test : (b : Bool) → nat_lt (length (file_held s task lun).blocks) vbn ≡ b → (e : Refusal) → MayRefuse (if b then Some EndOfFile else None) false false e → (length blocks < vbn) × (e ≡ EndOfFile)
     by_test true e r may = (let below = ltb-true (length (file_held s task lun).blocks) vbn e in omega (arith, below, long), may)
     by_test false e r may = absurd may
 
@@ -62,7 +62,7 @@ locked-is-read s s' task lun id blocks caller vbn block block' result is some h 
         let zero_not : (vbn == 0) ≡ false = ne_eqb vbn 0 (λ z. omega (arith, z, some)) in
         let held : holds_none s task lun ≡ false = ap is_none is.holds in
         by_test (nat_lt (length (file_held s task lun).blocks) vbn) refl e
-        (subst (λ o. MayRefuse o false e)
+        (subst (λ o. MayRefuse o false false e)
         (ap (λ b. if b then Some BadArgument else (if holds_none s task lun then Some NoSuchAccess else (if nat_lt (length (file_held s task lun).blocks) vbn then Some EndOfFile else None))) zero_not
         ∙ ap (λ b. if b then Some NoSuchAccess else (if nat_lt (length (file_held s task lun).blocks) vbn then Some EndOfFile else None)) held) h.may_refuse)
 
@@ -93,7 +93,7 @@ end-is-served s s' task lun id blocks c a is ends_it h = by_request c.request c.
         let parts = and_parts (t == task) (l == lun) e in
         let here : s.access t l ≡ s.access task lun = ap (λ (n : ℕ). s.access n l) (eqb-true t task parts.0) ∙ ap (s.access task) (eqb-true l lun parts.1) in
         let held : holds_none s t l ≡ false = ap is_none (here ∙ is.holds) in
-        absurd (subst (λ (b : Bool). MayRefuse (if b then Some NoSuchAccess else None) false x) held k.may_refuse)
+        absurd (subst (λ (b : Bool). MayRefuse (if b then Some NoSuchAccess else None) false false x) held k.may_refuse)
     by_request request.Release t (Ok x) e k = ap Ok k.reply_is
     by_request request.Release t (Err x) e k = absurd k.may_refuse
     by_request _ t result e k = absurd (let parts = and_parts (t == task) false e in cc (parts.1))

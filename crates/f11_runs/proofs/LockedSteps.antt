@@ -212,6 +212,11 @@ locked-served s task lun id blocks low small is standing empty t caller (request
 locked-served s task lun id blocks low small is standing empty t caller (request.Extend l n) block s' early few stays none h =
     grown-other h.ready task lun id blocks low small (gained s task lun id blocks low small is _ h.ready h.gains) s' (id_held s t l).number n _
     (written-apart s task lun id blocks low small is t l early few standing (none_first (cannot_write s t l) _ _ (none_rest (n == 0) _ _ none))) h.makes
+locked-served s task lun id blocks low small is standing empty t caller (request.Contiguous l n) block s' early few stays none h =
+    same-accesses s task lun id blocks low small is s'
+    (set-other s task lun id blocks low small is s' (id_held s t l).number _
+    (written-apart s task lun id blocks low small is t l early few standing (none_first (cannot_write s t l) _ _ (none_rest (n == 0) _ _ none)))
+    (ap (λ (x : Store). x.file id.number) h.store_is)) (ap (λ (x : Store). x.access) h.store_is)
 locked-served s task lun id blocks low small is standing empty t caller (request.Truncate l to) block s' early few stays none h =
     same-accesses s task lun id blocks low small is s'
     (set-other s task lun id blocks low small is s' (id_held s t l).number _ (written-apart s task lun id blocks low small is t l early few standing (none_first (cannot_write s t l) _ _ none))

@@ -27,7 +27,7 @@ use Rattle.f11_runs.specs.Laws.{StepStands, RunStands, UnaccessedStands, Standin
 use Rattle.f11_runs.specs.Standing.{AccessesStand, HoldApart, IsStanding, is_lost}
 use Rattle.f11_runs.proofs.AccessLemmas.{IsThere, there-is, there-file, true-false}
 use Rattle.f11_runs.proofs.EachLaws.{each-within, each-seen, run-is-steps}
-use Rattle.f11_runs.proofs.ApartLemmas.{apart-stays, apart-change, apart-made, apart-grown, apart-cut, apart-gone}
+use Rattle.f11_runs.proofs.ApartLemmas.{apart-stays, apart-change, apart-made, apart-grown, apart-laid, apart-cut, apart-gone}
 
 -- no file is in a slot that isn't in use
 pub apart-empty : (s : Store) → HoldApart s → FreeIsEmpty s
@@ -106,6 +106,7 @@ apart-served s task caller (request.Create word ident attr) block s' was none h 
     (apart-made h.ready (least_free h.ready) _ refl (least_free_is_free h.ready h.enough).unused (apart-gained _ s h.ready was h.gains))
 apart-served s task caller (request.Extend lun n) block s' was none h =
     apart-grown h.ready s' (id_held s task lun).number n _ (apart-gained _ s h.ready was h.gains) h.makes
+apart-served s task caller (request.Contiguous lun n) block s' was none h = apart-laid s s' (id_held s task lun).number n was h
 apart-served s task caller (request.Truncate lun to) block s' was none h = apart-cut s s' (id_held s task lun).number to was h
 apart-served s task caller (request.Delete id) block s' was none h = subst HoldApart (sym h) (apart-deleted s id was)
 apart-served s task caller (request.GrowIndex n) block s' was none h = apart-index s s' n was h
@@ -223,6 +224,9 @@ accesses-served s task caller (request.Create word ident attr) block s' empty wa
     (ap (λ (x : Store). x.access) h.makes ∙ gained-access s h.ready _ h.gains)
 accesses-served s task caller (request.Extend lun n) block s' empty was none h =
     stand-grown h.ready s' (id_held s task lun).number n _ (stand-gained _ s h.ready was h.gains) h.makes
+accesses-served s task caller (request.Contiguous lun n) block s' empty was none h =
+    same-stand s s' was (there-by-fate s s' (λ m. fate-served s task caller (request.Contiguous lun n) block s' m tt h tt))
+    (ap (λ (x : Store). x.access) h.store_is)
 accesses-served s task caller (request.Truncate lun to) block s' empty was none h =
     same-stand s s' was (there-by-fate s s' (λ n. fate-served s task caller (request.Truncate lun to) block s' n tt h tt)) (ap (λ (x : Store). x.access) h.store_is)
 accesses-served s task caller (request.Delete id) block s' empty was none h =

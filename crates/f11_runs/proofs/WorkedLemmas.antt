@@ -14,7 +14,7 @@ use Rattle.f11_store.specs.Store.{Store, free_slots, is_held}
 use Rattle.f11_store.specs.Causes.{first_refusal}
 use Rattle.f11_store.specs.Changes.{Changes, is_in}
 use Rattle.f11_store.specs.Run.{Call, Answer}
-use Rattle.f11_store.specs.Step.{MayRefuse, Refuses, Serves, reply_of, block_after, may_want_memory}
+use Rattle.f11_store.specs.Step.{MayRefuse, Refuses, Serves, reply_of, block_after, asks_for_run, may_want_memory}
 use Rattle.f11_store.specs.Worked.{small_volume, own_files, own_records, mfd_block, id, asks, gets}
 use Rattle.f11_store.proofs.StoreLemmas.{other_number}
 use Rattle.f11_runs.specs.Locked.{ends}
@@ -67,7 +67,7 @@ small-stands = unaccessed-stands small_volume (ones-apart small_volume five-ones
 -- a step that is refused, and one that is served
 refused :
     {s : Store} {task : ℕ} {caller : Uic} {r : Request} {block : List ℕ} {e : Refusal} →
-    MayRefuse (first_refusal s task caller r) (may_want_memory s task r) e → Refuses s task caller r block e s block
+    MayRefuse (first_refusal s task caller r) (may_want_memory s task r) (asks_for_run r) e → Refuses s task caller r block e s block
 refused h = record { may_refuse = h; store_stays = refl; block_stays = refl }
 
 served :

@@ -47,6 +47,7 @@ TidyRun s calls answers s' = Each (Within FreeIsEmpty Steps) s calls answers s'
 -- the lun of a request, where it has one
 abbrev pub lun_of : Request → ℕ
 lun_of (request.Extend lun n) = lun
+lun_of (request.Contiguous lun n) = lun
 lun_of (request.Truncate lun to) = lun
 lun_of (request.Access id m lun) = lun
 lun_of (request.Deaccess lun) = lun

@@ -7,7 +7,7 @@ use Rattle.f11_script.specs.Fields.{task_of, uic_of, lun_of, number_of, word_of,
 use Rattle.f11_script.specs.Verbs.{verb_of}
 use Rattle.f11_script.specs.declared.verb.Verb.{Verb}
 use Rattle.f11_script.specs.declared.verb.Verb.TheVariants as verb
-use Rattle.f11_script.specs.Requests.{Ask, hex_of, verb_asks, create_asks, extend_asks, truncate_asks, delete_asks, grow_asks, access_asks, close_asks, release_asks, read_asks, fill_asks, write_asks, find_asks, enter_asks, remove_asks, attr_asks, set_attr_asks, protect_asks, space_asks}
+use Rattle.f11_script.specs.Requests.{Ask, hex_of, verb_asks, create_asks, extend_asks, contiguous_asks, truncate_asks, delete_asks, grow_asks, access_asks, close_asks, release_asks, read_asks, fill_asks, write_asks, find_asks, enter_asks, remove_asks, attr_asks, set_attr_asks, protect_asks, space_asks}
 use Rattle.f11_script.specs.Lines.{no_request, bad_line, call_of, is_comment, line_of_call, line_of}
 use Rattle.f11_script.specs.Asking.{Asked, nothing, badly, asked_of, saying_of_asked, saying_of, called, line_with, IsBlockOf, HasBlock, LineAsksAlone, BlockIsPassedOn}
 
@@ -59,9 +59,10 @@ word_fits : {X : Type 0} (read : List ℕ → Option X) (words : List (List ℕ)
 word_fits read words k h = so_fits Fits (argument read words) k (λ x. h x.0 x.1)
 
 verb_fits : (v : Verb) (words : List (List ℕ)) → IfSome (verb_asks v words) Fits
-unfolding create_asks extend_asks truncate_asks delete_asks grow_asks access_asks close_asks release_asks read_asks fill_asks write_asks find_asks enter_asks remove_asks attr_asks set_attr_asks protect_asks space_asks
+unfolding create_asks extend_asks contiguous_asks truncate_asks delete_asks grow_asks access_asks close_asks release_asks read_asks fill_asks write_asks find_asks enter_asks remove_asks attr_asks set_attr_asks protect_asks space_asks
 verb_fits verb.Create words = word_fits words_spelled words _ (λ x0 w0. word_fits protection_of w0 _ (λ x1 w1. ended w1 _ (λ b. refl)))
 verb_fits verb.Extend words = word_fits lun_of words _ (λ x0 w0. word_fits number_of w0 _ (λ x1 w1. ended w1 _ (λ b. refl)))
+verb_fits verb.Contiguous words = word_fits lun_of words _ (λ x0 w0. word_fits number_of w0 _ (λ x1 w1. ended w1 _ (λ b. refl)))
 verb_fits verb.Truncate words = word_fits lun_of words _ (λ x0 w0. word_fits number_of w0 _ (λ x1 w1. ended w1 _ (λ b. refl)))
 verb_fits verb.Delete words = word_fits id_of words _ (λ x0 w0. ended w0 _ (λ b. refl))
 verb_fits verb.Grow words = word_fits number_of words _ (λ x0 w0. ended w0 _ (λ b. refl))

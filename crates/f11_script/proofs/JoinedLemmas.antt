@@ -22,7 +22,7 @@ use Rattle.f11_store.specs.declared.files.Mode.TheVariants as mode
 use Rattle.f11_script.specs.Reading.{words_between}
 use Rattle.f11_script.specs.Fields.{is_hex}
 use Rattle.f11_script.specs.Lines.{is_comment, request_line}
-use Rattle.f11_script.specs.Spelling.{Sentence, create, extend, truncate, delete, grow, access, close, release, read, fill, write, find, enter, remove, attr, set_attr, protect, space, sentence_words, line_words, line_text, line_call, IsInRange, IsId, SpelledIsRead}
+use Rattle.f11_script.specs.Spelling.{Sentence, create, extend, contiguous, truncate, delete, grow, access, close, release, read, fill, write, find, enter, remove, attr, set_attr, protect, space, sentence_words, line_words, line_text, line_call, IsInRange, IsId, SpelledIsRead}
 use Rattle.f11_script.proofs.LineLemmas.{call}
 use Rattle.f11_script.proofs.SpellingLemmas.{id_text-alone, octal_numeral, uic_text-inside, words_read}
 
@@ -107,6 +107,7 @@ plain_hex text h = digits text (both _ _ h).1
 plain_sentence : (s : Sentence) → IsInRange s → list_all plain (sentence_words s) ≡ true
 plain_sentence (create name word) h = rw (plain_name name h.0, plain_octal word h.1) refl
 plain_sentence (extend lun n) h = rw (plain_number lun (omega (arith, h.0)), plain_number n h.1) refl
+plain_sentence (contiguous lun n) h = rw (plain_number lun (omega (arith, h.0)), plain_number n h.1) refl
 plain_sentence (truncate lun n) h = rw (plain_number lun (omega (arith, h.0)), plain_number n h.1) refl
 plain_sentence (delete f) h = rw (plain_id f h) refl
 plain_sentence (grow n) h = rw (plain_number n h) refl

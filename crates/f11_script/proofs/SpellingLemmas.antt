@@ -24,8 +24,8 @@ use Rattle.f11_script.specs.Reading.{◌>>=◌, argument}
 use Rattle.f11_script.specs.Fields.{numeral, value_up_to, id_of, mode_of, bracketed, uic_of}
 use Rattle.f11_script.specs.Lines.{call_of}
 use Rattle.f11_script.specs.Verbs.{verb_of}
-use Rattle.f11_script.specs.Requests.{create_asks, extend_asks, truncate_asks, delete_asks, grow_asks, access_asks, close_asks, release_asks, read_asks, fill_asks, write_asks, find_asks, enter_asks, remove_asks, attr_asks, set_attr_asks, protect_asks, space_asks, Ask, verb_asks}
-use Rattle.f11_script.specs.Spelling.{create, extend, truncate, delete, grow, access, close, release, read, fill, find, enter, remove, attr, write, set_attr, protect, space, Sentence, sentence_words, sentence_asks, IsInRange, IsId, line_words, line_call}
+use Rattle.f11_script.specs.Requests.{create_asks, extend_asks, contiguous_asks, truncate_asks, delete_asks, grow_asks, access_asks, close_asks, release_asks, read_asks, fill_asks, write_asks, find_asks, enter_asks, remove_asks, attr_asks, set_attr_asks, protect_asks, space_asks, Ask, verb_asks}
+use Rattle.f11_script.specs.Spelling.{create, extend, contiguous, truncate, delete, grow, access, close, release, read, fill, find, enter, remove, attr, write, set_attr, protect, space, Sentence, sentence_words, sentence_asks, IsInRange, IsId, line_words, line_call}
 
 digits_pass : (radix : ℕ) (ds : List ℕ) → AllDigits radix ds → list_all (λ c. is_digit c radix) ds ≡ true
 digits_pass radix [] h = refl
@@ -125,9 +125,10 @@ words_ask words = do
   verb_asks next.0 next.1
 
 sentence_read : (s : Sentence) → IsInRange s → words_ask (sentence_words s) ≡ Some (sentence_asks s)
-unfolding verb_of mode_of create_asks extend_asks truncate_asks delete_asks grow_asks access_asks close_asks release_asks read_asks fill_asks write_asks find_asks enter_asks remove_asks attr_asks set_attr_asks protect_asks space_asks
+unfolding verb_of mode_of create_asks extend_asks contiguous_asks truncate_asks delete_asks grow_asks access_asks close_asks release_asks read_asks fill_asks write_asks find_asks enter_asks remove_asks attr_asks set_attr_asks protect_asks space_asks
 sentence_read (create name word) h = rw (name_read name h.0, word_read word h.1) refl
 sentence_read (extend lun n) h = rw (number_read 3 lun (omega arith) h.0, number_read 4294967295 n (omega arith) h.1) refl
+sentence_read (contiguous lun n) h = rw (number_read 3 lun (omega arith) h.0, number_read 4294967295 n (omega arith) h.1) refl
 sentence_read (truncate lun n) h = rw (number_read 3 lun (omega arith) h.0, number_read 4294967295 n (omega arith) h.1) refl
 sentence_read (delete f) h = rw (id_read f h) refl
 sentence_read (grow n) h = rw (number_read 4294967295 n (omega arith) h) refl

@@ -49,6 +49,13 @@ extend_asks words = do
   n ← argument number_of lun.1
   at_end n.1 (asks (request.Extend lun.0 n.0))
 
+-- CONTIG lun n
+unfoldable pub contiguous_asks : List (List ℕ) → Option Ask
+contiguous_asks words = do
+  lun ← argument lun_of words
+  n ← argument number_of lun.1
+  at_end n.1 (asks (request.Contiguous lun.0 n.0))
+
 -- TRUNCATE lun n
 unfoldable pub truncate_asks : List (List ℕ) → Option Ask
 truncate_asks words = do
@@ -168,6 +175,7 @@ space_asks words = at_end words (asks request.Space)
 abbrev pub verb_asks : Verb → List (List ℕ) → Option Ask
 verb_asks verb.Create words = create_asks words
 verb_asks verb.Extend words = extend_asks words
+verb_asks verb.Contiguous words = contiguous_asks words
 verb_asks verb.Truncate words = truncate_asks words
 verb_asks verb.Delete words = delete_asks words
 verb_asks verb.Grow words = grow_asks words

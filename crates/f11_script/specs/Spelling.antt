@@ -20,6 +20,7 @@ use Rattle.f11_script.specs.Requests.{Ask, asks, asks_with, attr_for, attr_bytes
 pub data Sentence : Type 0 where
   create : List ℕ → ℕ → Sentence
   extend : ℕ → ℕ → Sentence
+  contiguous : ℕ → ℕ → Sentence
   truncate : ℕ → ℕ → Sentence
   delete : FileId → Sentence
   grow : ℕ → Sentence
@@ -47,6 +48,7 @@ mode_text mode.Write = codes "W"
 abbrev pub sentence_words : Sentence → List (List ℕ)
 sentence_words (create name word) = codes "CREATE" ∷ name_text name ∷ octal_digits word ∷ []
 sentence_words (extend lun n) = codes "EXTEND" ∷ decimal lun ∷ decimal n ∷ []
+sentence_words (contiguous lun n) = codes "CONTIG" ∷ decimal lun ∷ decimal n ∷ []
 sentence_words (truncate lun n) = codes "TRUNCATE" ∷ decimal lun ∷ decimal n ∷ []
 sentence_words (delete f) = codes "DELETE" ∷ id_text f ∷ []
 sentence_words (grow n) = codes "GROW" ∷ decimal n ∷ []
@@ -69,6 +71,7 @@ sentence_words space = codes "SPACE" ∷ []
 abbrev pub sentence_asks : Sentence → Ask
 sentence_asks (create name word) = asks (request.Create word (ident_with name) (attr_for name))
 sentence_asks (extend lun n) = asks (request.Extend lun n)
+sentence_asks (contiguous lun n) = asks (request.Contiguous lun n)
 sentence_asks (truncate lun n) = asks (request.Truncate lun n)
 sentence_asks (delete f) = asks (request.Delete f)
 sentence_asks (grow n) = asks (request.GrowIndex n)
@@ -97,6 +100,7 @@ pub record IsId (id : FileId) : Type 0 where
 abbrev pub IsInRange : Sentence → Type 0
 IsInRange (create name word) = IsName name × (word ≤ 65535)
 IsInRange (extend lun n) = (lun ≤ 3) × (n ≤ 4294967295)
+IsInRange (contiguous lun n) = (lun ≤ 3) × (n ≤ 4294967295)
 IsInRange (truncate lun n) = (lun ≤ 3) × (n ≤ 4294967295)
 IsInRange (delete f) = IsId f
 IsInRange (grow n) = n ≤ 4294967295

@@ -2,13 +2,14 @@
 use Rattle.std.specs.Prelude.{ℕ, List, [], ◌∷◌, Option, codes, find}
 use Rattle.std.specs.Str.{bytes_eq}
 use Rattle.f11_script.specs.declared.verb.Verb.{Verb}
-use Rattle.f11_script.specs.declared.verb.Verb.TheVariants.{Create, Extend, Truncate, Delete, Grow, Access, Close, Release, Read, Fill}
+use Rattle.f11_script.specs.declared.verb.Verb.TheVariants.{Create, Extend, Contiguous, Truncate, Delete, Grow, Access, Close, Release, Read, Fill}
 use Rattle.f11_script.specs.declared.verb.Verb.TheVariants.{Write, Find, Enter, Remove, Attr, SetAttr, Protect, Space}
 
 -- how it is written
 abbrev pub verb_text : Verb → List ℕ
 verb_text Create = codes "CREATE"
 verb_text Extend = codes "EXTEND"
+verb_text Contiguous = codes "CONTIG"
 verb_text Truncate = codes "TRUNCATE"
 verb_text Delete = codes "DELETE"
 verb_text Grow = codes "GROW"
@@ -28,8 +29,8 @@ verb_text Space = codes "SPACE"
 
 abbrev pub all_verbs : List Verb
 all_verbs =
-    Create ∷ Extend ∷ Truncate ∷ Delete ∷ Grow ∷ Access ∷ Close ∷ Release ∷ Read ∷ Fill ∷ Write ∷ Find ∷ Enter ∷ Remove ∷ Attr
-    ∷ SetAttr ∷ Protect ∷ Space ∷ []
+    Create ∷ Extend ∷ Contiguous ∷ Truncate ∷ Delete ∷ Grow ∷ Access ∷ Close ∷ Release ∷ Read ∷ Fill ∷ Write ∷ Find ∷ Enter ∷ Remove
+    ∷ Attr ∷ SetAttr ∷ Protect ∷ Space ∷ []
 
 -- the verb that is written so
 unfoldable pub verb_of : List ℕ → Option Verb

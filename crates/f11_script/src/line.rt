@@ -40,8 +40,9 @@ pub enum Parsed {
 /// (profile):
 ///
 /// ```text
-/// CREATE name word      EXTEND lun n           TRUNCATE lun n    DELETE f     GROW n
-/// ACCESS f mode lun     CLOSE lun              RELEASE           READ lun vbn
+/// CREATE name word      EXTEND lun n           CONTIG lun n      TRUNCATE lun n
+/// DELETE f              GROW n                 ACCESS f mode lun CLOSE lun
+/// RELEASE               READ lun vbn
 /// FILL lun vbn octal    WRITE lun vbn hex      FIND d name       ENTER d name f
 /// REMOVE d name         ATTR f                 PROTECT f word    SPACE
 /// SETATTR f rtyp ratt rsiz hibk efbk ffby

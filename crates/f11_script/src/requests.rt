@@ -10,7 +10,7 @@ use f11_store::{Change, FileId, Mode, Request, ident_with};
 impl<'a> Words<'a> {
     ghost use Rattle.f11_script.specs.Fields.{AreHexDigits, byte_of, id_of, mode_of, number_of, octal_byte_of, protection_of, word_of};
     ghost use Rattle.f11_script.specs.Reading.{Gives, argument, words_left};
-    ghost use Rattle.f11_script.specs.Requests.{asks, attr_asks, close_asks, access_asks, create_asks, delete_asks, enter_asks, extend_asks, fill_asks, find_asks, grow_asks, hex_of, protect_asks, read_asks, release_asks, remove_asks, set_attr_asks, space_asks, truncate_asks, verb_asks, with_block, write_asks};
+    ghost use Rattle.f11_script.specs.Requests.{asks, attr_asks, close_asks, access_asks, contiguous_asks, create_asks, delete_asks, enter_asks, extend_asks, fill_asks, find_asks, grow_asks, hex_of, protect_asks, read_asks, release_asks, remove_asks, set_attr_asks, space_asks, truncate_asks, verb_asks, with_block, write_asks};
 
     fn number(self) -> Option<(u32, Words<'a>)>
         ensures { Gives (λ next. (next.0, words_left next.1)) result
@@ -86,6 +86,17 @@ impl<'a> Words<'a> {
         let lun = fields::lun(word)?;
         let (n, words) = words.number()?;
         words.is_empty().then_some(Request::Extend(lun, n))
+    }
+
+    /// `CONTIG lun n`
+    #[tactic(auto, unfolding(crate::specs::Requests::contiguous_asks))]
+    fn contiguous(self) -> Option<Request>
+        ensures { Gives asks result (contiguous_asks (words_left self.entry)) }
+    {
+        let (word, words) = self.next()?;
+        let lun = fields::lun(word)?;
+        let (n, words) = words.number()?;
+        words.is_empty().then_some(Request::Contiguous(lun, n))
     }
 
     /// `TRUNCATE lun n`
@@ -303,6 +314,7 @@ impl<'a> Words<'a> {
         match verb {
             Verb::Create => words.create(),
             Verb::Extend => words.extend(),
+            Verb::Contiguous => words.contiguous(),
             Verb::Truncate => words.truncate(),
             Verb::Delete => words.delete(),
             Verb::Grow => words.grow(),

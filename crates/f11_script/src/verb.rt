@@ -8,6 +8,7 @@ ghost use Rattle.f11_script.specs.Verbs.{verb_of, verb_text};
 pub(crate) enum Verb {
     Create,
     Extend,
+    Contiguous,
     Truncate,
     Delete,
     Grow,
@@ -26,9 +27,10 @@ pub(crate) enum Verb {
     Space,
 }
 
-const VERBS: [Verb; 18] = [
+const VERBS: [Verb; 19] = [
     Verb::Create,
     Verb::Extend,
+    Verb::Contiguous,
     Verb::Truncate,
     Verb::Delete,
     Verb::Grow,
@@ -55,6 +57,7 @@ impl Verb {
         match self {
             Verb::Create => b"CREATE",
             Verb::Extend => b"EXTEND",
+            Verb::Contiguous => b"CONTIG",
             Verb::Truncate => b"TRUNCATE",
             Verb::Delete => b"DELETE",
             Verb::Grow => b"GROW",

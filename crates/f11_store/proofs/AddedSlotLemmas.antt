@@ -1,11 +1,11 @@
 -- Slots that are added while a file of the plain store grows piece by piece.
 use Rattle.std.proofs.Common.{◌≡◌, ℕ, ◌+◌, ◌-◌, ◌<◌, ◌≤◌, ◌&&◌, ◌||◌, ◌==◌, Bool, true, false, List, ◌++◌, Option, Some, take, unwrap_or, refl, sym, ◌∙◌, ap, subst, arith, if◌then◌else◌, nat_le, nat_lt}
 use Rattle.std.proofs.lemmas.Bool.Decides.{nat_tests}
-use Rattle.f11_store.specs.Changes.{is_in, next_sequence, with_grown_file, with_more_slots, Grows}
-use Rattle.f11_store.specs.File.{File, need, no_file, without_contiguous}
+use Rattle.f11_store.specs.Changes.{is_in, next_sequence, with_more_slots}
+use Rattle.f11_store.specs.File.{File, need, no_file}
 use Rattle.f11_store.specs.Store.{Store, free_headers, free_slots}
-use Rattle.f11_store.specs.Pieces.{file_numbered, HasPlaces}
-use Rattle.f11_store.proofs.PieceLemmas.{grown-before, has-room, headers-grown, has-places, needs-add}
+use Rattle.f11_store.specs.Pieces.{file_numbered, with_longer_file, AddsBlocks, HasPlaces}
+use Rattle.f11_store.proofs.PieceLemmas.{has-places, headers-longer, longer-before, needs-add}
 use Rattle.f11_store.proofs.StoreLemmas.{same-store}
 use Rattle.f11_store.proofs.TakenSlotLemmas.{above-none, first-free, more-headers}
 
@@ -28,15 +28,14 @@ slots-twice s a b =
     twice m l = grind (arith, nat_tests)
 
 -- a file that grows once slots were added, in headers that were free before: the slots may as well be added then
-pub grown-then-slots :
+pub longer-then-slots :
     (s : Store) (k a n : ℕ) (f : File) (blocks : List (List ℕ)) (added pointers room : ℕ) → added ≤ free_headers s →
-    with_grown_file (with_more_slots s a) k f n blocks added pointers room ≡ with_more_slots (with_grown_file s k f n blocks added pointers room) a
-grown-then-slots s k a n f blocks added pointers room few =
+    with_longer_file (with_more_slots s a) k f n blocks added pointers room ≡ with_more_slots (with_longer_file s k f n blocks added pointers room) a
+longer-then-slots s k a n f blocks added pointers room few =
     same-store
-    (with_grown_file (with_more_slots s a) k f n blocks added pointers room)
-    (with_more_slots (with_grown_file s k f n blocks added pointers room) a)
+    (with_longer_file (with_more_slots s a) k f n blocks added pointers room)
+    (with_more_slots (with_longer_file s k f n blocks added pointers room) a)
     (λ m. ap (λ (slots : List ℕ). if m == k then Some (record f {
-      characteristics = without_contiguous f.characteristics;
       held = f.held ++ slots;
       pointers = pointers;
       room = room;
@@ -63,21 +62,20 @@ grown-then-slots s k a n f blocks added pointers room few =
 
 -- the headers that the second piece takes are free after the first
 pub headers-left :
-    (s t u : Store) (k n a b : ℕ) (blocks more : List (List ℕ)) → HasPlaces s k n → a + b ≤ n → (one : Grows s k a blocks t) (two : Grows t k b more u) →
-    two.added ≤ free_headers t
-headers-left s t u k n a b blocks more may few one two =
+    (s t u : Store) (k n a b most p q : ℕ) (blocks more : List (List ℕ)) → HasPlaces s k n most → p + q ≤ most → (one : AddsBlocks s k a p blocks t)
+    (two : AddsBlocks t k b q more u) → two.added ≤ free_headers t
+headers-left s t u k n a b most p q blocks more may few one two =
     let same : file_numbered s k ≡ one.before = ap (λ (o : Option File). unwrap_or o no_file) one.was in
-    let enough : need one.before.room n ≤ free_headers s =
-    subst (λ (f : File). need f.room n ≤ free_headers s) same (has-room s (file_numbered s k) n may.no_cause).headers in
+    let enough : need one.before.room most ≤ free_headers s = subst (λ (f : File). need f.room most ≤ free_headers s) same may.has_room.headers in
     let left : free_headers t ≡ free_headers s - one.added =
-    ap (λ (x : Store). free_headers x) one.store_is ∙ headers-grown s k a one.before blocks one.added one.pointers one.room in
-    let fits : two.added ≤ need one.room b =
-    subst (λ (f : File). two.added ≤ need f.room b) (grown-before s t u k a b blocks more one two) two.may_grow.headers in
-    omega (arith, enough, left, fits, needs-add one.before n a b one.added one.pointers one.room one.may_grow few)
+    ap (λ (x : Store). free_headers x) one.store_is ∙ headers-longer s k a one.before blocks one.added one.pointers one.room in
+    let fits : two.added ≤ need one.room q =
+    subst (λ (f : File). two.added ≤ need f.room q) (longer-before s t u k a b p q blocks more one two) two.may_grow.headers in
+    omega (arith, enough, left, fits, needs-add one.before most p q one.added one.pointers one.room one.may_grow few)
 
 -- what may grow may where there are more slots
-pub may-more : (s : Store) (k n a : ℕ) → HasPlaces s k n → HasPlaces (with_more_slots s a) k n
-may-more s k n a may =
-    let has = has-room s (file_numbered s k) n may.no_cause in
-    has-places (with_more_slots s a) k n (file_numbered s k) may.is_file may.no_mark
+pub may-more : (s : Store) (k n most a : ℕ) → HasPlaces s k n most → HasPlaces (with_more_slots s a) k n most
+may-more s k n most a may =
+    let has = may.has_room in
+    has-places (with_more_slots s a) k n most (file_numbered s k) may.is_file
     (record { segments = has.segments; blocks = has.blocks; headers = omega (arith, has.headers, more-headers s a) })

@@ -93,7 +93,7 @@ found_causes false false false false false false true x k h = absurd (cc)
 
 pub refused_otherwise :
     (o : Option Refusal) (e : Refusal) → ((x : Refusal) → o ≡ Some x → x ≢ NoSuchEntry) →
-    MayRefuse o false e → e ≢ NoSuchEntry
+    MayRefuse o false false e → e ≢ NoSuchEntry
 refused_otherwise None e h k = absurd k
 refused_otherwise (Some x) e h k = λ n. h x refl (sym k ∙ n)
 

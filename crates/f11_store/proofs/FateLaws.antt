@@ -6,13 +6,13 @@ use Rattle.std.specs.Int.{bit_at}
 use Rattle.std.proofs.lemmas.Bool.{eqb-true, and_parts, not-true}
 use Rattle.std.proofs.lemmas.List.Folds.{list_any_at}
 use Rattle.std.proofs.lemmas.List.FromFn.{get_or-range_with_len, length-range_with_len}
-use Rattle.std.proofs.lemmas.Nat.Bits.{bit_at_and}
+use Rattle.std.proofs.lemmas.Nat.Bits.{bit_at_and, bit_at_or}
 use Rattle.f11_store.specs.declared.files.FileId.{FileId}
 use Rattle.f11_store.specs.declared.files.Mode.{Mode}
-use Rattle.f11_store.specs.File.{File, no_file, is_marked, without_contiguous}
+use Rattle.f11_store.specs.File.{File, no_file, is_marked, with_contiguous, without_contiguous}
 use Rattle.f11_store.specs.Store.{Store, Access, of_sequence, file_of, is_same, is_to, is_held, is_accessed, file_named}
 use Rattle.f11_store.specs.Causes.{is_missing}
-use Rattle.f11_store.specs.Changes.{without_file_at, after_giving_up, is_due, with_change, with_access, Grows, Truncates, GetsSlots, GrowsIndex, with_more_slots}
+use Rattle.f11_store.specs.Changes.{without_file_at, after_giving_up, is_due, with_change, with_access, Grows, LaysOut, Truncates, GetsSlots, GrowsIndex, with_more_slots}
 use Rattle.f11_store.specs.Accesses.{mark_of}
 
 -- one of the first numbers settles the answer
@@ -110,6 +110,15 @@ mark-of-cleared c = bit_at_and c 65407 15 ∙ omega arith
 pub fate-grows : (s s' : Store) (k q n : ℕ) (blocks : List (List ℕ)) → Grows s k q blocks s' → Fate s s' n
 fate-grows s s' k q n blocks grows =
     fate-set s s' k n grows.before _ grows.was refl (ap (λ b. b == 1) (mark-of-cleared grows.before.characteristics)) (ap (λ (x : Store). x.file n) grows.store_is)
+
+-- bit 15 stays where UC.CON is set
+pub mark-of-marked : (c : ℕ) → bit_at (with_contiguous c) 15 ≡ bit_at c 15
+mark-of-marked c = bit_at_or c 128 15 ∙ omega arith
+
+pub fate-laid : (s s' : Store) (k q n : ℕ) → LaysOut s k q s' → Fate s s' n
+fate-laid s s' k q n laid =
+    fate-set s s' k n laid.before _ laid.was refl (ap (λ b. b == 1) (mark-of-marked laid.before.characteristics))
+    (ap (λ (x : Store). x.file n) laid.store_is)
 
 pub fate-cut : (s s' : Store) (k to n : ℕ) → Truncates s k to s' → Fate s s' n
 fate-cut s s' k to n cut = fate-set s s' k n cut.before _ cut.was refl refl (ap (λ (x : Store). x.file n) cut.store_is)

@@ -1,5 +1,5 @@
 -- Laws of files that are created, deleted, cut and extended.
-use Rattle.std.proofs.Common.{◌≡◌, ℕ, ◌+◌, ◌-◌, ◌<◌, ◌≤◌, ◌==◌, Bool, true, false, List, [], Option, Some, length, take, get_or, refl, sym, ◌∙◌, subst, arith, if◌then◌else◌, IsSomeAnd, ◌∷◌, None, zero, suc, ◌++◌, not, filter, slice_index, ap}
+use Rattle.std.proofs.Common.{◌≡◌, ℕ, ◌+◌, ◌-◌, ◌<◌, ◌≤◌, ◌==◌, Bool, true, false, List, [], Option, Some, length, take, get_or, refl, sym, ◌∙◌, subst, arith, if◌then◌else◌, IsSomeAnd, ◌∷◌, zero, suc, ◌++◌, not, filter, slice_index, ap}
 use Rattle.std.proofs.lemmas.Bool.Decides.{nat_tests}
 use Rattle.std.proofs.lemmas.Bool.{ltb-false}
 use Rattle.std.proofs.lemmas.List.{get_or-replicate, get_or-append_right, length-take}
@@ -10,7 +10,6 @@ use Rattle.f11_store.specs.declared.requests.Reply.TheVariants as reply
 use Rattle.f11_store.specs.declared.requests.Request.TheVariants as request
 use Rattle.f11_store.specs.File.{File, need, length_of, with_mark, zero_block, zero_blocks}
 use Rattle.std.specs.List.{range_with_len}
-use Rattle.f11_store.specs.declared.refusals.Refusal.TheVariants.{NoHeader}
 use Rattle.f11_store.specs.Store.{Store, file_named, id_held, file_held, is_accessed, free_slots, free_headers, least_free}
 use Rattle.f11_store.specs.Changes.{Truncates, Grows, next_sequence, with_file, with_marked_file, without_file_at, with_cut_file}
 use Rattle.f11_store.specs.Step.{Serves, next_id, block_at}

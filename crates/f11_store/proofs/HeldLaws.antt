@@ -1,12 +1,12 @@
 -- What holds of a store holds with any accesses beside.
-use Rattle.std.proofs.Common.{◌≡◌, ◌≤◌, ℕ, zero, suc, List, [], ◌∷◌, Option, refl, sym, ◌∙◌, ap, subst, take, arith}
+use Rattle.std.proofs.Common.{◌≡◌, ℕ, zero, suc, List, [], ◌∷◌, Option, refl, sym, ◌∙◌, ap, subst, take, arith}
 use Rattle.f11_store.specs.declared.callers.Uic.{Uic}
 use Rattle.f11_store.specs.File.{File, need, zero_blocks}
 use Rattle.f11_store.specs.declared.files.FileId.{FileId}
 use Rattle.f11_store.specs.Store.{Store, Access, file_named, free_slots, free_headers}
-use Rattle.f11_store.specs.Causes.{create_causes, extend_causes, growth_causes}
+use Rattle.f11_store.specs.Causes.{contiguous_causes, create_causes, extend_causes, growth_causes}
 use Rattle.f11_store.specs.Headroom.{lacks_headers, slots_first}
-use Rattle.f11_store.specs.Changes.{AfterSlots, Extends, GetsSlots, Lengthens, MakesFile, with_slots_first, with_slots_added, Grows, GrowsIndex, Truncates, after_create}
+use Rattle.f11_store.specs.Changes.{AfterSlots, Extends, GetsSlots, LaysOut, Lengthens, MakesFile, with_slots_first, with_slots_added, Grows, GrowsIndex, Truncates, after_create}
 use Rattle.f11_store.specs.Lags.{after_slots, extend_work, lengthen_work, make_work, new_file_work, with_headers_first, Part, file_changes, file_appears, file_goes, slot_appears, with_part, with_parts, Work, LagsBy}
 use Rattle.f11_store.specs.Accesses.{with_accesses}
 
@@ -40,6 +40,15 @@ module _ (a : ℕ → ℕ → Option Access) where
     may_grow = grows.may_grow;
     store_is = ap (with_accesses a) grows.store_is;
   }
+
+  -- a file that is laid out in one run
+  pub contiguous-causes-held : (s : Store) (f : File) (n : ℕ) → contiguous_causes (with_accesses a s) f n ≡ contiguous_causes s f n
+  unfolding free_slots
+  contiguous-causes-held s f n = refl
+
+  pub laid-out-held : (s s' : Store) (k n : ℕ) → LaysOut s k n s' → LaysOut (with_accesses a s) k n (with_accesses a s')
+  unfolding free_slots
+  laid-out-held s s' k n laid = record { before = laid.before; was = laid.was; empty = laid.empty; store_is = ap (with_accesses a) laid.store_is }
 
   pub cut-held : (s s' : Store) (k to : ℕ) → Truncates s k to s' → Truncates (with_accesses a s) k to (with_accesses a s')
   cut-held s s' k to cut = record {

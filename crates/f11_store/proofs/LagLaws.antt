@@ -1,17 +1,14 @@
 -- Laws of what a request leaves behind.
-use Rattle.std.proofs.Common.{◌≡◌, ℕ, ◌+◌, ◌-◌, ◌<◌, ◌≤◌, ◌==◌, ◌&&◌, ◌||◌, Bool, true, false, not, List, [], ◌∷◌, ◌++◌, Option, Some, None, Ok, Err, length, take, fold, unwrap_or, if◌then◌else◌, refl, sym, ◌∙◌, ap, subst, arith, inl, ◌⊎◌, nat_lt, nat_le}
+use Rattle.std.proofs.Common.{◌≡◌, ℕ, ◌+◌, ◌-◌, ◌<◌, ◌≤◌, ◌==◌, ◌&&◌, Bool, true, false, not, List, [], ◌∷◌, ◌++◌, Option, Some, None, length, take, if◌then◌else◌, refl, sym, ◌∙◌, ap, subst, arith, inl, ◌⊎◌, nat_lt, nat_le}
 use Rattle.std.proofs.lemmas.List.{length-take, append-nil}
-use Rattle.std.proofs.lemmas.List.Sums.{fold-append}
 use Rattle.std.proofs.Math.Seq.{take-length}
 use Rattle.std.proofs.lemmas.Bool.{le-ltb, le-leb}
 use Rattle.std.proofs.lemmas.Bool.Decides.{nat_tests}
 use Rattle.f11_store.specs.declared.callers.Uic.{Uic}
 use Rattle.f11_store.specs.declared.files.FileId.{FileId}
 use Rattle.f11_store.specs.declared.requests.Request.{Request}
-use Rattle.f11_store.specs.declared.requests.Request.TheVariants as request
 use Rattle.f11_store.specs.File.{File, need, zero_blocks, without_contiguous}
-use Rattle.f11_store.specs.Store.{Store, Access, file_named, id_held, index_file, least_free, free_slots, free_headers, is_accessed}
-use Rattle.f11_store.specs.Directory.{index_of_name, index_of_empty, empty_record, entry_count, needs_block, record_bytes}
+use Rattle.f11_store.specs.Store.{Store, file_named, index_file, least_free, free_slots, free_headers}
 use Rattle.f11_store.specs.Causes.{first_refusal}
 use Rattle.std.specs.List.{range_with_len}
 use Rattle.f11_store.specs.Changes.{Changes, with_marked_file, is_in, next_sequence, file_created, after_create, with_first_blocks, with_cut_file, with_grown_file, MayGrow, GrowsIndex, with_more_slots, with_delete_mark, with_end_after, with_entry_at_end, Extends, EntersAtEnd, EntersAt, with_change, with_block, with_entry, with_replacement, with_access, is_due, without_file_at, after_giving_up, after_deaccess, after_release}
@@ -20,7 +17,6 @@ use Rattle.f11_store.specs.Laws.{LagsItself, StepLags}
 use Rattle.f11_store.specs.Moments.{Did, DidLags}
 use Rattle.f11_store.proofs.Frees.{Frees, same_limits, frees_change, frees_access, frees_without_file, frees_deaccess, frees_release}
 use Rattle.f11_store.proofs.Growth.{alike, headers_taken, last_or_next, stays_unused, grown_alike, extend_and_slots, slots_one_by_one, room-file_named, StoresAlike, entry_at_end_alike}
-use Rattle.f11_store.proofs.RecordLemmas.{neither}
 use Rattle.f11_store.proofs.SlotLemmas.{filter_no_less}
 
 -- a slot that is there was last given what it was last given

@@ -16,6 +16,7 @@ pub mod StepFates
 pub mod StepLaws
 pub mod StoreLemmas
 mod WorkedLagLemmas
+mod WorkedRunLemmas
 mod WorkedLemmas
 pub mod RangeLemmas
 pub mod TakenSlotLemmas
@@ -28,3 +29,5 @@ pub mod SlotsFirst
 pub mod StepLags
 pub mod GrowsLemmas
 pub mod GrowsLagLemmas
+pub mod ContiguousLaws
+pub mod LayingLemmas

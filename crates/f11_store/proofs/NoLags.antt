@@ -14,7 +14,7 @@ use Rattle.f11_store.specs.Causes.{first_refusal, is_bad}
 use Rattle.f11_store.specs.Headroom.{slots_first}
 use Rattle.f11_store.specs.File.{need}
 use Rattle.f11_store.specs.Changes.{with_change, with_entry, with_end_after}
-use Rattle.f11_store.specs.Lags.{file_changes, after_slots, and_then, extend_work, grow_parts, slot_appears, with_part, Part, Work, no_work, work_if, served_work, end_work, append_work, enter_work, with_no_mark, with_zero_block, extend_parts, with_parts, IsLike, AreLike, LagsBy}
+use Rattle.f11_store.specs.Lags.{file_changes, after_slots, and_then, extend_work, grow_parts, slot_appears, with_part, Part, no_work, work_if, served_work, end_work, append_work, enter_work, with_no_mark, with_zero_block, extend_parts, with_parts, IsLike, AreLike, LagsBy}
 use Rattle.f11_store.specs.Laws.{OthersAreEqual, NoPartsNoChange, RefusedIsStill, EndComesLast, IsStill, IsWhole}
 use Rattle.f11_store.proofs.StoreLemmas.{none_first, none_rest, same_number}
 use Rattle.f11_store.proofs.SlotsFirst.{no_index}

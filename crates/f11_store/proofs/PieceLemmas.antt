@@ -2,35 +2,30 @@
 use Rattle.std.proofs.Common.{◌≡◌, ◌≢◌, ℕ, zero, suc, ◌+◌, ◌-◌, ◌*◌, ◌<◌, ◌≤◌, ◌==◌, ◌||◌, ◌⊎◌, inl, inr, Bool, true, false, List, [], ◌∷◌, ◌++◌, Option, Some, None, length, take, drop, slice_index, unwrap_or, option_map, refl, sym, ◌∙◌, ap, subst, arith, append_assoc, if◌then◌else◌, nat_lt}
 use Rattle.std.proofs.Math.Bool.{or-true}
 use Rattle.std.proofs.Math.Seq.{take-add}
-use Rattle.std.proofs.lemmas.Bool.{cases_eq, eq-eqb, le-ltb, ne_eqb}
+use Rattle.std.proofs.lemmas.Bool.{cases_eq, eq-eqb, ne_eqb}
 use Rattle.std.proofs.lemmas.Bool.Decides.{nat_tests}
 use Rattle.std.proofs.lemmas.List.{append-nil, length-append, length-drop, length-take, replicate-append-replicate}
 use Rattle.std.proofs.lemmas.Nat.{and_assoc}
 use Rattle.f11_store.proofs.Frees.{same_limits_then}
 use Rattle.f11_store.proofs.StoreLemmas.{none_first, none_rest, same_number, same-store}
 use Rattle.f11_store.specs.Causes.{first_of, growth_causes}
-use Rattle.f11_store.specs.Changes.{grown_file, is_in, next_sequence, with_change, with_grown_file, with_slots, Extends, Grows, MayGrow}
+use Rattle.f11_store.specs.Changes.{grown_file, is_in, next_sequence, with_change, with_grown_file, with_slots, Grows, MayGrow}
 use Rattle.f11_store.specs.File.{File, need, no_file, without_contiguous, zero_block, zero_blocks}
 use Rattle.f11_store.specs.Lags.{with_no_mark}
 use Rattle.f11_store.specs.Store.{Store, free_headers, free_slots, least_free}
 use Rattle.f11_store.specs.declared.refusals.Refusal.TheVariants.{DeviceFull, NoHeader, TooManySegments}
-use Rattle.f11_store.specs.Pieces.{with_more_free, with_more_blocks, file_numbered, HasPlaces, TakingAdds}
+use Rattle.f11_store.specs.Pieces.{with_more_free, with_more_blocks, file_numbered, longer_file, with_longer_file, AddsBlocks, HasPlaces, HasRoom, TakingAdds}
 use Rattle.f11_store.proofs.TakenSlotLemmas.{both-in, free-left, used-none}
 
 -- the contiguous mark that was cleared is clear
 pub cleared-twice : (c : ℕ) → without_contiguous (without_contiguous c) ≡ without_contiguous c
 cleared-twice c = and_assoc 65407 c 65407
 
--- room for n more blocks of a file: in its segments, on the volume, and in the index file
-pub record HasRoom (s : Store) (f : File) (n : ℕ) : Type 0 where
-  pub segments : length f.held + need f.room n ≤ 256
-  pub blocks : n ≤ s.free
-  pub headers : need f.room n ≤ free_headers s
-
-not-more : (a b : ℕ) → nat_lt a b ≡ false → b ≤ a
+pub not-more : (a b : ℕ) → nat_lt a b ≡ false → b ≤ a
 not-more a b h = grind (arith, nat_tests)
 
-pub has-room : (s : Store) (f : File) (n : ℕ) → first_of (growth_causes s f n) ≡ None → HasRoom s f n
+-- room for n more blocks of a file, each of which may take a pointer
+pub has-room : (s : Store) (f : File) (n : ℕ) → first_of (growth_causes s f n) ≡ None → HasRoom s f n n
 has-room s f n h =
     let first = none_rest (nat_lt 256 (length f.held + need f.room n)) TooManySegments _ h in
     let second = none_rest (nat_lt s.free n) DeviceFull _ first in
@@ -40,25 +35,18 @@ has-room s f n h =
       headers = not-more (free_headers s) (need f.room n) (none_first _ NoHeader _ second);
     }
 
-no-cause : (s : Store) (f : File) (n : ℕ) → HasRoom s f n → first_of (growth_causes s f n) ≡ None
-no-cause s f n has =
-    λ i. if le-ltb 256 (length f.held + need f.room n) has.segments i then Some TooManySegments
-    else if le-ltb s.free n has.blocks i then Some DeviceFull
-    else if le-ltb (free_headers s) (need f.room n) has.headers i then Some NoHeader
-    else None
-
 -- the free headers once some were added
-free-grown :
+free-longer :
     (s : Store) (k n : ℕ) (f : File) (blocks : List (List ℕ)) (added pointers room : ℕ) →
-    free_slots (with_grown_file s k f n blocks added pointers room) ≡ drop added (free_slots s)
-free-grown s k n f blocks added pointers room = free-left s (with_grown_file s k f n blocks added pointers room) added refl refl
+    free_slots (with_longer_file s k f n blocks added pointers room) ≡ drop added (free_slots s)
+free-longer s k n f blocks added pointers room = free-left s (with_longer_file s k f n blocks added pointers room) added refl refl
 
-pub headers-grown :
+pub headers-longer :
     (s : Store) (k n : ℕ) (f : File) (blocks : List (List ℕ)) (added pointers room : ℕ) →
-    free_headers (with_grown_file s k f n blocks added pointers room) ≡ free_headers s - added
-headers-grown s k n f blocks added pointers room = ap length (free-grown s k n f blocks added pointers room) ∙ length-drop added (free_slots s)
+    free_headers (with_longer_file s k f n blocks added pointers room) ≡ free_headers s - added
+headers-longer s k n f blocks added pointers room = ap length (free-longer s k n f blocks added pointers room) ∙ length-drop added (free_slots s)
 
--- n blocks need no fewer headers than some of them and the others
+-- n pointers need no fewer headers than some of them and the others
 pub needs-add : (f : File) (n a b added pointers room : ℕ) → MayGrow f a added pointers room → a + b ≤ n → added + need room b ≤ need f.room n
 needs-add f n a b zero pointers room may h = omega (arith, may.no_more, may.no_fewer, may.places, h)
 needs-add f n a b (suc m) pointers room may h =
@@ -68,10 +56,9 @@ needs-add f n a b (suc m) pointers room may h =
 -- a file that grows twice: what it has then
 file-twice :
     (s : Store) (k a : ℕ) (f : File) (one two : List (List ℕ)) (added pointers room more pointers' room' : ℕ) →
-    grown_file (with_grown_file s k f a one added pointers room) (grown_file s f one added pointers room) two more pointers' room'
-    ≡ grown_file s f (one ++ two) (added + more) pointers' room'
-file-twice s k a f one two added pointers room more pointers' room' = λ i. record (grown_file s f (one ++ two) (added + more) pointers' room') {
-  characteristics = cleared-twice f.characteristics i;
+    longer_file (with_longer_file s k f a one added pointers room) (longer_file s f one added pointers room) two more pointers' room'
+    ≡ longer_file s f (one ++ two) (added + more) pointers' room'
+file-twice s k a f one two added pointers room more pointers' room' = λ i. record (longer_file s f (one ++ two) (added + more) pointers' room') {
   held = held i;
   blocks = append_assoc f.blocks one two i;
 }
@@ -79,44 +66,44 @@ file-twice s k a f one two added pointers room more pointers' room' = λ i. reco
     free : List ℕ
     free = free_slots s
 
-    held : (f.held ++ take added free) ++ take more (free_slots (with_grown_file s k f a one added pointers room)) ≡ f.held ++ take (added + more) free
+    held : (f.held ++ take added free) ++ take more (free_slots (with_longer_file s k f a one added pointers room)) ≡ f.held ++ take (added + more) free
     held =
         append_assoc f.held (take added free) _
-        ∙ ap (λ (l : List ℕ). f.held ++ (take added free ++ take more l)) (free-grown s k a f one added pointers room)
+        ∙ ap (λ (l : List ℕ). f.held ++ (take added free ++ take more l)) (free-longer s k a f one added pointers room)
         ∙ ap (λ (l : List ℕ). f.held ++ l) (sym (take-add added more free))
 
 -- and the store
-grown-twice :
+longer-twice :
     (s : Store) (k a b : ℕ) (f : File) (one two : List (List ℕ)) (added pointers room more pointers' room' : ℕ) →
-    with_grown_file (with_grown_file s k f a one added pointers room) k (grown_file s f one added pointers room) b two more pointers' room'
-    ≡ with_grown_file s k f (a + b) (one ++ two) (added + more) pointers' room'
-grown-twice s k a b f one two added pointers room more pointers' room' =
+    with_longer_file (with_longer_file s k f a one added pointers room) k (longer_file s f one added pointers room) b two more pointers' room'
+    ≡ with_longer_file s k f (a + b) (one ++ two) (added + more) pointers' room'
+longer-twice s k a b f one two added pointers room more pointers' room' =
     same-store
-    (with_grown_file t k (grown_file s f one added pointers room) b two more pointers' room')
-    (with_grown_file s k f (a + b) (one ++ two) (added + more) pointers' room')
+    (with_longer_file t k (longer_file s f one added pointers room) b two more pointers' room')
+    (with_longer_file s k f (a + b) (one ++ two) (added + more) pointers' room')
     (λ n. two_writes (n == k) (s.file n)) (omega arith) refl
     (λ n. two_marks _ _ (s.in_use n) ∙ ap (λ (b : Bool). b || s.in_use n) (whole n))
     (λ n. two_numbers _ _ (s.last n) (apart n) ∙ ap (λ (b : Bool). if b then next_sequence (s.last n) else s.last n) (whole n))
     refl refl refl refl
   where
     t : Store
-    t = with_grown_file s k f a one added pointers room
+    t = with_longer_file s k f a one added pointers room
 
     slots : List ℕ
     slots = free_slots s
 
     whole : (n : ℕ) → (is_in (take added slots) n || is_in (take more (free_slots t)) n) ≡ is_in (take (added + more) slots) n
     whole n =
-        ap (λ (l : List ℕ). is_in (take added slots) n || is_in (take more l) n) (free-grown s k a f one added pointers room)
+        ap (λ (l : List ℕ). is_in (take added slots) n || is_in (take more l) n) (free-longer s k a f one added pointers room)
         ∙ sym (both-in slots added more n)
 
     apart : (n : ℕ) → is_in (take added slots) n ≡ true → is_in (take more (free_slots t)) n ≡ false
     apart n e = used-none t more n (ap (λ (b : Bool). b || s.in_use n) e)
 
     two_writes : (here : Bool) (o : Option File) →
-        (if here then Some (grown_file t (grown_file s f one added pointers room) two more pointers' room')
-        else if here then Some (grown_file s f one added pointers room) else o)
-        ≡ (if here then Some (grown_file s f (one ++ two) (added + more) pointers' room') else o)
+        (if here then Some (longer_file t (longer_file s f one added pointers room) two more pointers' room')
+        else if here then Some (longer_file s f one added pointers room) else o)
+        ≡ (if here then Some (longer_file s f (one ++ two) (added + more) pointers' room') else o)
     two_writes true o = ap Some (file-twice s k a f one two added pointers room more pointers' room')
     two_writes false o = refl
 
@@ -131,82 +118,86 @@ grown-twice s k a b f one two added pointers room more pointers' room' =
     two_numbers false y l h = refl
 
 -- by no block
-grown-none :
-    (s : Store) (k : ℕ) (f : File) → s.file k ≡ Some f → without_contiguous f.characteristics ≡ f.characteristics →
-    s ≡ with_grown_file s k f 0 [] 0 f.pointers f.room
-grown-none s k f was clear =
-    same-store s (with_grown_file s k f 0 [] 0 f.pointers f.room)
+longer-none :
+    (s : Store) (k : ℕ) (f : File) → s.file k ≡ Some f → s ≡ with_longer_file s k f 0 [] 0 f.pointers f.room
+longer-none s k f was =
+    same-store s (with_longer_file s k f 0 [] 0 f.pointers f.room)
     (λ n. by_number n (cases_eq n k)) (omega arith) refl (λ n. refl) (λ n. refl) refl refl refl refl
   where
-    same : f ≡ grown_file s f [] 0 f.pointers f.room
-    same = λ i. record f { characteristics = sym clear i; held = sym (append-nil f.held) i; blocks = sym (append-nil f.blocks) i }
+    same : f ≡ longer_file s f [] 0 f.pointers f.room
+    same = λ i. record f { held = sym (append-nil f.held) i; blocks = sym (append-nil f.blocks) i }
 
-    by_number : (n : ℕ) → (n ≡ k) ⊎ (n ≢ k) → s.file n ≡ (if n == k then Some (grown_file s f [] 0 f.pointers f.room) else s.file n)
+    by_number : (n : ℕ) → (n ≡ k) ⊎ (n ≢ k) → s.file n ≡ (if n == k then Some (longer_file s f [] 0 f.pointers f.room) else s.file n)
     by_number n (inl e) =
         ap s.file e ∙ was ∙ ap Some same
-        ∙ sym (ap (λ (b : Bool). if b then Some (grown_file s f [] 0 f.pointers f.room) else s.file n) (eq-eqb n k e))
-    by_number n (inr e) = sym (ap (λ (b : Bool). if b then Some (grown_file s f [] 0 f.pointers f.room) else s.file n) (ne_eqb n k e))
+        ∙ sym (ap (λ (b : Bool). if b then Some (longer_file s f [] 0 f.pointers f.room) else s.file n) (eq-eqb n k e))
+    by_number n (inr e) = sym (ap (λ (b : Bool). if b then Some (longer_file s f [] 0 f.pointers f.room) else s.file n) (ne_eqb n k e))
 
-pub none-grows : (s : Store) (k n : ℕ) → HasPlaces s k n → Grows s k 0 [] s
-none-grows s k n may = record {
+pub none-adds : (s : Store) (k n most : ℕ) → HasPlaces s k n most → AddsBlocks s k 0 0 [] s
+none-adds s k n most may = record {
   before = file_numbered s k;
   added = 0;
   pointers = (file_numbered s k).pointers;
   room = (file_numbered s k).room;
   was = may.is_file;
   may_grow = record { headers = omega arith; no_fewer = omega arith; no_more = omega arith; places = omega arith; filled = λ some. omega (arith, some) };
-  store_is = grown-none s k (file_numbered s k) may.is_file may.no_mark;
+  store_is = longer-none s k (file_numbered s k) may.is_file;
 }
 
-pub none-extended : (s : Store) (k n : ℕ) → HasPlaces s k n → Extends s k 0 s
+pub none-zeros : (s : Store) (k n most : ℕ) → HasPlaces s k n most → AddsBlocks s k 0 0 (zero_blocks 0) s
 unfolding zero_blocks
-none-extended s k n may = none-grows s k n may
+none-zeros s k n most may = none-adds s k n most may
 
--- a file that may grow is one without the mark and with room
-pub has-places : (s : Store) (k n : ℕ) (f : File) → s.file k ≡ Some f → without_contiguous f.characteristics ≡ f.characteristics → HasRoom s f n → HasPlaces s k n
-has-places s k n f was clear has =
+-- a file that may grow is one with room
+pub has-places : (s : Store) (k n most : ℕ) (f : File) → s.file k ≡ Some f → HasRoom s f n most → HasPlaces s k n most
+has-places s k n most f was has =
     let same : f ≡ file_numbered s k = sym (ap (λ (o : Option File). unwrap_or o no_file) was) in
-    record {
-      is_file = was ∙ ap Some same;
-      no_mark = subst (λ (g : File). without_contiguous g.characteristics ≡ g.characteristics) same clear;
-      no_cause = subst (λ (g : File). first_of (growth_causes s g n) ≡ None) same (no-cause s f n has);
+    record { is_file = was ∙ ap Some same; has_room = subst (λ (g : File). HasRoom s g n most) same has }
+
+pub fewer-may : (s : Store) (k n m p q : ℕ) → HasPlaces s k n p → m ≤ n → q ≤ p → HasPlaces s k m q
+fewer-may s k n m p q may few fewer =
+    let has = may.has_room in record {
+      is_file = may.is_file;
+      has_room = record {
+        segments = omega (arith, has.segments, fewer);
+        blocks = omega (arith, has.blocks, few);
+        headers = omega (arith, has.headers, fewer);
+      };
     }
-
-pub may-free : (s : Store) (k n : ℕ) → HasPlaces s k n → n ≤ s.free
-may-free s k n may = (has-room s (file_numbered s k) n may.no_cause).blocks
-
-pub fewer-may : (s : Store) (k n m : ℕ) → HasPlaces s k n → m ≤ n → HasPlaces s k m
-fewer-may s k n m may few =
-    let has = has-room s (file_numbered s k) n may.no_cause in
-    has-places s k m (file_numbered s k) may.is_file may.no_mark (record {
-      segments = omega (arith, has.segments, few);
-      blocks = omega (arith, has.blocks, few);
-      headers = omega (arith, has.headers, few);
-    })
 
 -- what has room for n blocks more has, after some of them, for the others
 room-then :
-    (s : Store) (k n a : ℕ) (f : File) (blocks : List (List ℕ)) (added pointers room : ℕ) → HasRoom s f n → MayGrow f a added pointers room → a ≤ n →
-    HasRoom (with_grown_file s k f a blocks added pointers room) (grown_file s f blocks added pointers room) (n - a)
-room-then s k n a f blocks added pointers room has may few =
-    let need_less : added + need room (n - a) ≤ need f.room n = needs-add f n a (n - a) added pointers room may (omega (arith, few)) in
+    (s : Store) (k n a most p : ℕ) (f : File) (blocks : List (List ℕ)) (added pointers room : ℕ) → HasRoom s f n most → MayGrow f p added pointers room → a ≤ n →
+    p ≤ most → HasRoom (with_longer_file s k f a blocks added pointers room) (longer_file s f blocks added pointers room) (n - a) (most - p)
+room-then s k n a most p f blocks added pointers room has may few fewer =
+    let need_less : added + need room (most - p) ≤ need f.room most = needs-add f most p (most - p) added pointers room may (omega (arith, fewer)) in
     record {
       segments = omega (arith, has.segments, need_less, length-append f.held (take added (free_slots s)), length-take added (free_slots s));
       blocks = omega (arith, has.blocks, few);
-      headers = omega (arith, has.headers, need_less, headers-grown s k a f blocks added pointers room);
+      headers = omega (arith, has.headers, need_less, headers-longer s k a f blocks added pointers room);
     }
 
 pub others-may-grow :
-    (s t : Store) (k n a : ℕ) (blocks : List (List ℕ)) → HasPlaces s k n → Grows s k a blocks t → a ≤ n → HasPlaces t k (n - a)
-others-may-grow s t k n a blocks may e few =
+    (s t : Store) (k n a most p : ℕ) (blocks : List (List ℕ)) → HasPlaces s k n most → AddsBlocks s k a p blocks t → a ≤ n → p ≤ most →
+    HasPlaces t k (n - a) (most - p)
+others-may-grow s t k n a most p blocks may e few fewer =
     let same : file_numbered s k ≡ e.before = ap (λ (o : Option File). unwrap_or o no_file) e.was in
-    let has : HasRoom s e.before n = subst (λ (g : File). HasRoom s g n) same (has-room s (file_numbered s k) n may.no_cause) in
-    subst (λ (x : Store). HasPlaces x k (n - a)) (sym e.store_is)
-    (has-places (with_grown_file s k e.before a blocks e.added e.pointers e.room) k (n - a)
-    (grown_file s e.before blocks e.added e.pointers e.room)
-    (ap (λ (b : Bool). if b then Some (grown_file s e.before blocks e.added e.pointers e.room) else s.file k) (same_number k))
-    (cleared-twice e.before.characteristics)
-    (room-then s k n a e.before blocks e.added e.pointers e.room has e.may_grow few))
+    let has : HasRoom s e.before n most = subst (λ (g : File). HasRoom s g n most) same may.has_room in
+    subst (λ (x : Store). HasPlaces x k (n - a) (most - p)) (sym e.store_is)
+    (has-places (with_longer_file s k e.before a blocks e.added e.pointers e.room) k (n - a) (most - p)
+    (longer_file s e.before blocks e.added e.pointers e.room)
+    (ap (λ (b : Bool). if b then Some (longer_file s e.before blocks e.added e.pointers e.room) else s.file k) (same_number k))
+    (room-then s k n a most p e.before blocks e.added e.pointers e.room has e.may_grow few fewer))
+
+-- more pointers may be allowed
+pub may-within : (f : File) (p q added pointers room : ℕ) → p ≤ q → MayGrow f p added pointers room → MayGrow f q added pointers room
+may-within f p q added pointers room few may = record {
+  headers = omega (arith, may.headers, few);
+  no_fewer = may.no_fewer;
+  no_more = omega (arith, may.no_more, few);
+  places = may.places;
+  filled = may.filled;
+}
 
 -- two pieces are one
 may-twice :
@@ -238,20 +229,20 @@ may-twice f g a b added pointers room more pointers' room' one pointers_are room
         omega (arith, places, last, one.no_more, two.no_more, pointers_are)
 
 -- what a file has that grew, as one that grows again
-pub grown-before :
-    (s t u : Store) (k a b : ℕ) (blocks more : List (List ℕ)) (one : Grows s k a blocks t) (two : Grows t k b more u) →
-    two.before ≡ grown_file s one.before blocks one.added one.pointers one.room
-grown-before s t u k a b blocks more one two =
-    let grown : File = grown_file s one.before blocks one.added one.pointers one.room in
-    let now : t.file k ≡ Some grown =
-    ap (λ (x : Store). x.file k) one.store_is ∙ ap (λ (b : Bool). if b then Some grown else s.file k) (same_number k) in
+pub longer-before :
+    (s t u : Store) (k a b p q : ℕ) (blocks more : List (List ℕ)) (one : AddsBlocks s k a p blocks t) (two : AddsBlocks t k b q more u) →
+    two.before ≡ longer_file s one.before blocks one.added one.pointers one.room
+longer-before s t u k a b p q blocks more one two =
+    let longer : File = longer_file s one.before blocks one.added one.pointers one.room in
+    let now : t.file k ≡ Some longer =
+    ap (λ (x : Store). x.file k) one.store_is ∙ ap (λ (b : Bool). if b then Some longer else s.file k) (same_number k) in
     ap (λ (o : Option File). unwrap_or o no_file) (sym two.was ∙ now)
 
-pub grows-add :
-    (s t u : Store) (k a b : ℕ) (blocks more : List (List ℕ)) (one : Grows s k a blocks t) (two : Grows t k b more u) →
-    (whole : Grows s k (a + b) (blocks ++ more) u) × (whole.added ≡ one.added + two.added)
-grows-add s t u k a b blocks more one two =
-    let same = grown-before s t u k a b blocks more one two in (
+pub adds-twice :
+    (s t u : Store) (k a b p q : ℕ) (blocks more : List (List ℕ)) (one : AddsBlocks s k a p blocks t) (two : AddsBlocks t k b q more u) →
+    (whole : AddsBlocks s k (a + b) (p + q) (blocks ++ more) u) × (whole.added ≡ one.added + two.added)
+adds-twice s t u k a b p q blocks more one two =
+    let same = longer-before s t u k a b p q blocks more one two in (
       record {
         before = one.before;
         added = one.added + two.added;
@@ -259,12 +250,12 @@ grows-add s t u k a b blocks more one two =
         room = two.room;
         was = one.was;
         may_grow =
-            may-twice one.before two.before a b one.added one.pointers one.room two.added two.pointers two.room one.may_grow
+            may-twice one.before two.before p q one.added one.pointers one.room two.added two.pointers two.room one.may_grow
             (ap (λ (f : File). f.pointers) same) (ap (λ (f : File). f.room) same) two.may_grow;
         store_is =
             two.store_is
-            ∙ (λ i. with_grown_file (one.store_is i) k (same i) b more two.added two.pointers two.room)
-            ∙ grown-twice s k a b one.before blocks more one.added one.pointers one.room two.added two.pointers two.room;
+            ∙ (λ i. with_longer_file (one.store_is i) k (same i) b more two.added two.pointers two.room)
+            ∙ longer-twice s k a b one.before blocks more one.added one.pointers one.room two.added two.pointers two.room;
       },
       refl,
     )
@@ -282,40 +273,37 @@ changed-is : (s : Store) (k : ℕ) (change : File → File) (f : File) → s.fil
 changed-is s k change f was =
     ap (λ (b : Bool). if b then option_map change (s.file k) else s.file k) (same_number k) ∙ ap (option_map change) was
 
-pub cleared-may : (s : Store) (k n : ℕ) → s.file k ≡ Some (file_numbered s k) → first_of (growth_causes s (file_numbered s k) n) ≡ None → HasPlaces (with_change s k with_no_mark) k n
+pub cleared-may : (s : Store) (k n : ℕ) → s.file k ≡ Some (file_numbered s k) → first_of (growth_causes s (file_numbered s k) n) ≡ None → HasPlaces (with_change s k with_no_mark) k n n
 cleared-may s k n was h =
     let f = file_numbered s k in
     let has = has-room s f n h in
     let left : free_headers (with_change s k with_no_mark) ≡ free_headers s = ap length (free-cleared s k) in
-    has-places (with_change s k with_no_mark) k n (with_no_mark f) (changed-is s k with_no_mark f was) (cleared-twice f.characteristics) (record {
+    has-places (with_change s k with_no_mark) k n n (with_no_mark f) (changed-is s k with_no_mark f was) (record {
       segments = has.segments;
       blocks = has.blocks;
       headers = omega (arith, has.headers, left);
     })
 
--- a file whose mark was cleared first is like one that grows at once
-grown-cleared :
+-- a file that grows once its mark was cleared is like one that grows at once
+longer-cleared :
     (s : Store) (k n : ℕ) (f : File) (blocks : List (List ℕ)) (added pointers room : ℕ) →
-    with_grown_file (with_change s k with_no_mark) k (with_no_mark f) n blocks added pointers room ≡ with_grown_file s k f n blocks added pointers room
+    with_longer_file (with_change s k with_no_mark) k (with_no_mark f) n blocks added pointers room ≡ with_grown_file s k f n blocks added pointers room
 unfolding free_slots
-grown-cleared s k n f blocks added pointers room =
+longer-cleared s k n f blocks added pointers room =
     same-store
-    (with_grown_file (with_change s k with_no_mark) k (with_no_mark f) n blocks added pointers room)
+    (with_longer_file (with_change s k with_no_mark) k (with_no_mark f) n blocks added pointers room)
     (with_grown_file s k f n blocks added pointers room)
     (λ m. two_writes (m == k) (s.file m)) refl refl (λ m. refl) (λ m. refl) refl refl refl refl
   where
-    same : grown_file (with_change s k with_no_mark) (with_no_mark f) blocks added pointers room ≡ grown_file s f blocks added pointers room
-    same = λ i. record (grown_file s f blocks added pointers room) { characteristics = cleared-twice f.characteristics i }
-
     two_writes : (here : Bool) (o : Option File) →
-        (if here then Some (grown_file (with_change s k with_no_mark) (with_no_mark f) blocks added pointers room)
+        (if here then Some (longer_file (with_change s k with_no_mark) (with_no_mark f) blocks added pointers room)
         else if here then option_map with_no_mark (s.file k) else o)
         ≡ (if here then Some (grown_file s f blocks added pointers room) else o)
-    two_writes true o = ap Some same
+    two_writes true o = refl
     two_writes false o = refl
 
 pub cleared-then :
-    (s t : Store) (k n : ℕ) (blocks : List (List ℕ)) → s.file k ≡ Some (file_numbered s k) → (one : Grows (with_change s k with_no_mark) k n blocks t) →
+    (s t : Store) (k n : ℕ) (blocks : List (List ℕ)) → s.file k ≡ Some (file_numbered s k) → (one : AddsBlocks (with_change s k with_no_mark) k n n blocks t) →
     (whole : Grows s k n blocks t) × (whole.added ≡ one.added)
 cleared-then s t k n blocks was one =
     let f = file_numbered s k in
@@ -330,31 +318,31 @@ cleared-then s t k n blocks was one =
         may_grow = record { headers = may.headers; no_fewer = may.no_fewer; no_more = may.no_more; places = may.places; filled = may.filled };
         store_is =
             one.store_is
-            ∙ ap (λ (g : File). with_grown_file (with_change s k with_no_mark) k g n blocks one.added one.pointers one.room) same
-            ∙ grown-cleared s k n f blocks one.added one.pointers one.room;
+            ∙ ap (λ (g : File). with_longer_file (with_change s k with_no_mark) k g n blocks one.added one.pointers one.room) same
+            ∙ longer-cleared s k n f blocks one.added one.pointers one.room;
       },
       refl,
     )
 
 -- a change of a file that is there, seen where it is
-changed-as : (s : Store) (k m : ℕ) (change : File → File) (f g : File) → s.file k ≡ Some f → change f ≡ g
+pub changed-as : (s : Store) (k m : ℕ) (change : File → File) (f g : File) → s.file k ≡ Some f → change f ≡ g
     → (if m == k then option_map change (s.file k) else s.file m) ≡ (if m == k then Some g else s.file m)
 changed-as s k m change f g was is = ap (λ (o : Option File). if m == k then o else s.file m) (ap (option_map change) was ∙ ap Some is)
 
 -- a file whose last header names n blocks more
-pub named-grows :
-    (s : Store) (k count more : ℕ) (blocks : List (List ℕ)) → HasPlaces (with_more_free s count) k count → 0 < count → more ≤ 1 → more ≤ (file_numbered s k).room →
-    (e : Grows (with_more_free s count) k count blocks (with_change s k (with_more_blocks more blocks))) × (e.added ≡ 0)
-named-grows s k count more blocks may some one fits = (
+pub named-adds :
+    (s : Store) (k count more most : ℕ) (blocks : List (List ℕ)) → HasPlaces (with_more_free s count) k count most → more ≤ most → more ≤ (file_numbered s k).room →
+    (e : AddsBlocks (with_more_free s count) k count most blocks (with_change s k (with_more_blocks more blocks))) × (e.added ≡ 0)
+named-adds s k count more most blocks may few fits = (
   record {
     before = f;
     added = 0;
     pointers = f.pointers + more;
     room = f.room - more;
     was = may.is_file;
-    may_grow = record { headers = omega arith; no_fewer = omega arith; no_more = omega (arith, one, some); places = omega (arith, fits); filled = λ none. omega (arith, none) };
+    may_grow = record { headers = omega arith; no_fewer = omega arith; no_more = omega (arith, few); places = omega (arith, fits); filled = λ none. omega (arith, none) };
     store_is =
-        same-store (with_change s k (with_more_blocks more blocks)) (with_grown_file (with_more_free s count) k f count blocks 0 (f.pointers + more) (f.room - more))
+        same-store (with_change s k (with_more_blocks more blocks)) (with_longer_file (with_more_free s count) k f count blocks 0 (f.pointers + more) (f.room - more))
         (λ m. changed-as s k m (with_more_blocks more blocks) f _ may.is_file same)
         (omega arith) refl (λ m. refl) (λ m. refl) refl refl refl refl;
   },
@@ -364,34 +352,34 @@ named-grows s k count more blocks may some one fits = (
     f : File
     f = file_numbered s k
 
-    same : with_more_blocks more blocks f ≡ grown_file (with_more_free s count) f blocks 0 (f.pointers + more) (f.room - more)
-    same = λ i. record (with_more_blocks more blocks f) { characteristics = sym may.no_mark i; held = sym (append-nil f.held) i }
+    same : with_more_blocks more blocks f ≡ longer_file (with_more_free s count) f blocks 0 (f.pointers + more) (f.room - more)
+    same = λ i. record (with_more_blocks more blocks f) { held = sym (append-nil f.held) i }
 
 -- the first of some slots is the least
 first-is : (slots : List ℕ) → 1 ≤ length slots → take 1 slots ≡ slice_index slots 0 ∷ []
 first-is [] h = absurd (omega (arith, h))
 first-is (n ∷ ns) h = refl
 
--- a file with header m more, which names these blocks by one pointer
-abbrev pub with_linked : ℕ → List (List ℕ) → File → File
-with_linked m blocks f = record f { held = f.held ++ m ∷ []; pointers = f.pointers + 1; room = 101; blocks = f.blocks ++ blocks }
+-- a file with header m more, which names these blocks by so many pointers
+abbrev pub with_linked : ℕ → ℕ → List (List ℕ) → File → File
+with_linked m more blocks f = record f { held = f.held ++ m ∷ []; pointers = f.pointers + more; room = 102 - more; blocks = f.blocks ++ blocks }
 
-pub linked-grows :
-    (s : Store) (k count m : ℕ) (blocks : List (List ℕ)) → HasPlaces (with_more_free s count) k count → 0 < count → (file_numbered s k).room ≡ 0 → m ≡ least_free s →
-    (e : Grows (with_more_free s count) k count blocks (with_change (with_slots s (m ∷ [])) k (with_linked m blocks))) × (e.added ≡ 1)
+pub linked-adds :
+    (s : Store) (k count more m : ℕ) (blocks : List (List ℕ)) → HasPlaces (with_more_free s count) k count more → 0 < more → more ≤ 102 → (file_numbered s k).room ≡ 0 → m ≡ least_free s →
+    (e : AddsBlocks (with_more_free s count) k count more blocks (with_change (with_slots s (m ∷ [])) k (with_linked m more blocks))) × (e.added ≡ 1)
 unfolding free_slots
-linked-grows s k count m blocks may some full least = (
+linked-adds s k count more m blocks may some few full least = (
   record {
     before = f;
     added = 1;
-    pointers = f.pointers + 1;
-    room = 101;
+    pointers = f.pointers + more;
+    room = 102 - more;
     was = may.is_file;
-    may_grow = record { headers = omega (arith, some, full); no_fewer = omega arith; no_more = omega (arith, some); places = omega (arith, full); filled = λ added. omega arith };
+    may_grow = record { headers = omega (arith, some, full); no_fewer = omega arith; no_more = omega arith; places = omega (arith, full, few); filled = λ added. omega (arith, some) };
     store_is =
-        same-store (with_change (with_slots s (m ∷ [])) k (with_linked m blocks))
-        (with_grown_file (with_more_free s count) k f count blocks 1 (f.pointers + 1) 101)
-        (λ n. changed-as s k n (with_linked m blocks) f _ may.is_file same)
+        same-store (with_change (with_slots s (m ∷ [])) k (with_linked m more blocks))
+        (with_longer_file (with_more_free s count) k f count blocks 1 (f.pointers + more) (102 - more))
+        (λ n. changed-as s k n (with_linked m more blocks) f _ may.is_file same)
         (omega arith) refl
         (λ n. ap (λ (l : List ℕ). is_in l n || s.in_use n) (sym taken))
         (λ n. ap (λ (l : List ℕ). if is_in l n then next_sequence (s.last n) else s.last n) (sym taken))
@@ -405,11 +393,11 @@ linked-grows s k count m blocks may some full least = (
 
     taken : take 1 (free_slots (with_more_free s count)) ≡ m ∷ []
     taken =
-        first-is (free_slots s) (let has = has-room (with_more_free s count) f count may.no_cause in omega (arith, has.headers, some, full))
+        first-is (free_slots s) (let has = may.has_room in omega (arith, has.headers, some, full))
         ∙ ap (λ (n : ℕ). n ∷ []) (sym least)
 
-    same : with_linked m blocks f ≡ grown_file (with_more_free s count) f blocks 1 (f.pointers + 1) 101
-    same = λ i. record (with_linked m blocks f) { characteristics = sym may.no_mark i; held = f.held ++ sym taken i }
+    same : with_linked m more blocks f ≡ longer_file (with_more_free s count) f blocks 1 (f.pointers + more) (102 - more)
+    same = λ i. record (with_linked m more blocks f) { held = f.held ++ sym taken i }
 
 pub taking-adds : TakingAdds
 taking-adds s t u a b h first second = record {

@@ -1,15 +1,14 @@
 -- Accesses that are given up one after another.
-use Rattle.std.proofs.Common.{◌≡◌, ℕ, zero, suc, ◌+◌, ◌≤◌, ◌==◌, Bool, true, false, List, [], ◌∷◌, ◌++◌, Option, Some, None, fold, if◌then◌else◌, refl, sym, ◌∙◌, ap, arith, inl, append_assoc}
+use Rattle.std.proofs.Common.{◌≡◌, ℕ, zero, suc, ◌+◌, ◌≤◌, ◌==◌, Bool, true, false, List, [], ◌∷◌, ◌++◌, Option, Some, None, fold, if◌then◌else◌, refl, sym, ◌∙◌, ap, arith, append_assoc}
 use Rattle.std.specs.List.{range_with_len}
 use Rattle.std.proofs.lemmas.Bool.{or_parts}
 use Rattle.std.proofs.lemmas.List.Sums.{fold-append}
 use Rattle.f11_store.specs.Store.{Store, Access}
 use Rattle.f11_store.specs.Changes.{with_access, is_due, without_file_at, after_giving_up, after_deaccess}
 use Rattle.f11_store.specs.Cost.{deaccess_cost, release_cost}
-use Rattle.f11_store.specs.Lags.{Part, with_parts, Work, no_work, go_work, and_then, give_up_work, deaccess_work, release_work, LagsBy}
+use Rattle.f11_store.specs.Lags.{Part, Work, no_work, go_work, and_then, give_up_work, deaccess_work, release_work, LagsBy}
 use Rattle.f11_store.proofs.Frees.{Frees, frees_given_up}
-use Rattle.f11_store.proofs.Growth.{alike, StoresAlike}
-use Rattle.f11_store.proofs.LagLaws.{free_headers_grow}
+use Rattle.f11_store.proofs.Growth.{alike}
 use Rattle.f11_store.specs.Moments.{AreRespectful, Did}
 use Rattle.f11_store.proofs.Respects.{both_respectful}
 use Rattle.f11_store.specs.Release.{released, DeaccessDid, ReleasedDid, ReleaseLags, ReleaseGoesOn, ReleaseEnds, released_cost, ReleaseCostGoesOn, ReleaseFits}

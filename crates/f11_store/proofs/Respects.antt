@@ -1,7 +1,7 @@
 -- Changes that make files alike of files that are alike, and the parts of works that do.
-use Rattle.std.proofs.Common.{◌≡◌, ℕ, zero, suc, ◌+◌, ◌*◌, List, [], ◌∷◌, ◌++◌, ap, ◌∙◌, length, replicate}
+use Rattle.std.proofs.Common.{ℕ, zero, suc, ◌+◌, ◌*◌, List, [], ◌∷◌, ◌++◌, ap, ◌∙◌, length, replicate}
 use Rattle.f11_store.specs.Directory.{with_end, with_record}
-use Rattle.f11_store.specs.File.{File, without_contiguous, zero_blocks}
+use Rattle.f11_store.specs.File.{without_contiguous, zero_blocks}
 use Rattle.f11_store.specs.Changes.{with_entry, with_end_after}
 use Rattle.f11_store.specs.Lags.{Part, end_work, extend_parts, file_changes, with_no_mark, with_zero_block}
 use Rattle.f11_store.specs.Moments.{AreRespectful, IsRespectful, Respects}

@@ -1,5 +1,5 @@
 -- The index file of the plain store grows before headers are taken.
-use Rattle.std.proofs.Common.{◌≡◌, ℕ, zero, suc, ◌+◌, ◌-◌, ◌≤◌, ◌<◌, ◌==◌, ◌&&◌, ◌⊎◌, ◌∷◌, ◌++◌, inl, inr, Bool, true, false, not, nat_le, nat_lt, List, [], Option, Some, None, length, take, unwrap_or, filter, slice_index, option_map, option_and_then, refl, sym, ◌∙◌, ap, subst, arith, if◌then◌else◌}
+use Rattle.std.proofs.Common.{◌≡◌, ℕ, zero, suc, ◌+◌, ◌-◌, ◌≤◌, ◌<◌, ◌==◌, ◌&&◌, ◌⊎◌, ◌∷◌, ◌++◌, Bool, true, false, not, nat_le, nat_lt, List, [], Option, Some, None, length, take, unwrap_or, filter, slice_index, option_map, option_and_then, refl, sym, ◌∙◌, ap, subst, arith, if◌then◌else◌}
 use Rattle.std.proofs.lemmas.Bool.Decides.{nat_tests}
 use Rattle.std.proofs.lemmas.List.Elements.{filter-append}
 use Rattle.f11_store.proofs.RangeLemmas.{range_with_len-append}
@@ -20,13 +20,13 @@ use Rattle.f11_store.proofs.Respects.{extend_respectful}
 use Rattle.std.proofs.lemmas.Bool.{eqb-true, or_parts}
 use Rattle.std.proofs.lemmas.List.{append-nil, length-append}
 use Rattle.std.specs.List.{range_with_len}
-use Rattle.f11_store.specs.Causes.{◌⇐◌, first_of, extend_causes, growth_causes}
+use Rattle.f11_store.specs.Causes.{◌⇐◌, first_of}
 use Rattle.f11_store.specs.declared.refusals.Refusal.TheVariants.{TooManySegments, DeviceFull, NoHeader}
 use Rattle.f11_store.proofs.StoreLemmas.{none_first, none_rest}
 use Rattle.f11_store.proofs.Frees.{same_limits, same_limits_then}
 use Rattle.f11_store.proofs.Growth.{alike, StoresAlike}
 use Rattle.f11_store.proofs.LagLaws.{parts_of_growth}
-use Rattle.f11_store.proofs.ProgressLaws.{alike_then, extends_did, more_work_lags, parts_alike, some_more, take-both, taken_respectful, AreAlike}
+use Rattle.f11_store.proofs.ProgressLaws.{alike_then, extends_did, more_work_lags, some_more, take-both, taken_respectful, AreAlike}
 use Rattle.f11_store.proofs.TakenSlotLemmas.{more-headers}
 
 -- there is room for the slots that come first

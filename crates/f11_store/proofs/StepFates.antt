@@ -7,22 +7,20 @@ use Rattle.f11_store.specs.declared.files.FileId.{FileId}
 use Rattle.f11_store.specs.declared.files.Change.{Change}
 use Rattle.f11_store.specs.declared.files.Change.TheVariants as change
 use Rattle.f11_store.specs.declared.refusals.Refusal.{Refusal}
-use Rattle.f11_store.specs.declared.refusals.Refusal.TheVariants.{NoHeader}
 use Rattle.f11_store.specs.declared.requests.Request.{Request}
 use Rattle.f11_store.specs.declared.requests.Request.TheVariants as request
 use Rattle.f11_store.specs.File.{File}
 use Rattle.f11_store.specs.Store.{Store, least_free, free_headers, id_held, is_accessed}
 use Rattle.f11_store.specs.Causes.{first_refusal, is_missing}
-use Rattle.f11_store.specs.Changes.{Changes, GetsSlots, MakesFile, with_block, with_replacement, after_create, after_delete, without_file_at, with_marked_file, with_more_slots}
+use Rattle.f11_store.specs.Changes.{Changes, GetsSlots, MakesFile, with_block, with_replacement, after_delete, without_file_at, with_marked_file}
 use Rattle.f11_store.proofs.FileLaws.{least_free_is_free, IsFreeSlot}
 use Rattle.f11_store.specs.Headroom.{slots_first}
 use Rattle.f11_store.specs.SlotsFirst.{IsReady}
 use Rattle.f11_store.proofs.SlotsFirst.{gained-is-ready}
 use Rattle.f11_store.specs.Step.{Step}
 use Rattle.f11_store.specs.declared.requests.Reply.{Reply}
-use Rattle.f11_store.proofs.StoreLemmas.{none_first}
 use Rattle.f11_store.specs.Accesses.{FreeIsEmpty}
-use Rattle.f11_store.proofs.FateLaws.{Fate, Keeps, kept, changed, fate-after, fate-grows-index, gained-keeps, stays, new, fate-none, fate-change, fate-grows, fate-cut, fate-gone, fate-given-up, fate-set, mark-of-cleared}
+use Rattle.f11_store.proofs.FateLaws.{Fate, Keeps, kept, changed, fate-after, fate-grows-index, gained-keeps, stays, new, fate-none, fate-change, fate-grows, fate-cut, fate-gone, fate-given-up, fate-laid, fate-set, mark-of-cleared}
 
 -- a file that is made
 fate-made : (s : Store) (slot n : ℕ) (f : File) (s' : Store) → s.file slot ≡ None → s'.file n ≡ (if n == slot then Some f else s.file n) → Fate s s' n
@@ -93,6 +91,7 @@ pub fate-served : (s : Store) (task : ℕ) (caller : Uic) (r : Request) (block :
 fate-served s task caller (request.Create word ident attr) block s' n empty h k = fate-create s s' caller word ident attr n empty h
 fate-served s task caller (request.Extend lun q) block s' n empty h k =
     fate-after s h.ready s' n (gained-keeps s h.ready _ n h.gains) (fate-grows h.ready s' (id_held s task lun).number q n _ h.makes)
+fate-served s task caller (request.Contiguous lun q) block s' n empty h k = fate-laid s s' (id_held s task lun).number q n h
 fate-served s task caller (request.Truncate lun to) block s' n empty h k = fate-cut s s' (id_held s task lun).number to n h
 fate-served s task caller (request.Delete id) block s' n empty h k = fate-delete s s' id n k.0 k.1 h
 fate-served s task caller (request.GrowIndex q) block s' n empty h k = fate-grows-index s s' q n h

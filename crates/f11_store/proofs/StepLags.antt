@@ -1,25 +1,22 @@
 -- The store after a step lags the one before it.
-use Rattle.std.proofs.Common.{◌≡◌, ℕ, ◌+◌, ◌-◌, ◌<◌, ◌≤◌, ◌==◌, ◌&&◌, ◌||◌, Bool, true, false, not, List, [], ◌∷◌, ◌++◌, Option, Some, None, Ok, Err, length, take, fold, unwrap_or, if◌then◌else◌, refl, sym, ◌∙◌, ap, subst, arith, inl, ◌⊎◌, nat_lt, nat_le}
-use Rattle.std.proofs.lemmas.List.{length-take, append-nil}
+use Rattle.std.proofs.Common.{◌≡◌, ℕ, ◌==◌, ◌||◌, Bool, true, false, List, [], ◌∷◌, Option, Some, None, Ok, Err, fold, unwrap_or, if◌then◌else◌, refl, sym, ap, subst, nat_lt}
 use Rattle.std.proofs.lemmas.List.Sums.{fold-append}
-use Rattle.std.proofs.Math.Seq.{take-length}
-use Rattle.std.proofs.lemmas.Bool.{le-ltb, le-leb}
-use Rattle.std.proofs.lemmas.Bool.Decides.{nat_tests}
 use Rattle.f11_store.specs.declared.callers.Uic.{Uic}
 use Rattle.f11_store.specs.declared.files.FileId.{FileId}
 use Rattle.f11_store.specs.declared.requests.Request.{Request}
 use Rattle.f11_store.specs.declared.requests.Request.TheVariants as request
-use Rattle.f11_store.specs.File.{File, need, zero_blocks, without_contiguous}
-use Rattle.f11_store.specs.Store.{Store, Access, file_named, id_held, index_file, least_free, free_slots, free_headers, is_accessed}
+use Rattle.f11_store.specs.File.{File}
+use Rattle.f11_store.specs.Store.{Store, Access, file_named, id_held, is_accessed}
 use Rattle.f11_store.specs.Directory.{index_of_name, index_of_empty, empty_record, entry_count, needs_block, record_bytes}
 use Rattle.f11_store.specs.Causes.{first_refusal}
 use Rattle.std.specs.List.{range_with_len}
-use Rattle.f11_store.specs.Changes.{Changes, with_marked_file, is_in, next_sequence, file_created, after_create, with_first_blocks, with_cut_file, with_grown_file, MayGrow, GrowsIndex, with_more_slots, with_delete_mark, with_end_after, with_entry_at_end, Extends, EntersAtEnd, EntersAt, with_change, with_block, with_entry, with_replacement, with_access, is_due, without_file_at, after_giving_up, after_deaccess, after_release}
-use Rattle.f11_store.specs.Lags.{file_changes, with_parts, with_part, SameLimits, Work, no_work, one_part, create_work, extend_work, grow_work, go_work, mark_work, end_work, append_work, enter_work, give_up_work, deaccess_work, release_work, served_work, work_if, work_of, with_no_mark, grow_parts, extend_parts, AreLike, last_of, LagsBy}
+use Rattle.f11_store.specs.Changes.{Changes, with_marked_file, with_delete_mark, with_end_after, with_entry_at_end, EntersAtEnd, EntersAt, with_block, with_entry, with_replacement, with_access, is_due, without_file_at, after_giving_up, after_deaccess, after_release}
+use Rattle.f11_store.specs.Lags.{file_changes, with_parts, with_part, Work, no_work, one_part, go_work, mark_work, end_work, append_work, enter_work, give_up_work, deaccess_work, release_work, served_work, work_of, LagsBy}
 use Rattle.f11_store.specs.Laws.{NoneHoldsIndex, StepLags}
 use Rattle.f11_store.specs.Causes.{is_bad}
 use Rattle.f11_store.specs.Changes.{MakesFile, with_slots_first}
 use Rattle.f11_store.specs.Moments.{Did}
+use Rattle.f11_store.proofs.ContiguousLaws.{laid-out-lags}
 use Rattle.f11_store.proofs.ProgressLaws.{did_both, frees_did}
 use Rattle.f11_store.specs.Headroom.{slots_first}
 use Rattle.f11_store.specs.Lags.{lengthen_work, make_work, new_file_work}
@@ -27,10 +24,8 @@ use Rattle.f11_store.proofs.LagLaws.{change_lags, created_lags, cut_lags, did_la
 use Rattle.f11_store.proofs.Respects.{end_respectful}
 use Rattle.f11_store.proofs.SlotsFirst.{gained-is-ready, lengthens-did, new-file-stays, no_index, ready-lags}
 use Rattle.f11_store.proofs.StoreLemmas.{none_first, none_rest}
-use Rattle.f11_store.proofs.Frees.{Frees, same_limits, frees_change, frees_access, frees_without_file, frees_deaccess, frees_release}
-use Rattle.f11_store.proofs.Growth.{alike, headers_taken, last_or_next, stays_unused, grown_alike, extend_and_slots, slots_one_by_one, room-file_named, StoresAlike, entry_at_end_alike}
-use Rattle.f11_store.proofs.RecordLemmas.{neither}
-use Rattle.f11_store.proofs.SlotLemmas.{filter_no_less}
+use Rattle.f11_store.proofs.Frees.{Frees, frees_change, frees_access, frees_deaccess, frees_release}
+use Rattle.f11_store.proofs.Growth.{alike, entry_at_end_alike}
 
 -- two stores have the same files and as many slots
 pub record SameFiles (t s : Store) : Type 0 where
@@ -112,6 +107,7 @@ served_lags :
     first_refusal s task caller r ≡ None → Changes s task caller r block t → LagsBy (served_work s task caller r block) t s
 served_lags s task caller (request.Create word ident attr) block t apart none h = created_first_lags s t caller word ident attr h
 served_lags s task caller (request.Extend lun n) block t apart none h = did_lags (lengthen_work s (id_held s task lun) n) t s (lengthens-did t s (id_held s task lun) n (apart task lun) h)
+served_lags s task caller (request.Contiguous lun n) block t apart none h = laid-out-lags s t (id_held s task lun) n h
 served_lags s task caller (request.Truncate lun to) block t apart none h =
     subst (λ (x : Store). LagsBy (served_work s task caller (request.Truncate lun to) block) x s) (sym h.store_is)
     (cut_lags s (id_held s task lun).number to h.before h.headers h.pointers h.room h.was)

@@ -10,7 +10,7 @@ use Rattle.f11_store.specs.Worked.{first_user, crowded_volume, create}
 use Rattle.f11_store.specs.WorkedLags.{CreateTakesOneHeader, ExtendTakesWhatItAsks, GrowIndexClearsFirst, DeleteLeavesOthers, ReleaseFreesOnce, CreateGetsSlotFirst, ExtendGetsSlotFirst, a_file, contiguous_index, file_without_slot, block_without_slot}
 
 -- pointers that differ in two files said to be one
-no_pointers : {f g : File} → Some f ≡ Some g → f.pointers ≡ g.pointers
+pub no_pointers : {f g : File} → Some f ≡ Some g → f.pointers ≡ g.pointers
 no_pointers {f} {g} same = let equal : f ≡ g = cc in ap (λ (x : File). x.pointers) equal
 
 pub create_takes_one_header : CreateTakesOneHeader

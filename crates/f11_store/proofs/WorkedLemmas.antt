@@ -14,12 +14,12 @@ use Rattle.f11_store.specs.Worked.{own_records, mfd_block, crowded_block, Sequen
 use Rattle.f11_store.specs.Changes.{AfterSlots, GetsSlots, GrowsIndex, with_more_slots}
 use Rattle.f11_store.specs.Headroom.{lacks_headers, slots_first}
 use Rattle.f11_store.specs.Store.{free_headers}
-use Rattle.f11_store.specs.Step.{may_want_memory}
+use Rattle.f11_store.specs.Step.{asks_for_run, may_want_memory}
 
 -- a step that is refused
 refused :
     {s : Store} {task : ℕ} {caller : Uic} {r : Request} {block : List ℕ} {e : Refusal} →
-    MayRefuse (first_refusal s task caller r) (may_want_memory s task r) e → Refuses s task caller r block e s block
+    MayRefuse (first_refusal s task caller r) (may_want_memory s task r) (asks_for_run r) e → Refuses s task caller r block e s block
 refused h = record { may_refuse = h; store_stays = refl; block_stays = refl }
 
 -- a step that is served

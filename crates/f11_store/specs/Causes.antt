@@ -30,11 +30,12 @@ use Rattle.f11_store.specs.declared.refusals.Refusal.TheVariants.{
   TooManySegments,
   DeviceFull,
   NoHeader,
+  NotEmpty,
 }
 use Rattle.f11_store.specs.declared.requests.Request.{Request}
 use Rattle.f11_store.specs.declared.requests.Request.TheVariants as request
 use Rattle.f11_store.specs.Rights.{may, is_of}
-use Rattle.f11_store.specs.File.{File, length_of, is_marked, need}
+use Rattle.f11_store.specs.File.{File, length_of, is_marked, need, run_need}
 use Rattle.f11_store.specs.Store.{Store, Access, file_of, file_named, file_held, index_file}
 use Rattle.f11_store.specs.Store.{free_headers, is_held, is_accessed, bars, bars_writing}
 use Rattle.f11_store.specs.Directory.{is_directory, is_entered, needs_block}
@@ -122,6 +123,16 @@ abbrev pub extend_causes_if : Bool → Store → File → ℕ → List Cause
 extend_causes_if true s f n = extend_causes s f n
 extend_causes_if false s f n = []
 
+-- the causes against n blocks in one run for a file: it has a block, over 256 headers, too few free blocks, too few free headers; the index
+-- file gets no slots first
+abbrev pub contiguous_causes : Store → File → ℕ → List Cause
+contiguous_causes s f n =
+    (NotEmpty ⇐ nat_lt 0 (length_of f))
+    ∷ (TooManySegments ⇐ nat_lt 256 (length f.held + run_need f.room n))
+    ∷ (DeviceFull ⇐ nat_lt s.free n)
+    ∷ (NoHeader ⇐ nat_lt (free_headers s) (run_need f.room n))
+    ∷ []
+
 -- the causes against a new file, which takes one header and no block
 abbrev pub create_causes : Store → List Cause
 create_causes s = header_causes s 1 0
@@ -134,6 +145,11 @@ causes_of s task caller (request.Extend lun n) =
     ∷ (NoSuchAccess ⇐ cannot_write s task lun)
     ∷ (NoPrivilege ⇐ lacks right.Extend caller (file_held s task lun))
     ∷ extend_causes s (file_held s task lun) n
+causes_of s task caller (request.Contiguous lun n) =
+    (BadArgument ⇐ (n == 0))
+    ∷ (NoSuchAccess ⇐ cannot_write s task lun)
+    ∷ (NoPrivilege ⇐ lacks right.Extend caller (file_held s task lun))
+    ∷ contiguous_causes s (file_held s task lun) n
 causes_of s task caller (request.Truncate lun to) =
     (NoSuchAccess ⇐ cannot_write s task lun)
     ∷ (EndOfFile ⇐ nat_lt (length_of (file_held s task lun)) to)

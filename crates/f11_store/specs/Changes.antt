@@ -32,7 +32,8 @@ use Rattle.f11_store.specs.declared.files.Change.{Change}
 use Rattle.f11_store.specs.declared.files.Change.TheVariants as change
 use Rattle.f11_store.specs.declared.requests.Request.{Request}
 use Rattle.f11_store.specs.declared.requests.Request.TheVariants as request
-use Rattle.f11_store.specs.File.{File, no_file, length_of, is_marked, with_mark, without_contiguous, need, zero_blocks}
+use Rattle.f11_store.specs.File.{File, no_file, length_of, is_marked, with_mark, without_contiguous, with_contiguous, need, zero_blocks}
+use Rattle.f11_store.specs.File.{run_need, run_pointers}
 use Rattle.f11_store.specs.Store.{Store, Access, file_named, id_held, free_slots, free_headers, least_free, is_accessed}
 use Rattle.f11_store.specs.Headroom.{slots_first}
 use Rattle.f11_store.specs.Directory.{
@@ -173,6 +174,28 @@ MakesFile s owner protection ident attr s' = AfterSlots s 1 (λ t. s' ≡ after_
 abbrev pub Lengthens : Store → FileId → ℕ → Store → Type 0
 Lengthens s f n s' = AfterSlots s (need (file_named s f).room n) (λ t. Extends t f.number n s')
 
+-- a file with n blocks of zeros, in the pointers and the headers of one run, and with the contiguous mark
+abbrev pub laid_file : Store → File → ℕ → File
+laid_file s f n = record f {
+  characteristics = with_contiguous f.characteristics;
+  held = f.held ++ take (run_need f.room n) (free_slots s);
+  pointers = run_pointers n;
+  room = f.room + 102 * run_need f.room n - run_pointers n;
+  blocks = zero_blocks n;
+}
+
+-- the store with that file, the least free slots taken for its headers, n blocks fewer free
+abbrev pub with_laid_file : Store → ℕ → File → ℕ → Store
+with_laid_file s k f n =
+    record (with_file (with_slots s (take (run_need f.room n) (free_slots s))) k (Some (laid_file s f n))) { free = s.free - n }
+
+-- Contiguous: file k, which has no block, gets n of zeros in one run
+pub record LaysOut (s : Store) (k n : ℕ) (s' : Store) : Type 0 where
+  pub before : File
+  pub was : s.file k ≡ Some before
+  pub empty : before.blocks ≡ []
+  pub store_is : s' ≡ with_laid_file s k before n
+
 -- as much of it as each such growth makes: the slots that are there then
 abbrev pub with_slots_added : ℕ → Store → Store
 with_slots_added zero s = s
@@ -297,6 +320,7 @@ with_replacement (change.Protect word) f = record f { protection = word }
 abbrev pub Changes : Store → ℕ → Uic → Request → List ℕ → Store → Type 0
 Changes s task caller (request.Create protection ident attr) block s' = MakesFile s caller protection ident attr s'
 Changes s task caller (request.Extend lun n) block s' = Lengthens s (id_held s task lun) n s'
+Changes s task caller (request.Contiguous lun n) block s' = LaysOut s (id_held s task lun).number n s'
 Changes s task caller (request.Truncate lun to) block s' = Truncates s (id_held s task lun).number to s'
 Changes s task caller (request.Delete id) block s' = s' ≡ after_delete s id
 Changes s task caller (request.GrowIndex n) block s' = GrowsIndex s n s'

@@ -3,7 +3,7 @@ use Rattle.std.specs.Prelude.{ℕ, ◌+◌, ◌*◌, ◌/◌, ◌==◌, List, []
 use Rattle.std.specs.List.{range_with_len}
 use Rattle.f11_store.specs.declared.requests.Request.{Request}
 use Rattle.f11_store.specs.declared.requests.Request.TheVariants as request
-use Rattle.f11_store.specs.File.{File, end_of, need}
+use Rattle.f11_store.specs.File.{File, end_of, need, run_need}
 use Rattle.f11_store.specs.Headroom.{lacking, headers_to_enter}
 use Rattle.f11_store.specs.Store.{Store, Access, file_named, file_held, index_file}
 use Rattle.f11_store.specs.Changes.{is_due, with_access, after_deaccess}
@@ -27,6 +27,10 @@ slots_cost s headers = if lacking s headers == 0 then 0 else growth_cost s (inde
 -- n more blocks, and the slots that come first
 abbrev pub lengthen_cost : Store → File → ℕ → ℕ
 lengthen_cost s f n = slots_cost s (need f.room n) + growth_cost s f n
+
+-- n blocks in one run, with headers that are free
+abbrev pub contiguous_cost : Store → File → ℕ → ℕ
+contiguous_cost s f n = header_count f + 3 * s.bitmap_blocks + n + (s.index_bitmap_blocks + 8) * (run_need f.room n + 1)
 
 -- fewer blocks, or none
 abbrev pub cut_cost : File → ℕ
@@ -54,6 +58,7 @@ release_cost s task (lun ∷ luns) = deaccess_cost s task lun + release_cost (af
 abbrev pub cost : Store → ℕ → Request → ℕ
 cost s task (request.Create _ _ _) = slots_cost s 1 + (s.index_bitmap_blocks + 3)
 cost s task (request.Extend lun n) = lengthen_cost s (file_held s task lun) n
+cost s task (request.Contiguous lun n) = contiguous_cost s (file_held s task lun) n
 cost s task (request.Truncate lun to) = cut_cost (file_held s task lun)
 cost s task (request.Delete id) = cut_cost (file_named s id)
 cost s task (request.GrowIndex n) = growth_cost s (index_file s) n

@@ -57,9 +57,21 @@ has_contiguous_mark f = bit_at f.characteristics 7 == 1
 abbrev pub without_contiguous : ℕ → ℕ
 without_contiguous c = bit_and c 65407
 
+-- the characteristics with UC.CON set (file header, H.UCHA)
+abbrev pub with_contiguous : ℕ → ℕ
+with_contiguous c = bit_or c 128
+
 -- the headers that n more blocks may need beside the room: one for each 102 blocks past it (profile)
 abbrev pub need : ℕ → ℕ → ℕ
 need room n = (n - room + 101) / 102
+
+-- the pointers of n blocks in one run: 256 blocks in each, and the rest in one more (retrieval pointers)
+abbrev pub run_pointers : ℕ → ℕ
+run_pointers n = (n + 255) / 256
+
+-- the headers that these need beside the room: none where they fit there, else one for each 102 past it (profile)
+abbrev pub run_need : ℕ → ℕ → ℕ
+run_need room n = need room (run_pointers n)
 
 -- the five words at the front of an ident area: three of the name, type and version (ident area)
 abbrev pub name_words : List ℕ → List ℕ

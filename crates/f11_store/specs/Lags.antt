@@ -7,8 +7,8 @@ use Rattle.f11_store.specs.declared.files.FileId.{FileId}
 use Rattle.f11_store.specs.declared.refusals.Refusal.{Refusal}
 use Rattle.f11_store.specs.declared.requests.Request.{Request}
 use Rattle.f11_store.specs.declared.requests.Request.TheVariants as request
-use Rattle.f11_store.specs.File.{File, without_contiguous, need, zero_blocks}
-use Rattle.f11_store.specs.Store.{Store, Access, file_named, id_held, file_held, index_file, least_free, free_headers, is_accessed}
+use Rattle.f11_store.specs.File.{File, with_contiguous, without_contiguous, need, run_need, zero_blocks}
+use Rattle.f11_store.specs.Store.{Store, Access, file_held, file_named, id_held, index_file, least_free, free_headers, is_accessed}
 use Rattle.f11_store.specs.Directory.{index_of_empty, entry_count, needs_block, record_bytes, empty_record, index_of_name}
 use Rattle.f11_store.specs.Causes.{first_refusal}
 use Rattle.f11_store.specs.Changes.{is_in, next_sequence, with_file, with_change, file_created, with_access, is_due}
@@ -71,6 +71,10 @@ create_work slot f = record { parts = file_appears slot f ∷ []; is_meant = λ 
 abbrev pub with_no_mark : File → File
 with_no_mark f = record f { characteristics = without_contiguous f.characteristics }
 
+-- the contiguous mark is set
+abbrev pub with_contiguous_mark : File → File
+with_contiguous_mark f = record f { characteristics = with_contiguous f.characteristics }
+
 -- one more block of zeros
 abbrev pub with_zero_block : File → File
 with_zero_block f = record f { blocks = f.blocks ++ zero_blocks 1 }
@@ -82,6 +86,15 @@ extend_parts k n = file_changes k with_no_mark ∷ replicate n (file_changes k w
 -- n blocks more for file k, whose last header has so much room
 abbrev pub extend_work : ℕ → ℕ → ℕ → Work
 extend_work k room n = record { parts = extend_parts k n; is_meant = λ m. m == k; blocks = n; headers = need room n }
+
+-- n blocks of zeros more for file k in pieces, however n is cut, and so many headers at most
+abbrev pub blocks_work : ℕ → ℕ → ℕ → Work
+blocks_work k n headers =
+    record { parts = replicate n (file_changes k with_zero_block); is_meant = λ m. m == k; blocks = n; headers = headers }
+
+-- n blocks in one run for file k, whose last header has so much room: they come in pieces, and then the contiguous mark
+abbrev pub contiguous_work : ℕ → ℕ → ℕ → Work
+contiguous_work k room n = and_then (blocks_work k n (run_need room n)) (one_part k (file_changes k with_contiguous_mark))
 
 -- the index file grows: the contiguous mark, then n slots in pieces
 unfoldable pub grow_parts : ℕ → List Part
@@ -158,6 +171,8 @@ release_work s task (lun ∷ luns) = and_then (deaccess_work s task lun) (releas
 abbrev pub served_work : Store → ℕ → Uic → Request → List ℕ → Work
 served_work s task caller (request.Create protection ident attr) block = make_work s caller protection ident attr
 served_work s task caller (request.Extend lun n) block = lengthen_work s (id_held s task lun) n
+served_work s task caller (request.Contiguous lun n) block =
+    contiguous_work (id_held s task lun).number (file_held s task lun).room n
 served_work s task caller (request.Truncate lun to) block =
     one_part (id_held s task lun).number (file_changes (id_held s task lun).number (with_first_blocks to))
 served_work s task caller (request.Delete id) block = if is_accessed s id then mark_work id.number else go_work id.number

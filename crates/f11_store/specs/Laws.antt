@@ -1,9 +1,9 @@
 -- Laws of the plain store, which show that its definitions say what is meant (profile).
-use Rattle.std.specs.Prelude.{◌≡◌, ◌≢◌, ℕ, ◌+◌, ◌<◌, ◌≤◌, ◌==◌, List, [], length, All, true, false, Some, None, Result, Ok, Err, IsSomeAnd}
+use Rattle.std.specs.Prelude.{◌≡◌, ◌≢◌, ◌⊎◌, ℕ, ◌+◌, ◌<◌, ◌≤◌, ◌==◌, List, [], length, All, true, false, Some, None, Result, Ok, Err, IsSomeAnd}
 use Rattle.f11_store.specs.declared.callers.Uic.{Uic}
 use Rattle.f11_store.specs.declared.files.FileId.{FileId}
 use Rattle.f11_store.specs.declared.refusals.Refusal.{Refusal}
-use Rattle.f11_store.specs.declared.refusals.Refusal.TheVariants.{NoSuchEntry, DuplicateName, NoMemory}
+use Rattle.f11_store.specs.declared.refusals.Refusal.TheVariants.{NoSuchEntry, DuplicateName, NoMemory, NoRun}
 use Rattle.f11_store.specs.declared.requests.Request.{Request}
 use Rattle.f11_store.specs.declared.requests.Request.TheVariants as request
 use Rattle.f11_store.specs.declared.requests.Reply.{Reply}
@@ -14,7 +14,7 @@ use Rattle.f11_store.specs.Directory.{record_at, entry_count, record_id, record_
 use Rattle.f11_store.specs.Causes.{is_bad, first_refusal}
 use Rattle.f11_store.specs.Changes.{next_sequence}
 use Rattle.f11_store.specs.Lags.{Work, AreLike, last_of, LagsBy, Lags}
-use Rattle.f11_store.specs.Step.{Step, block_at}
+use Rattle.f11_store.specs.Step.{Step, asks_for_run, block_at}
 
 -- a request that is refused leaves store and block as they were
 abbrev pub RefusalChangesNothing : Type 0
@@ -28,11 +28,12 @@ RefusalIsOne =
     (s : Store) (task : ℕ) (caller : Uic) (r : Request) (block : List ℕ) (e f : Refusal) (s' t' : Store) (block' other : List ℕ) →
     Step s task caller r block (Err e) s' block' → Step s task caller r block (Err f) t' other → e ≡ f
 
--- a request that may be served is refused for want of memory alone
-abbrev pub ServedOrNoMemory : Type 0
-ServedOrNoMemory =
+-- a request that may be served is refused for want of memory alone, or, where it asks for one, of a run of free blocks
+abbrev pub ServedOrWanting : Type 0
+ServedOrWanting =
     (s : Store) (task : ℕ) (caller : Uic) (r : Request) (block : List ℕ) (a : Reply) (e : Refusal) (s' t' : Store) (block' other : List ℕ) →
-    Step s task caller r block (Ok a) s' block' → Step s task caller r block (Err e) t' other → e ≡ NoMemory
+    Step s task caller r block (Ok a) s' block' → Step s task caller r block (Err e) t' other →
+    (e ≡ NoMemory) ⊎ ((asks_for_run r ≡ true) × (e ≡ NoRun))
 
 -- a request that is served has one reply, and one block after it
 abbrev pub ReplyIsOne : Type 0

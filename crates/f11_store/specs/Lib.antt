@@ -18,5 +18,7 @@ pub mod Store
 pub mod Text
 pub mod Worked
 pub mod WorkedLags
+pub mod WorkedRuns
 pub mod Pieces
 pub mod SlotsFirst
+pub mod Contiguous

@@ -2,7 +2,7 @@
 use Rattle.std.specs.Prelude.{◌≡◌, ℕ, ◌+◌, ◌≤◌, ◌==◌, ◌⊎◌, false, List, [], ◌∷◌, ◌++◌, Some}
 use Rattle.f11_store.specs.declared.files.FileId.{FileId}
 use Rattle.f11_store.specs.File.{File}
-use Rattle.f11_store.specs.Store.{Store, file_named, free_headers}
+use Rattle.f11_store.specs.Store.{Store, free_headers}
 use Rattle.f11_store.specs.Changes.{next_sequence, with_change, Lengthens}
 use Rattle.f11_store.specs.Lags.{Part, file_changes, file_appears, file_goes, slot_appears, with_parts, Work, one_part}
 use Rattle.f11_store.specs.Lags.{and_then, last_of, lengthen_work, IsLike, AreLike, SameLimits, LagsBy}

@@ -1,4 +1,4 @@
--- The refusals of a request: their numbers, in which order the causes are judged, and their names (profile).
+-- The refusals of a request: their numbers, and their names (profile).
 use Rattle.std.specs.Prelude.{ℕ, List, codes}
 use Rattle.f11_store.specs.declared.refusals.Refusal.{Refusal}
 use Rattle.f11_store.specs.declared.refusals.Refusal.TheVariants.{
@@ -19,9 +19,19 @@ use Rattle.f11_store.specs.declared.refusals.Refusal.TheVariants.{
   DuplicateName,
   IndexLimit,
 }
-use Rattle.f11_store.specs.declared.refusals.Refusal.TheVariants.{TooManySegments, DeviceFull, NoHeader, NoMemory, DeviceFault, Damaged}
+use Rattle.f11_store.specs.declared.refusals.Refusal.TheVariants.{
+  TooManySegments,
+  DeviceFull,
+  NoHeader,
+  NoMemory,
+  DeviceFault,
+  Damaged,
+  NotEmpty,
+  NoRun,
+}
 
--- its place in the order of judging
+-- its number: the causes are judged in this order, but that of NotEmpty behind that of DuplicateName, and that of NoRun behind that of
+-- NoHeader
 abbrev pub refusal_number : Refusal → ℕ
 refusal_number VolumeFailed = 1
 refusal_number BadArgument = 2
@@ -43,6 +53,8 @@ refusal_number NoHeader = 17
 refusal_number NoMemory = 18
 refusal_number DeviceFault = 19
 refusal_number Damaged = 20
+refusal_number NotEmpty = 21
+refusal_number NoRun = 22
 
 -- its name, as printed
 abbrev pub refusal_name : Refusal → List ℕ
@@ -66,3 +78,5 @@ refusal_name NoHeader = codes "NoHeader"
 refusal_name NoMemory = codes "NoMemory"
 refusal_name DeviceFault = codes "DeviceFault"
 refusal_name Damaged = codes "Damaged"
+refusal_name NotEmpty = codes "NotEmpty"
+refusal_name NoRun = codes "NoRun"

@@ -4,7 +4,7 @@ use Rattle.f11_store.specs.Causes.{first_of, extend_causes, growth_causes}
 use Rattle.f11_store.specs.Changes.{GetsSlots, GrowsIndex, with_slots_added}
 use Rattle.f11_store.specs.File.{File, need}
 use Rattle.f11_store.specs.Headroom.{lacks_headers, slots_first}
-use Rattle.f11_store.specs.Lags.{Part, SameLimits, Work, LagsBy, grow_work, with_headers_first}
+use Rattle.f11_store.specs.Lags.{SameLimits, Work, LagsBy, grow_work, with_headers_first}
 use Rattle.f11_store.specs.Moments.{AreRespectful}
 use Rattle.f11_store.specs.Store.{Store, free_headers, index_file}
 

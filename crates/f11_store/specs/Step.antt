@@ -4,7 +4,7 @@ use Rattle.f11_store.specs.declared.callers.Uic.{Uic}
 use Rattle.f11_store.specs.declared.files.FileId.{FileId}
 use Rattle.f11_store.specs.declared.files.Attr.{Attr}
 use Rattle.f11_store.specs.declared.refusals.Refusal.{Refusal}
-use Rattle.f11_store.specs.declared.refusals.Refusal.TheVariants.{NoMemory}
+use Rattle.f11_store.specs.declared.refusals.Refusal.TheVariants.{NoMemory, NoRun}
 use Rattle.f11_store.specs.declared.requests.Request.{Request}
 use Rattle.f11_store.specs.declared.requests.Request.TheVariants as request
 use Rattle.f11_store.specs.declared.requests.Reply.{Reply}
@@ -34,6 +34,7 @@ next_id s = record { number = least_free s; sequence = next_sequence (s.last (le
 abbrev pub reply_of : Store → ℕ → Request → Reply
 reply_of s task (request.Create _ _ _) = reply.Created (next_id (with_slots_first s 1))
 reply_of s task (request.Extend lun n) = reply.Length (length_of (file_held s task lun) + n)
+reply_of s task (request.Contiguous lun n) = reply.Length n
 reply_of s task (request.Truncate lun to) = reply.Length to
 reply_of s task (request.Delete id) = reply.Done
 reply_of s task (request.GrowIndex n) = reply.Slots (s.slots + n)
@@ -70,16 +71,23 @@ may_want_memory s task (request.Extend lun n) = gets_slots (slots_first s (need 
 may_want_memory s task (request.Enter d _ _) = gets_slots (slots_first s (headers_to_enter (file_named s d)))
 may_want_memory s task _ = false
 
--- the refusal may be the answer: the first one whose cause holds; where none does, want of memory if the request takes any
-abbrev pub MayRefuse : Option Refusal → Bool → Refusal → Type 0
-MayRefuse (Some first) _ r = r ≡ first
-MayRefuse None true r = r ≡ NoMemory
-MayRefuse None false r = ⊥
+-- the request asks for blocks in one run: whether so many free ones follow one another anywhere, the store doesn't know
+abbrev pub asks_for_run : Request → Bool
+asks_for_run (request.Contiguous _ _) = true
+asks_for_run _ = false
+
+-- the refusal may be the answer: the first one whose cause holds; where none does, want of memory if the request takes any, or of a run of
+-- free blocks if it asks for one
+abbrev pub MayRefuse : Option Refusal → Bool → Bool → Refusal → Type 0
+MayRefuse (Some first) _ _ r = r ≡ first
+MayRefuse None true _ r = r ≡ NoMemory
+MayRefuse None false true r = r ≡ NoRun
+MayRefuse None false false r = ⊥
 
 -- the request is refused, and changes nothing
 pub record Refuses (s : Store) (task : ℕ) (caller : Uic) (r : Request) (block : List ℕ) (refusal : Refusal) (s' : Store)
     (block' : List ℕ) : Type 0 where
-  pub may_refuse : MayRefuse (first_refusal s task caller r) (may_want_memory s task r) refusal
+  pub may_refuse : MayRefuse (first_refusal s task caller r) (may_want_memory s task r) (asks_for_run r) refusal
   pub store_stays : s' ≡ s
   pub block_stays : block' ≡ block
 

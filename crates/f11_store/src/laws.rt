@@ -1,6 +1,7 @@
 //! Laws of the plain store, each the contract of a function that does nothing: they show that the
 //! definitions say what is meant.
 
+ghost use Rattle.f11_store.specs.Contiguous as contiguous;
 ghost use Rattle.f11_store.specs.Laws as laws;
 ghost use Rattle.f11_store.specs.Pieces as pieces;
 ghost use Rattle.f11_store.specs.SlotsFirst as slots_first;
@@ -15,7 +16,7 @@ pub fn stores()
 pub fn refusals()
     ensures unchanged { laws.RefusalChangesNothing }
     ensures one { laws.RefusalIsOne }
-    ensures no_memory { laws.ServedOrNoMemory }
+    ensures wanting { laws.ServedOrWanting }
     ensures reply { laws.ReplyIsOne }
 {}
 
@@ -66,6 +67,7 @@ pub fn directories()
 pub fn pieces()
     ensures none { pieces.NoneGrows }
     ensures twice { pieces.GrowsTwice }
+    ensures within { pieces.GrowsWithin }
     ensures fewer { pieces.FewerMayGrow }
     ensures others { pieces.OthersMayGrow }
 {}
@@ -101,4 +103,19 @@ pub fn slots_first()
 pub fn headers_for()
     ensures enough { slots_first.EnoughAreFree }
     ensures extend { slots_first.ReadyMayExtend }
+{}
+
+/// A file that is laid out in one run: what stands while its blocks come, and then the contiguous mark.
+pub fn laying_out()
+    ensures blocks { contiguous.BlocksComeLags }
+    ensures mark { contiguous.MarkComesLags }
+    ensures whole { contiguous.LaidOutLags }
+    ensures more { contiguous.RunGoesOn }
+    ensures under_way { contiguous.RunUnderWay }
+{}
+
+/// What it has then.
+pub fn laid_out()
+    ensures marked { contiguous.MarkedIsLaidOut }
+    ensures has { contiguous.LaidOutHas }
 {}

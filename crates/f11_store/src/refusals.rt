@@ -5,7 +5,7 @@ ghost use Rattle.f11_store.specs.Refusal.{refusal_name, refusal_number};
 
 use std::fmt;
 
-/// Why a request is refused, in the order in which the causes are judged (profile).
+/// Why a request is refused (profile). The causes are judged in this order, but that of `NotEmpty` and that of `NoRun`.
 #[derive(Clone, Copy, PartialEq, Eq, Debug)]
 pub enum Refusal {
     /// An earlier request was answered `DeviceFault` or `Damaged`.
@@ -48,10 +48,14 @@ pub enum Refusal {
     DeviceFault,
     /// The volume's structure was met broken.
     Damaged,
+    /// The file has blocks, and only one without may be laid in one run. It is judged behind `DuplicateName`.
+    NotEmpty,
+    /// Nowhere are so many free blocks in a row. It is judged behind `NoHeader`.
+    NoRun,
 }
 
 impl Refusal {
-    /// Its place among the causes, 1 to 20.
+    /// Its number, 1 to 22.
     pub fn number(self) -> u8
         ensures { result ≡ refusal_number self }
     {
@@ -83,6 +87,8 @@ impl Refusal {
             Refusal::NoMemory => "NoMemory",
             Refusal::DeviceFault => "DeviceFault",
             Refusal::Damaged => "Damaged",
+            Refusal::NotEmpty => "NotEmpty",
+            Refusal::NoRun => "NoRun",
         }
     }
 }

@@ -18,6 +18,8 @@ pub enum Request {
     },
     /// So many blocks of zeros more at the end of the file accessed by the lun. The index file first gets a slot for each header that lacks.
     Extend(Lun, u32),
+    /// So many blocks of zeros in one run for the file accessed by the lun, which has none: it gets the contiguous mark.
+    Contiguous(Lun, u32),
     /// The file accessed by the lun keeps its first so many blocks.
     Truncate(Lun, u32),
     /// The file is deleted, or marked for it while it is accessed.

@@ -2,6 +2,7 @@
 
 ghost use Rattle.f11_store.specs.Worked as worked;
 ghost use Rattle.f11_store.specs.WorkedLags as lags;
+ghost use Rattle.f11_store.specs.WorkedRuns as runs;
 
 /// What requests on files of a small volume are answered.
 pub fn files()
@@ -41,6 +42,20 @@ pub fn no_lags()
     ensures grow_index { lags.GrowIndexClearsFirst }
     ensures delete { lags.DeleteLeavesOthers }
     ensures release { lags.ReleaseFreesOnce }
+{}
+
+/// What a file is that is laid out in one run, what stands against it, and what it takes.
+pub fn runs()
+    ensures pointers { runs.RunPointers }
+    ensures mark { runs.RunMark }
+    ensures causes { runs.RunCauses }
+    ensures costs { runs.RunCosts }
+    ensures header { runs.RunInHeader }
+{}
+
+/// What none may leave behind.
+pub fn no_run_lags()
+    ensures { runs.RunMarksLast }
 {}
 
 /// The same where the index file gets a slot first.

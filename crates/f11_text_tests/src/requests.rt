@@ -42,7 +42,10 @@ fn limits_of_tasks_and_luns(rt: HostRuntime) -> Result<(), Fail> {
 fn refusals_are_printed(rt: HostRuntime) -> Result<(), Fail> {
     assert_eq!(rt; Refusal::VolumeFailed.number(), 1);
     assert_eq!(rt; Refusal::Damaged.number(), 20);
+    assert_eq!(rt; Refusal::NoRun.number(), 22);
     let text = format!(in rt.alloc(); "no {}", Refusal::NoSuchFile)?;
     assert_eq!(rt; text.as_str(), "no NoSuchFile");
+    let text = format!(in rt.alloc(); "no {}", Refusal::NotEmpty)?;
+    assert_eq!(rt; text.as_str(), "no NotEmpty");
     Ok(())
 }

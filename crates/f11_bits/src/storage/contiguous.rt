@@ -35,7 +35,7 @@ impl Storage {
         ensures takes { IfOk result (λ answer. IfSome answer (λ lbn.
             TakesRun (bitmap_of self.old) n lbn (D.disk device.old) (D.disk device.new))) }
         ensures kept { IfOk result (λ answer. MatchOption answer
-            (kept_at self.new ≡ kept_at self.old)
+            (self.new ≡ self.old)
             (λ lbn. RunUsesKept (run_transfers lbn n) lbn n
             self.old self.new (D.disk device.old) (D.disk device.new))) }
         ensures none { IfOk result (λ answer. IfNone answer

@@ -49,17 +49,17 @@ module _ (s : Structure) (f : FileId) (change : File → File) (was block : List
   abbrev P : Image → Type 0
   P = Meanwhile work (home_of s) old
 
-  is-written : IsTrue old.honest → written ≡ with_header old.image (home_of s) f.number block
+  pub is-written : IsTrue old.honest → written ≡ with_header old.image (home_of s) f.number block
   is-written honest = ap (λ (i : Image). set i lbn block) finds.looked.image
       ∙ ap (λ (l : ℕ). set old.image l block) (at ∙ ap (λ (x : Index). header_lbn x f.number) (for.keeps honest).index_is)
 
-  file-here : IsTrue old.honest → IsFile (table_of old.image (home_of s)) f.number
+  pub file-here : IsTrue old.honest → IsFile (table_of old.image (home_of s)) f.number
   file-here honest = subst (λ (t : Table). IsFile t f.number) (table-of s old for honest) (is-file s f was old for finds.holds honest).file
 
-  says-here : IsTrue old.honest → SaysBut change ((table_of old.image (home_of s)).header f.number) block
+  pub says-here : IsTrue old.honest → SaysBut change ((table_of old.image (home_of s)).header f.number) block
   says-here honest = subst (λ (b : List ℕ). SaysBut change b block) (block-is s f was old for finds.holds honest) says
 
-  changes : IsTrue old.honest → ChangesFile f.number block change (home_of s) old.image written
+  pub changes : IsTrue old.honest → ChangesFile f.number block change (home_of s) old.image written
   changes honest =
       subst (ChangesFile f.number block change (home_of s) old.image) (sym (is-written honest))
       (changes-file old.image (home_of s) f.number block change (for.sound honest) own (file-here honest) (says-here honest))

@@ -1,5 +1,5 @@
 -- A new file, once there is a header for it.
-use Rattle.std.proofs.Common.{◌≡◌, ℕ, ◌==◌, ◌&&◌, Bool, true, false, cond, if◌then◌else◌, nat_lt, IsTrue, List, [], Some, None, refl, sym, ap, subst, ◌∙◌, arith}
+use Rattle.std.proofs.Common.{◌≡◌, ℕ, ◌==◌, ◌&&◌, ◌||◌, Bool, true, false, not, cond, if◌then◌else◌, nat_lt, IsTrue, List, [], Some, None, refl, sym, ap, subst, ◌∙◌, arith}
 use Rattle.std.proofs.lemmas.Bool.{eqb-true, ne_eqb}
 use Rattle.f11_bits.specs.Bitmap.{Bitmap}
 use Rattle.f11_dev.specs.Disk.{Disk}
@@ -28,9 +28,11 @@ use Rattle.f11_store.specs.declared.refusals.Refusal.TheVariants.{
   NoMemory,
   NoPrivilege,
   NoSuchAccess,
+  NoRun,
   NoSuchEntry,
   NoSuchFile,
   NotDirectory,
+  NotEmpty,
   SystemFile,
   TooManySegments,
   VolumeFailed,
@@ -68,6 +70,8 @@ fatal-enter honest s TooManySegments right other = let no : false ≡ true = rig
 fatal-enter honest s DeviceFull right other = let no : false ≡ true = right.among refl in absurd cc
 fatal-enter honest s NoHeader right other = absurd cc
 fatal-enter honest s NoMemory right other = let no : false ≡ true = right.among refl in absurd cc
+fatal-enter honest s NotEmpty right other = let no : false ≡ true = right.among refl in absurd cc
+fatal-enter honest s NoRun right other = let no : false ≡ true = right.among refl in absurd cc
 fatal-enter honest s DeviceFault right other = refl
 fatal-enter honest s Damaged right other = refl
 
@@ -100,7 +104,7 @@ module _ (home : HomeFields) (owner : Uic) (protection : ℕ) (ident attr : List
     pub fails-none : (r : Refusal) (new : Disk) → (refusal_number r == 17) ≡ true → FailsToEnter home owner protection ident attr r mid new → FailsToCreate false home owner protection ident attr Damaged old new
     fails-none r new none fails =
         let number : refusal_number r ≡ 17 = eqb-true (refusal_number r) 17 none in
-        let is : is_cause r ≡ true = ap (λ (n : ℕ). nat_lt 1 n && nat_lt n 19) number in
+        let is : is_cause r ≡ true = ap (λ (n : ℕ). nat_lt 1 n && not ((n == 19) || (n == 20))) number in
         let no_fault : faults_of r ≡ 0 = ap (λ (n : ℕ). if n == 19 then 1 else 0) number in
         fails-ready readies (new_file_work (with_slots_first s 1) owner protection ident attr) (new_file_work ready owner protection ident attr)
         (λ honest. new-file-stays s ready (slots_first s 1) owner protection ident attr (is-ready readies honest)) (tt, tt)

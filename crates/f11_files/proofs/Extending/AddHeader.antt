@@ -10,7 +10,7 @@ use Rattle.f11_map.specs.HeaderBlock.{segment_number, blocks_named}
 use Rattle.f11_index.specs.Headers.{IsLastOf}
 use Rattle.f11_index.specs.Table.{Table, table_of, IsLive}
 use Rattle.f11_store.specs.Changes.{with_change, with_slots}
-use Rattle.f11_store.specs.File.{File}
+use Rattle.f11_store.specs.File.{File, run_pointers}
 use Rattle.f11_store.specs.Store.{Store}
 use Rattle.f11_store.specs.declared.callers.Uic.{Uic}
 use Rattle.f11_store.specs.declared.files.FileId.{FileId}
@@ -37,10 +37,10 @@ use Rattle.f11_bits.specs.Bitmap.{Bitmap}
 use Rattle.f11_index.specs.Kept.{room}
 use Rattle.f11_files.proofs.GrowingIndex.ZeroSlots.{zero-then}
 use Rattle.f11_files.specs.Extending.Slots.{MayCome}
-use Rattle.f11_store.proofs.GrowsLemmas.{linked-grown}
+use Rattle.f11_store.proofs.GrowsLemmas.{fewer-may-grow, grows-within, linked-grown}
 
 module _ (s : Structure) (tail : Tail) (lbn count : ℕ) (old : Disk) (for : IsStructureFor s old) (last : HoldsLast s tail old) (given : MayBeGiven (home_of s) lbn count old)
-    (full : room_in tail.block ≡ 0) (reserved : IsTrue (tail.file.number == 1) → count ≤ room s.index) (may : IsTrue old.honest → MayGrowAs (with_more_free (store_on s old) count) tail.file.number count) where
+    (full : room_in tail.block ≡ 0) (fits : run_pointers count ≤ 102) (reserved : IsTrue (tail.file.number == 1) → count ≤ room s.index) (may : IsTrue old.honest → MayGrowAs (with_more_free (store_on s old) count) tail.file.number count (run_pointers count)) where
   abbrev home : HomeFields
   home = home_of s
 
@@ -69,8 +69,11 @@ module _ (s : Structure) (tail : Tail) (lbn count : ℕ) (old : Disk) (for : IsS
     was-honest : IsTrue mid.honest → IsTrue old.honest
     was-honest honest = sym enters.writes.went.honest ∙ honest
 
-    abbrev linked : Store
-    linked = with_slots_if (k == 1) count (with_change (with_slots st (id.number ∷ [])) k (with_linked id.number (new_blocks (k == 1) count)))
+    abbrev more : ℕ
+    more = pointers_in block
+
+    abbrev linked_store : Store
+    linked_store = with_slots_if (k == 1) count (with_change (with_slots st (id.number ∷ [])) k (with_linked id.number more (new_blocks (k == 1) count)))
 
     block-there : IsTrue mid.honest → block ≡ (table_of mid.image (home_of after)).header id.number
     block-there honest = enters.holds.block_is honest ∙ ap (λ (u : Table). u.header id.number) (table-of after mid for-mid honest)
@@ -94,13 +97,13 @@ module _ (s : Structure) (tail : Tail) (lbn count : ℕ) (old : Disk) (for : IsS
           omega (arith, slots, limit, within);
     }
 
-    more-is : IsTrue old.honest → with_header_of (table_of mid.image home) id.number (new_blocks (k == 1) count) ≡ with_linked id.number (new_blocks (k == 1) count)
+    more-is : IsTrue old.honest → with_header_of (table_of mid.image home) id.number (new_blocks (k == 1) count) ≡ with_linked id.number more (new_blocks (k == 1) count)
     more-is honest =
-        let pointers = ap pointers_in (here honest) ∙ enters.extension.pointer in
+        let pointers = ap pointers_in (here honest) in
         let left = ap room_in (here honest) ∙ enters.extension.room in
         λ i. λ f. record f { held = f.held ++ id.number ∷ []; pointers = f.pointers + pointers i; room = left i; blocks = f.blocks ++ new_blocks (k == 1) count }
 
-    has-store : (image : Image) → Linking after tail id count mid image → IsTrue old.honest → HasStore home linked image
+    has-store : (image : Image) → Linking after tail id count mid image → IsTrue old.honest → HasStore home linked_store image
     has-store image links honest =
         let there : HasStore home (with_slots_if (k == 1) count (with_change (store_of mid.image home) k (with_header_of (table_of mid.image home) id.number (new_blocks (k == 1) count)))) image =
         subst (λ (h : HomeFields). HasStore h (with_slots_if (k == 1) count (with_change (store_of mid.image h) k (with_header_of (table_of mid.image h) id.number (new_blocks (k == 1) count)))) image) stays.home (links (still-honest honest)) in
@@ -110,10 +113,13 @@ module _ (s : Structure) (tail : Tail) (lbn count : ℕ) (old : Disk) (for : IsS
         there
 
     -- the file has grown then
-    grown : (image : Image) → Linking after tail id count mid image → IsTrue old.honest → (e : GrowsAs free k count (store_of image home)) × (e.grows.added ≡ 1)
+    grown : (image : Image) → Linking after tail id count mid image → IsTrue old.honest → (e : GrowsAs free k count (run_pointers count) (store_of image home)) × (e.grows.added ≡ 1)
     grown image links honest =
-        subst (λ (x : Store). (e : GrowsAs free k count x) × (e.grows.added ≡ 1)) (sym (has-store image links honest).store)
-        (linked-grown st k count id.number (may honest) given.some (no-room s tail lbn count old for last given full may honest) (enters.slot honest))
+        let few = enters.extension.few in
+        let linked = linked-grown st k count more id.number (fewer-may-grow free k count count (run_pointers count) more (may honest) (omega arith) few) enters.extension.some (omega (arith, few, fits))
+        (no-room s tail lbn count old for last given full may honest) (enters.slot honest) in
+        let within = grows-within free linked_store k count more (run_pointers count) few linked.0 in
+        subst (λ (x : Store). (e : GrowsAs free k count (run_pointers count) x) × (e.grows.added ≡ 1)) (sym (has-store image links honest).store) (within.0, within.1 ∙ linked.1)
 
     linked-moment : (image : Image) → Linking after tail id count mid image → P image
     linked-moment image links honest = record { sound = (has-store image links honest).sound; stage = inr (grown image links honest).0 }
@@ -130,7 +136,7 @@ module _ (s : Structure) (tail : Tail) (lbn count : ℕ) (old : Disk) (for : IsS
 
     -- it was
     module _ (t : Structure) (new : Disk) (links : LinksTail after t tail id count mid new) (kept : StaysFor false after t new) where
-      adds-header : Grew P home free k count 1 old new
+      adds-header : Grew P home free k count (run_pointers count) 1 old new
       adds-header = record {
         grows = λ honest. (grown new.image links.store honest).0;
         transfers = enters.writes.transfers + 1;

@@ -4,12 +4,9 @@ use Rattle.std.specs.List.{range_with_len}
 use Rattle.f11_dev.specs.Disk.{Disk}
 use Rattle.f11_dev.specs.Image.{Image}
 use Rattle.f11_dev.proofs.WentLemmas.{went_more, went_weaker}
-use Rattle.f11_header.specs.Fields.{map_area}
 use Rattle.f11_home.specs.Home.{HomeFields}
-use Rattle.f11_map.specs.MapArea.{runs_of}
 use Rattle.f11_index.specs.Table.{Table, table_of}
-use Rattle.f11_map.specs.MapWriting.{joins_last}
-use Rattle.f11_store.specs.File.{need}
+use Rattle.f11_store.specs.File.{need, run_pointers}
 use Rattle.f11_store.specs.Store.{Store}
 use Rattle.f11_store.specs.declared.refusals.Refusal.{Refusal}
 use Rattle.f11_store.specs.declared.refusals.Refusal.TheVariants.{DeviceFault}
@@ -24,25 +21,20 @@ use Rattle.f11_image_store.specs.FileLaws.{room_in}
 use Rattle.f11_files.specs.Extending.Growing.{Grew, GrowingInto, SameFree}
 use Rattle.f11_image_store.specs.StoreOf.{store_of}
 use Rattle.f11_files.specs.Structure.{bitmap_in, home_of, store_on, IsStructureFor, StaysFor}
-use Rattle.f11_files.specs.Extending.Tail.{HoldsLast, Naming, NamesRun, FailsToName, HasNoPlace, pointers_more, whose, ownership_of, MayBeGiven}
+use Rattle.f11_files.specs.Extending.Tail.{HoldsLast, Naming, NamesRun, FailsToName, HasNoPlace, whose, ownership_of, places_next, MayBeGiven}
 use Rattle.f11_files.specs.Extending.Zeros.{Keeping, Zeroes, FailsToZero}
 use Rattle.f11_files.specs.declared.structure.Structure.{Structure}
 use Rattle.f11_files.specs.declared.extend.tail.Tail.{Tail}
 use Rattle.f11_files.proofs.Removing.Freeing.{breaks-behind, breaks-within}
 use Rattle.f11_files.proofs.Extending.Growing.{breaks-fault, went-writes, takes-none, room-here, into-same, grew-behind}
-use Rattle.f11_files.proofs.Extending.Zeroed.{free-mid, now-for, now-last, now-given}
+use Rattle.f11_files.proofs.Extending.Zeroed.{free-mid, now-fits, now-for, now-last, now-given}
 use Rattle.f11_index.specs.Kept.{room}
 use Rattle.f11_files.specs.Extending.Slots.{GetsBlocks, MayCome}
 use Rattle.f11_store.proofs.GrowsLemmas.{named-grown}
 
--- no run takes two pointers
-pub at-most-one : (b : Bool) → cond b 0 1 ≤ 1
-at-most-one true = omega arith
-at-most-one false = omega arith
-
 module _ (s : Structure) (tail : Tail) (lbn count : ℕ) (old : Disk) (for : IsStructureFor s old) (last : HoldsLast s tail old) (within : lbn + count ≤ (bitmap_in s).size) (some : 0 < count)
-    (few : count ≤ 256) (unreferenced : IsTrue old.honest → AreUnreferenced (volume_of old.image (home_of s)) lbn count) (reserved : IsTrue (tail.file.number == 1) → count ≤ room s.index)
-    (may : IsTrue old.honest → MayGrowAs (with_more_free (store_on s old) count) tail.file.number count) where
+    (fits : run_pointers count ≤ places_next tail.block) (unreferenced : IsTrue old.honest → AreUnreferenced (volume_of old.image (home_of s)) lbn count) (reserved : IsTrue (tail.file.number == 1) → count ≤ room s.index)
+    (may : IsTrue old.honest → MayGrowAs (with_more_free (store_on s old) count) tail.file.number count (run_pointers count)) where
   abbrev home : HomeFields
   home = home_of s
 
@@ -61,7 +53,7 @@ module _ (s : Structure) (tail : Tail) (lbn count : ℕ) (old : Disk) (for : IsS
   zero-moment : (image : Image) → Keeping home old image → P image
   zero-moment image is honest =
       let here = is honest in
-      record { sound = here.volume.sound; stage = inl (subst (TakesSome 0 (need (file_numbered st k).room count) st) (sym here.store) (takes-none 0 _ st)) }
+      record { sound = here.volume.sound; stage = inl (subst (TakesSome 0 (need (file_numbered st k).room (run_pointers count)) st) (sym here.store) (takes-none 0 _ st)) }
 
   pub sound-moment : (image : Image) → P image → IsTrue old.honest → HasSoundVolume image home
   sound-moment image is honest = (is honest).sound
@@ -75,7 +67,7 @@ module _ (s : Structure) (tail : Tail) (lbn count : ℕ) (old : Disk) (for : IsS
     zeros-written = went-writes (went_weaker (Keeping home old) P zero-moment zeroed.went)
 
     zeros-free : IsTrue old.honest → SameFree home old.image mid.image
-    zeros-free = free-mid s tail lbn count old mid for last within some few unreferenced zeroed
+    zeros-free = free-mid s tail lbn count old mid for last within some fits unreferenced zeroed
 
     zeros-table : IsTrue old.honest → table_of mid.image home ≡ table_of old.image home
     zeros-table honest = (zeroed.keeps honest).volume.index_file.table
@@ -86,29 +78,32 @@ module _ (s : Structure) (tail : Tail) (lbn count : ℕ) (old : Disk) (for : IsS
     same : IsTrue old.honest → store_on s mid ≡ st
     same honest = (zeroed.keeps honest).store
 
-    mid-may : IsTrue mid.honest → MayGrowAs (with_more_free (store_on s mid) count) k count
-    mid-may honest = let before = was-honest honest in subst (λ (x : Store). MayGrowAs (with_more_free x count) k count) (sym (same before)) (may before)
+    mid-may : IsTrue mid.honest → MayGrowAs (with_more_free (store_on s mid) count) k count (run_pointers count)
+    mid-may honest = let before = was-honest honest in subst (λ (x : Store). MayGrowAs (with_more_free x count) k count (run_pointers count)) (sym (same before)) (may before)
 
     pub mid-come : MayCome s k count mid
     mid-come = record { reserved = reserved; limit = λ honest. (mid-may honest).within }
 
     -- images that stand meanwhile
-    into : (image : Image) → GrowingInto home (store_on s mid) (with_more_free (store_on s mid) count) k count mid image → P image
-    into = into-same home st (store_on s mid) k count old mid zeroed.went.honest same
+    into : (image : Image) → GrowingInto home (store_on s mid) (with_more_free (store_on s mid) count) k count (run_pointers count) mid image → P image
+    into = into-same home st (store_on s mid) k count (run_pointers count) old mid zeroed.went.honest same
 
     -- it has no place for them, and nothing was done
-    module _ (now : Disk) (after : Tail) (full : HasNoPlace tail after lbn count mid now) (u : Structure) (same_is : u ≡ s) where
+    module _ (now : Disk) (after : Tail) (full : HasNoPlace tail after count mid now) (u : Structure) (same_is : u ≡ s) where
       pub then-for : IsStructureFor u now
-      then-for = subst (λ (x : Structure). IsStructureFor x now) (sym same_is) (now-for s tail lbn count old mid for last within some few unreferenced zeroed now after full)
+      then-for = subst (λ (x : Structure). IsStructureFor x now) (sym same_is) (now-for s tail lbn count old mid for last within some fits unreferenced zeroed now after full)
 
       pub then-last : HoldsLast u after now
-      then-last = subst (λ (x : Structure). HoldsLast x after now) (sym same_is) (now-last s tail lbn count old mid for last within some few unreferenced zeroed now after full)
+      then-last = subst (λ (x : Structure). HoldsLast x after now) (sym same_is) (now-last s tail lbn count old mid for last within some fits unreferenced zeroed now after full)
+
+      pub then-fits : run_pointers count ≤ 102
+      then-fits = now-fits s tail lbn count old mid for last within some fits unreferenced zeroed now after full
 
       pub then-gets : GetsBlocks k → GetsBlocks after.file.number
       then-gets gets = subst (λ (x : Tail). GetsBlocks x.file.number) (sym full.tail_is) gets
 
       pub then-given : MayBeGiven (home_of u) lbn count now
-      then-given = subst (λ (x : Structure). MayBeGiven (home_of x) lbn count now) (sym same_is) (now-given s tail lbn count old mid for last within some few unreferenced zeroed now after full)
+      then-given = subst (λ (x : Structure). MayBeGiven (home_of x) lbn count now) (sym same_is) (now-given s tail lbn count old mid for last within some fits unreferenced zeroed now after full)
 
       pub then-within : lbn + count ≤ (bitmap_in u).size
       then-within = subst (λ (x : Structure). lbn + count ≤ (bitmap_in x).size) (sym same_is) within
@@ -118,11 +113,11 @@ module _ (s : Structure) (tail : Tail) (lbn count : ℕ) (old : Disk) (for : IsS
           subst (λ (x : Structure). IsTrue (after.file.number == 1) → count ≤ room x.index) (sym same_is)
           (subst (λ (x : Tail). IsTrue (x.file.number == 1) → count ≤ room s.index) (sym full.tail_is) reserved)
 
-      pub then-may : IsTrue now.honest → MayGrowAs (with_more_free (store_on u now) count) after.file.number count
+      pub then-may : IsTrue now.honest → MayGrowAs (with_more_free (store_on u now) count) after.file.number count (run_pointers count)
       then-may =
-          subst (λ (x : Structure). IsTrue now.honest → MayGrowAs (with_more_free (store_on x now) count) after.file.number count) (sym same_is)
-          (subst (λ (d : Disk). IsTrue d.honest → MayGrowAs (with_more_free (store_on s d) count) after.file.number count) (sym full.disk_is)
-          (subst (λ (x : Tail). IsTrue mid.honest → MayGrowAs (with_more_free (store_on s mid) count) x.file.number count) (sym full.tail_is) mid-may))
+          subst (λ (x : Structure). IsTrue now.honest → MayGrowAs (with_more_free (store_on x now) count) after.file.number count (run_pointers count)) (sym same_is)
+          (subst (λ (d : Disk). IsTrue d.honest → MayGrowAs (with_more_free (store_on s d) count) after.file.number count (run_pointers count)) (sym full.disk_is)
+          (subst (λ (x : Tail). IsTrue mid.honest → MayGrowAs (with_more_free (store_on s mid) count) x.file.number count (run_pointers count)) (sym full.tail_is) mid-may))
 
       -- a new header names them
       pub appends-header : (t : Structure) (later : Tail) (new : Disk) → AppendsRun u t after later lbn count 1 now new → AppendsRun s t tail later lbn count (count + 1) old new
@@ -143,8 +138,8 @@ module _ (s : Structure) (tail : Tail) (lbn count : ℕ) (old : Disk) (for : IsS
                 subst (λ (t : Table). AddsZeroSlots t (table_of new.image home)) (ap (λ (d : Disk). table_of d.image home) full.disk_is ∙ zeros-table honest)
                 (given.slots (ap (λ (d : Disk). d.honest) full.disk_is ∙ zeroed.went.honest ∙ honest));
             grew = grew-behind into (λ honest. ap (λ (x : Store). with_more_free x count) (same honest)) zeros-written
-                (subst (λ (x : Tail). Grew (AppendingRun s x count mid) home (with_more_free (store_on s mid) count) x.file.number count 1 mid new) full.tail_is
-                (subst (λ (d : Disk). Grew (AppendingRun s after count d) home (with_more_free (store_on s d) count) after.file.number count 1 d new) full.disk_is given.grew));
+                (subst (λ (x : Tail). Grew (AppendingRun s x count mid) home (with_more_free (store_on s mid) count) x.file.number count (run_pointers count) 1 mid new) full.tail_is
+                (subst (λ (d : Disk). Grew (AppendingRun s after count d) home (with_more_free (store_on s d) count) after.file.number count (run_pointers count) 1 d new) full.disk_is given.grew));
           }
 
       pub fails-header : (new : Disk) (r : Refusal) → Breaks (AppendingRun u after count now) 4 r now new → Breaks P (count + 4) r old new
@@ -157,23 +152,20 @@ module _ (s : Structure) (tail : Tail) (lbn count : ℕ) (old : Disk) (for : IsS
       then-stays {failed = failed} {t = t} {disk = disk} stays = subst (λ (x : Structure). StaysFor failed x t disk) same_is stays
 
     -- the last header names them
-    abbrev more : ℕ
-    more = pointers_more tail.block lbn count
-
-    named : IsTrue old.honest → more ≤ room_in tail.block → (e : GrowsAs free k count (with_blocks_named k more count st)) × (e.grows.added ≡ 0)
-    named honest fits =
+    named : (more : ℕ) → IsTrue old.honest → more ≤ run_pointers count → more ≤ room_in tail.block → (e : GrowsAs free k count (run_pointers count) (with_blocks_named k more count st)) × (e.grows.added ≡ 0)
+    named more honest few has =
         let left = room-here s tail old for last honest in
-        named-grown st k count more (may honest) some (at-most-one (joins_last (runs_of (map_area tail.block)) lbn count)) (omega (arith, left, fits))
+        named-grown st k count more (run_pointers count) (may honest) few (omega (arith, left, has))
 
-    naming-moment : more ≤ room_in tail.block → (image : Image) → Naming s tail lbn count mid image → P image
-    naming-moment fits image is honest =
+    naming-moment : (more : ℕ) → more ≤ run_pointers count → more ≤ room_in tail.block → (image : Image) → Naming s tail more count mid image → P image
+    naming-moment more few has image is honest =
         let here = is (zeroed.went.honest ∙ honest) in
-        record { sound = here.sound; stage = inr (subst (GrowsAs free k count) (sym (here.store ∙ ap (with_blocks_named k more count) (same honest))) (named honest fits).0) }
+        record { sound = here.sound; stage = inr (subst (GrowsAs free k count (run_pointers count)) (sym (here.store ∙ ap (with_blocks_named k more count) (same honest))) (named more honest few has).0) }
 
     pub fails-named : (new : Disk) → FailsToName s tail lbn count mid new → Breaks P (count + 4) DeviceFault old new
     fails-named new fails =
         breaks-within (λ _. omega arith)
-        (breaks-behind (λ image is. is) zeros-written (breaks-fault (went-writes (went_weaker (Naming s tail lbn count mid) P (naming-moment fails.fits) fails.went))))
+        (breaks-behind (λ image is. is) zeros-written (breaks-fault (went-writes (went_weaker (Naming s tail fails.more count mid) P (naming-moment fails.more fails.few fails.fits) fails.went))))
 
     pub appends-named : (t : Structure) (after : Tail) (new : Disk) → NamesRun s t tail after lbn count mid new → AppendsRun s t tail after lbn count (count + 1) old new
     appends-named t after new names = record {
@@ -189,12 +181,12 @@ module _ (s : Structure) (tail : Tail) (lbn count : ℕ) (old : Disk) (for : IsS
       grew = record {
         grows = λ honest. (at honest).0;
         transfers = zeros-written.transfers + 1;
-        went = went_more P zeros-written.went (went_weaker (Naming s tail lbn count mid) P (naming-moment names.fits) names.went);
+        went = went_more P zeros-written.went (went_weaker (Naming s tail names.more count mid) P (naming-moment names.more names.few names.fits) names.went);
         few = λ honest. let zeros = zeros-written.few honest in omega (arith, zeros);
       };
     }
       where
-        at : IsTrue old.honest → (e : GrowsAs free k count (store_of new.image home)) × (e.grows.added ≡ 0)
+        at : IsTrue old.honest → (e : GrowsAs free k count (run_pointers count) (store_of new.image home)) × (e.grows.added ≡ 0)
         at honest =
             let here = names.store (zeroed.went.honest ∙ honest) in
-            subst (λ (x : Store). (e : GrowsAs free k count x) × (e.grows.added ≡ 0)) (sym (here.store ∙ ap (with_blocks_named k more count) (same honest))) (named honest names.fits)
+            subst (λ (x : Store). (e : GrowsAs free k count (run_pointers count) x) × (e.grows.added ≡ 0)) (sym (here.store ∙ ap (with_blocks_named k names.more count) (same honest))) (named names.more honest names.few names.fits)

@@ -70,7 +70,7 @@ module _ (t u : Table) (f : ℕ) (others : KeepsOtherSlots f t u) (stays : Stays
         }
   ]
 
-  headers-stay : IsWholeFile t f → (m : ℕ) → IsHeaderOf u f m ↔ IsHeaderOf t f m
+  pub headers-stay : IsWholeFile t f → (m : ℕ) → IsHeaderOf u f m ↔ IsHeaderOf t f m
   headers-stay whole = (whole-stays t u f whole each-stays).1
 
   last-stays : (n : ℕ) → IsLastOf t f n → IsLastOf u f n

@@ -12,7 +12,7 @@ use Rattle.f11_store.specs.Changes.{with_change}
 use Rattle.f11_store.specs.Cost.{growth_cost, header_count}
 use Rattle.f11_store.specs.File.{File, no_file, need}
 use Rattle.f11_store.specs.Lags.{Work, LagsBy, with_no_mark}
-use Rattle.f11_store.specs.Pieces.{GrowsAs, MayGrowAs, file_numbered, grow_work_of}
+use Rattle.f11_store.specs.Pieces.{GrowsAs, GrowsUnmarked, MayGrowAs, file_numbered, grow_work_of, piece_work_of}
 use Rattle.f11_store.specs.Store.{Store}
 use Rattle.f11_store.specs.declared.callers.Uic.{Uic}
 use Rattle.f11_store.specs.declared.files.FileId.{FileId}
@@ -87,7 +87,7 @@ module _ (s : Structure) (f : FileId) (n : ℕ) (end : FileEnd) (was last : List
       let there = is honest in
       record {
         sound = there.sound;
-        lags = subst (λ (x : Store). LagsBy work x st) (sym there.store) (growth-cleared-lags st cleared_store k file.room n (lags_itself work cleared_store));
+        lags = subst (λ (x : Store). LagsBy work x st) (sym there.store) (growth-cleared-lags st cleared_store k file.room n (lags_itself (piece_work_of k file.room n n) cleared_store));
       }
 
   pub breaks-clearing : {faults : ℕ} {new : Disk} → Went (Clearing s f old) old new 1 faults → WritesAtMost P most old new faults
@@ -113,20 +113,20 @@ module _ (s : Structure) (f : FileId) (n : ℕ) (end : FileEnd) (was last : List
     cleared-went : Went P old cleared 1 0
     cleared-went = went_weaker (Clearing s f old) P clear-moment clears.went
 
-    pub may-grow : IsTrue cleared.honest → MayGrowAs after k n
+    pub may-grow : IsTrue cleared.honest → MayGrowAs after k n n
     may-grow there =
         let honest = sym still-honest ∙ there in
-        subst (λ (x : Store). MayGrowAs x k n) (sym (store-cleared honest))
+        subst (λ (x : Store). MayGrowAs x k n n) (sym (store-cleared honest))
         (cleared-may-grow st k n (is-numbered honest) (ap (λ (g : File). first_of (growth_causes st g n)) (numbered honest) ∙ has.no_cause honest) (has.within honest))
 
     -- the images that stand while the file grows
     grown-moment : (image : Image) → GrowingByRuns s k n cleared image → P image
     grown-moment image is honest =
         let there = is (still-honest ∙ honest) in
-        let lags = subst (λ (x : Store). LagsBy (grow_work_of k (file_numbered after k).room n) (store_of image home) x) (store-cleared honest) there.lags in
+        let lags = subst (λ (x : Store). LagsBy (piece_work_of k (file_numbered after k).room n n) (store_of image home) x) (store-cleared honest) there.lags in
         record {
           sound = there.sound;
-          lags = growth-cleared-lags st (store_of image home) k file.room n (subst (λ (room : ℕ). LagsBy (grow_work_of k room n) (store_of image home) cleared_store) (room-cleared honest) lags);
+          lags = growth-cleared-lags st (store_of image home) k file.room n (subst (λ (room : ℕ). LagsBy (piece_work_of k room n n) (store_of image home) cleared_store) (room-cleared honest) lags);
         }
 
     pub breaks-growing : {r : Refusal} {new : Disk} → Breaks (GrowingByRuns s k n cleared) (after.bitmap_blocks + 5 * n + 3 * need (file_numbered after k).room n + 3) r cleared new
@@ -143,10 +143,10 @@ module _ (s : Structure) (f : FileId) (n : ℕ) (end : FileEnd) (was last : List
     }
 
     module _ (tail : Tail) (of : IsTailOf f block end.number last tail) (new : Disk) (grows : GrowsByRuns s k (ownership_of tail) n cleared new) where
-      pub has-grown : IsTrue old.honest → GrowsAs st k n (store_of new.image home)
+      pub has-grown : IsTrue old.honest → GrowsUnmarked (k == 1) st k n (store_of new.image home)
       has-grown honest =
           (cleared-grows st (store_of new.image home) k n (is-numbered honest)
-          (subst (λ (x : Store). GrowsAs x k n (store_of new.image home)) (store-cleared honest) (grows.grew.grows (still-honest ∙ honest)))).0
+          (subst (λ (x : Store). GrowsAs x k n n (store_of new.image home)) (store-cleared honest) (grows.grew.grows (still-honest ∙ honest)))).0
 
       -- it has the lowest free blocks more
       abbrev ownership : Uic × ℕ

@@ -1,7 +1,6 @@
 -- A file that is about to grow, or the index file, whose contiguous mark was cleared: its last header is in hand still.
 use Rattle.std.proofs.Common.{◌≡◌, ◌≢◌, ◌+◌, ◌*◌, ◌/◌, ◌≤◌, ℕ, Bool, true, false, IsTrue, List, length, refl, sym, ap, subst, ◌∙◌, inl, inr, arith}
 use Rattle.std.proofs.lemmas.Bool.{cases_eq}
-use Rattle.std.proofs.lemmas.Bool.Decides.{nat_tests}
 use Rattle.f11_bits.specs.Bitmap.{Bitmap}
 use Rattle.f11_dev.specs.Disk.{Disk}
 use Rattle.f11_dev.specs.Image.{Image}
@@ -20,7 +19,7 @@ use Rattle.f11_store.specs.declared.files.FileId.{FileId}
 use Rattle.f11_store.specs.declared.refusals.Refusal.TheVariants.{Damaged}
 use Rattle.f11_store.specs.declared.refusals.Refusal.{Refusal}
 use Rattle.f11_volume.specs.Space.{storage_bitmap}
-use Rattle.f11_files.specs.Answers.{IsRight, ReadsAtMost, is_cause, is_fatal}
+use Rattle.f11_files.specs.Answers.{IsRight, ReadsAtMost, is_fatal}
 use Rattle.f11_files.specs.Extending.Mark.{ClearsMark}
 use Rattle.f11_files.specs.Extending.Runs.{IsTailOf}
 use Rattle.f11_files.specs.Finding.First.{HoldsFile}
@@ -30,6 +29,7 @@ use Rattle.f11_files.specs.Structure.{index_in, bitmap_in, home_of, store_on, Is
 use Rattle.f11_files.specs.Extending.Tail.{HoldsLast, ownership_of}
 use Rattle.f11_files.specs.declared.structure.Structure.{Structure}
 use Rattle.f11_files.specs.declared.extend.tail.Tail.{Tail}
+use Rattle.f11_files.proofs.AnswerLemmas.{fatal-no-cause}
 use Rattle.f11_files.proofs.Finding.First.{table-of}
 use Rattle.f11_files.proofs.Finding.Locate.{reads-along}
 use Rattle.f11_files.proofs.Finding.Named.{block-is, is-file}
@@ -38,7 +38,7 @@ use Rattle.f11_image_store.specs.Allocation.{ownership_in}
 use Rattle.f11_volume.specs.Volume.{volume_of}
 
 -- the storage bitmap of a store has a block for each 4096 blocks
-store-bitmap : (image : Image) (home : HomeFields) → (store_of image home).bitmap_blocks ≡ length (storage_bitmap image home).places
+pub store-bitmap : (image : Image) (home : HomeFields) → (store_of image home).bitmap_blocks ≡ length (storage_bitmap image home).places
 unfolding store_of
 store-bitmap image home = refl
 
@@ -54,13 +54,10 @@ fewer-needed room n = omega arith
 pub fatal-right : (causes : List Cause) (r : Refusal) (honest : Bool) → is_fatal r ≡ true → (IsTrue honest → r ≢ Damaged) → IsRight false honest causes r
 fatal-right causes r honest fatal undamaged = record {
   volume = λ is. let no : true ≡ false = sym fatal ∙ ap is_fatal is in cc;
-  among = λ is. absurd (no-cause is);
-  cause = λ _ is. absurd (no-cause is);
+  among = λ is. absurd (fatal-no-cause r fatal is);
+  cause = λ _ is. absurd (fatal-no-cause r fatal is);
   undamaged = undamaged;
 }
-  where
-    no-cause : is_cause r ≡ true → ⊥
-    no-cause is = grind (arith, nat_tests)
 
 -- the storage bitmap has so many blocks
 pub covered : (s : Structure) (old : Disk) → IsStructureFor s old → IsTrue old.honest → (bitmap_in s).size ≤ 4096 * (store_on s old).bitmap_blocks

@@ -76,7 +76,7 @@ module _ (s : Structure) (f : FileId) (n : ℕ) (end : FileEnd) (was last : List
   stays-clearing new went = failed-stays s s _ old new for refl (fails-clearing new went).writes.went
 
   module _ (block : List ℕ) (cleared : Disk) (clears : ClearsMark s f was block old cleared) where
-    pub may-extend : IsTrue cleared.honest → MayGrowAs (store_on s cleared) k n
+    pub may-extend : IsTrue cleared.honest → MayGrowAs (store_on s cleared) k n n
     may-extend = may-grow s f n end was last old for room.ends named has block cleared clears
 
     pub fails-growing : (r : Refusal) (new : Disk)

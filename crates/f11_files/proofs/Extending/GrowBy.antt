@@ -19,7 +19,7 @@ use Rattle.f11_image_store.specs.Allocation.{GainsBlocksAs, AddsZeroSlots}
 use Rattle.f11_files.specs.Answers.{Meanwhile, WritesAtMost, Breaks}
 use Rattle.f11_files.specs.Extending.Runs.{AddsRun, GrowsByRuns}
 use Rattle.f11_files.specs.Extending.Growing.{GrowingBy, Grew, IsGrowing}
-use Rattle.f11_store.specs.Pieces.{file_numbered, TakesSome, GrowsAs, MayGrowAs, grow_work_of}
+use Rattle.f11_store.specs.Pieces.{file_numbered, TakesSome, GrowsAs, MayGrowAs, piece_work_of}
 use Rattle.f11_image_store.specs.StoreOf.{store_of}
 use Rattle.f11_files.specs.Structure.{bitmap_in, home_of, store_on, IsStructureFor, StaysFor}
 use Rattle.f11_files.specs.Extending.Tail.{HoldsLast, whose, ownership_of}
@@ -40,7 +40,7 @@ use Rattle.f11_files.proofs.GrowingIndex.ZeroSlots.{zero-same, zero-then}
 
 -- the work of growing, of a file whose last header is in hand
 abbrev pub tail_work : Structure → Tail → ℕ → Disk → Work
-tail_work s tail n old = grow_work_of tail.file.number (file_numbered (store_on s old) tail.file.number).room n
+tail_work s tail n old = piece_work_of tail.file.number (file_numbered (store_on s old) tail.file.number).room n n
 
 -- So many of the blocks are the file's, and so many are left: none below `from` is free.
 pub record GrowingOn (s t : Structure) (tail later : Tail) (n from left : ℕ) (old now : Disk) : Type 0 where
@@ -56,10 +56,10 @@ pub record GrowingOn (s t : Structure) (tail later : Tail) (n from left : ℕ) (
   pub gains :
       IsTrue old.honest → GainsBlocksAs tail.file.number (ownership_of tail) done (volume_of old.image (home_of s)) (volume_of now.image (home_of s))
   pub slots : IsTrue old.honest → AddsZeroSlots (table_of old.image (home_of s)) (table_of now.image (home_of s))
-  pub grew : Grew (Meanwhile (tail_work s tail n old) (home_of s) old) (home_of s) (store_on s old) tail.file.number done (from / 4096 + 5 * done) old now
+  pub grew : Grew (Meanwhile (tail_work s tail n old) (home_of s) old) (home_of s) (store_on s old) tail.file.number done done (from / 4096 + 5 * done) old now
 
 module _ (s : Structure) (tail : Tail) (n : ℕ) (old : Disk) (for : IsStructureFor s old) (last : HoldsLast s tail old) (reserved : IsTrue (tail.file.number == 1) → n ≤ room s.index)
-    (may : IsTrue old.honest → MayGrowAs (store_on s old) tail.file.number n) where
+    (may : IsTrue old.honest → MayGrowAs (store_on s old) tail.file.number n n) where
   abbrev home : HomeFields
   home = home_of s
 
@@ -90,7 +90,7 @@ module _ (s : Structure) (tail : Tail) (n : ℕ) (old : Disk) (for : IsStructure
     gains = nothing-gained;
     slots = λ honest. zero-same (table_of old.image home);
     grew = record {
-      grows = λ honest. none-grow st k n (may honest);
+      grows = λ honest. none-grow st k n n (may honest);
       transfers = 0;
       went = went_looked P (looked_none old);
       few = λ honest. omega arith;
@@ -117,7 +117,7 @@ module _ (s : Structure) (tail : Tail) (n : ℕ) (old : Disk) (for : IsStructure
     ownership = ap (λ (w : FileId × Uic × ℕ). (w.1, w.2)) so_far.file
 
     -- what the file has so far
-    abbrev has : IsTrue old.honest → GrowsAs st k so_far.done tn
+    abbrev has : IsTrue old.honest → GrowsAs st k so_far.done so_far.done tn
     has = so_far.grew.grows
 
     pub next-gets : GetsBlocks tail.file.number → GetsBlocks later.file.number
@@ -126,30 +126,31 @@ module _ (s : Structure) (tail : Tail) (n : ℕ) (old : Disk) (for : IsStructure
     pub next-reserved : IsTrue (later.file.number == 1) → left ≤ room t.index
     next-reserved is = so_far.reserved (ap (λ (j : ℕ). j == 1) (sym number) ∙ is)
 
-    pub next-may : IsTrue now.honest → MayGrowAs (store_on t now) later.file.number left
+    pub next-may : IsTrue now.honest → MayGrowAs (store_on t now) later.file.number left left
     next-may honest =
         let before = was-honest honest in
         let rest : n - so_far.done ≡ left = let sum = so_far.sum in omega (arith, sum) in
         let few : so_far.done ≤ n = let sum = so_far.sum in omega (arith, sum) in
-        subst (λ (h : HomeFields). MayGrowAs (store_of now.image h) later.file.number left) (sym so_far.stays.home)
-        (subst (λ (j : ℕ). MayGrowAs tn j left) (sym number) (subst (MayGrowAs tn k) rest (others-may st tn k n so_far.done (may before) (has before) few)))
+        subst (λ (h : HomeFields). MayGrowAs (store_of now.image h) later.file.number left left) (sym so_far.stays.home)
+        (subst (λ (j : ℕ). MayGrowAs tn j left left) (sym number) (subst (λ (m : ℕ). MayGrowAs tn k m m) rest (others-may st tn k n so_far.done n so_far.done (may before) (has before) few few)))
 
     pub next-below : IsTrue now.honest → NoneBelow now.image (bitmap_in t) from
     next-below honest = subst (λ (b : Bitmap). NoneBelow now.image b from) (sym so_far.bitmap) (so_far.none_below (was-honest honest))
 
     -- images that stand meanwhile
-    lags : IsTrue old.honest → (u : Store) → TakesSome left (need (file_numbered tn k).room left) tn u ⊎ GrowsSome tn k left u → LagsBy (tail_work s tail n old) u st
-    lags honest u (inl takes) = let few : so_far.done + left ≤ n = let sum = so_far.sum in omega (arith, sum) in growth-taken-lags st tn u k n so_far.done left (has honest) few takes
+    lags : IsTrue old.honest → (u : Store) → TakesSome left (need (file_numbered tn k).room left) tn u ⊎ GrowsSome tn k left left u → LagsBy (tail_work s tail n old) u st
+    lags honest u (inl takes) = let few : so_far.done + left ≤ n = let sum = so_far.sum in omega (arith, sum) in growth-taken-lags st tn u k n n so_far.done left so_far.done left (has honest) few few takes
     lags honest u (inr some) =
         let few : so_far.done + some.0 ≤ n = let sum = so_far.sum in let less = some.1 in omega (arith, sum, less) in
-        growth-lags st u k n (so_far.done + some.0) (grows-twice st tn u k n so_far.done some.0 (may honest) few (has honest) some.2).0 few
+        let fewer : so_far.done + left ≤ n = let sum = so_far.sum in omega (arith, sum) in
+        growth-lags st u k n n (so_far.done + some.0) (so_far.done + left) (grows-twice st tn u k n n so_far.done some.0 so_far.done left (may honest) fewer (has honest) some.2).0 few fewer
 
-    moment : (image : Image) → GrowingBy (home_of t) (store_on t now) later.file.number left now image → P image
+    moment : (image : Image) → GrowingBy (home_of t) (store_on t now) later.file.number left left now image → P image
     moment image is honest =
-        let named : IsGrowing (home_of t) left (need (file_numbered (store_on t now) k).room left) (GrowsSome (store_on t now) k left) (store_on t now) image =
-        subst (λ (j : ℕ). IsGrowing (home_of t) left (need (file_numbered (store_on t now) j).room left) (GrowsSome (store_on t now) j left) (store_on t now) image) number (is (now-honest honest)) in
-        let here : IsGrowing home left (need (file_numbered tn k).room left) (GrowsSome tn k left) tn image =
-        subst (λ (h : HomeFields). IsGrowing h left (need (file_numbered (store_of now.image h) k).room left) (GrowsSome (store_of now.image h) k left) (store_of now.image h) image) so_far.stays.home named in
+        let named : IsGrowing (home_of t) left (need (file_numbered (store_on t now) k).room left) (GrowsSome (store_on t now) k left left) (store_on t now) image =
+        subst (λ (j : ℕ). IsGrowing (home_of t) left (need (file_numbered (store_on t now) j).room left) (GrowsSome (store_on t now) j left left) (store_on t now) image) number (is (now-honest honest)) in
+        let here : IsGrowing home left (need (file_numbered tn k).room left) (GrowsSome tn k left left) tn image =
+        subst (λ (h : HomeFields). IsGrowing h left (need (file_numbered (store_of now.image h) k).room left) (GrowsSome (store_of now.image h) k left left) (store_of now.image h) image) so_far.stays.home named in
         record { sound = here.sound; lags = lags honest (store_of image home) here.stage }
 
     -- no more headers were added than may be needed
@@ -172,7 +173,7 @@ module _ (s : Structure) (tail : Tail) (n : ℕ) (old : Disk) (for : IsStructure
     unfolding store_of
     bitmap-blocks honest = sym (ap (λ (b : Bitmap). length b.places) (for.keeps honest).bitmap_is)
 
-    pub fails-run : (new : Disk) (r : Refusal) → Breaks (GrowingBy (home_of t) (store_on t now) later.file.number left now) (blocks_from (bitmap_in t) from + 5 * left + 3) r now new
+    pub fails-run : (new : Disk) (r : Refusal) → Breaks (GrowingBy (home_of t) (store_on t now) later.file.number left left now) (blocks_from (bitmap_in t) from + 5 * left + 3) r now new
         → Breaks P (st.bitmap_blocks + 5 * n + 3 * need (file_numbered st k).room n + 3) r old new
     fails-run new r breaks =
         let is : IsBitmap (bitmap_in s) = s.storage.valid in
@@ -185,16 +186,16 @@ module _ (s : Structure) (tail : Tail) (n : ℕ) (old : Disk) (for : IsStructure
       most = end / 4096 - from / 4096 + 5 * count
 
       -- the run
-      run : IsTrue old.honest → (e : GrowsAs tn k count (store_of new.image home)) × (adds.grew.transfers ≤ most + 3 * e.grows.added)
+      run : IsTrue old.honest → (e : GrowsAs tn k count count (store_of new.image home)) × (adds.grew.transfers ≤ most + 3 * e.grows.added)
       run honest =
           let there = now-honest honest in
-          subst (λ (h : HomeFields). (e : GrowsAs (store_of now.image h) k count (store_of new.image h)) × (adds.grew.transfers ≤ most + 3 * e.grows.added)) so_far.stays.home
-          (subst (λ (j : ℕ). (e : GrowsAs (store_on t now) j count (store_of new.image (home_of t))) × (adds.grew.transfers ≤ most + 3 * e.grows.added)) number (adds.grew.grows there, adds.grew.few there))
+          subst (λ (h : HomeFields). (e : GrowsAs (store_of now.image h) k count count (store_of new.image h)) × (adds.grew.transfers ≤ most + 3 * e.grows.added)) so_far.stays.home
+          (subst (λ (j : ℕ). (e : GrowsAs (store_on t now) j count count (store_of new.image (home_of t))) × (adds.grew.transfers ≤ most + 3 * e.grows.added)) number (adds.grew.grows there, adds.grew.few there))
 
-      both : (honest : IsTrue old.honest) → (e : GrowsAs st k (so_far.done + count) (store_of new.image home)) × (e.grows.added ≡ (has honest).grows.added + (run honest).0.grows.added)
+      both : (honest : IsTrue old.honest) → (e : GrowsAs st k (so_far.done + count) (so_far.done + count) (store_of new.image home)) × (e.grows.added ≡ (has honest).grows.added + (run honest).0.grows.added)
       both honest =
           let few : so_far.done + count ≤ n = let sum = so_far.sum in let asked = adds.asked in omega (arith, sum, asked) in
-          grows-twice st tn (store_of new.image home) k n so_far.done count (may honest) few (has honest) (run honest).0
+          grows-twice st tn (store_of new.image home) k n n so_far.done count so_far.done count (may honest) few (has honest) (run honest).0
 
       pub growing-more : GrowingOn s u tail after n end (left - count) old new
       growing-more = record {
@@ -220,7 +221,7 @@ module _ (s : Structure) (tail : Tail) (n : ℕ) (old : Disk) (for : IsStructure
         grew = record {
           grows = λ honest. (both honest).0;
           transfers = so_far.grew.transfers + adds.grew.transfers;
-          went = went_more P so_far.grew.went (went_weaker (GrowingBy (home_of t) (store_on t now) later.file.number left now) P moment adds.grew.went);
+          went = went_more P so_far.grew.went (went_weaker (GrowingBy (home_of t) (store_on t now) later.file.number left left now) P moment adds.grew.went);
           few = λ honest.
               let here = so_far.grew.few honest in
               let more = (run honest).1 in
@@ -238,6 +239,6 @@ module _ (s : Structure) (tail : Tail) (n : ℕ) (old : Disk) (for : IsStructure
               subst (λ (m : ℕ). GainsBlocksAs k (ownership_of tail) m (volume_of old.image home) (volume_of now.image home)) all (so_far.gains honest);
           slots = so_far.slots;
           grew =
-              subst (λ (m : ℕ). Grew P home st k m ((bitmap_in s).size / 4096 + 5 * m) old now) all
+              subst (λ (m : ℕ). Grew P home st k m m ((bitmap_in s).size / 4096 + 5 * m) old now) all
               (grew-within (λ _. let within = so_far.within in omega (arith, within)) so_far.grew);
         }

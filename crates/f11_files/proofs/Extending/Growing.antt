@@ -14,6 +14,7 @@ use Rattle.f11_store.specs.Store.{Store}
 use Rattle.f11_store.specs.declared.refusals.Refusal.{Refusal}
 use Rattle.f11_store.specs.declared.refusals.Refusal.TheVariants.{DeviceFault}
 use Rattle.f11_store.proofs.Frees.{same_limits}
+use Rattle.f11_store.proofs.GrowsLemmas.{grows-within}
 use Rattle.f11_volume.specs.Sound.{HasSoundVolume}
 use Rattle.f11_writes.specs.Kept.{file_in}
 use Rattle.f11_files.specs.Answers.{WritesAtMost, Breaks}
@@ -85,20 +86,20 @@ module _ (s : Structure) (tail : Tail) (disk : Disk) (for : IsStructureFor s dis
       ∙ ap (λ (b : List ℕ). segment_number b + 1) (sym last-here)
 
 -- images that stand after the store was as it is
-pub into-same : (home : HomeFields) (s t : Store) (k n : ℕ) (a b : Disk) → b.honest ≡ a.honest → (IsTrue a.honest → t ≡ s) → (image : Image) → GrowingInto home t (with_more_free t n) k n b image
-    → GrowingInto home s (with_more_free s n) k n a image
-into-same home s t k n a b same store image is honest =
-    subst (λ (x : Store). IsGrowing home 0 (need (file_numbered x k).room n) (GrowsAs (with_more_free x n) k n) x image) (store honest) (is (same ∙ honest))
+pub into-same : (home : HomeFields) (s t : Store) (k n p : ℕ) (a b : Disk) → b.honest ≡ a.honest → (IsTrue a.honest → t ≡ s) → (image : Image) → GrowingInto home t (with_more_free t n) k n p b image
+    → GrowingInto home s (with_more_free s n) k n p a image
+into-same home s t k n p a b same store image is honest =
+    subst (λ (x : Store). IsGrowing home 0 (need (file_numbered x k).room p) (GrowsAs (with_more_free x n) k n p) x image) (store honest) (is (same ∙ honest))
 
 -- a file that grew after more was done
-module _ {P Q : Image → Type 0} {home : HomeFields} {s t : Store} {k n m most : ℕ} {a b c : Disk} (weaker : (image : Image) → Q image → P image) (store : IsTrue a.honest → t ≡ s) (one : WritesAtMost P m a b 0)
-    (grew : Grew Q home t k n most b c) where
-  moved : IsTrue a.honest → (e : GrowsAs s k n (store_of c.image home)) × (grew.transfers ≤ most + 3 * e.grows.added)
+module _ {P Q : Image → Type 0} {home : HomeFields} {s t : Store} {k n p m most : ℕ} {a b c : Disk} (weaker : (image : Image) → Q image → P image) (store : IsTrue a.honest → t ≡ s) (one : WritesAtMost P m a b 0)
+    (grew : Grew Q home t k n p most b c) where
+  moved : IsTrue a.honest → (e : GrowsAs s k n p (store_of c.image home)) × (grew.transfers ≤ most + 3 * e.grows.added)
   moved honest =
       let there = one.went.honest ∙ honest in
-      subst (λ (x : Store). (e : GrowsAs x k n (store_of c.image home)) × (grew.transfers ≤ most + 3 * e.grows.added)) (store honest) (grew.grows there, grew.few there)
+      subst (λ (x : Store). (e : GrowsAs x k n p (store_of c.image home)) × (grew.transfers ≤ most + 3 * e.grows.added)) (store honest) (grew.grows there, grew.few there)
 
-  pub grew-behind : Grew P home s k n (m + most) a c
+  pub grew-behind : Grew P home s k n p (m + most) a c
   grew-behind = record {
     grows = λ honest. (moved honest).0;
     transfers = one.transfers + grew.transfers;
@@ -107,12 +108,24 @@ module _ {P Q : Image → Type 0} {home : HomeFields} {s t : Store} {k n m most 
   }
 
 -- in no more transfers
-pub grew-within : {P : Image → Type 0} {home : HomeFields} {s : Store} {k n most more : ℕ} {a b : Disk} → (IsTrue a.honest → most ≤ more) → Grew P home s k n most a b → Grew P home s k n more a b
+pub grew-within : {P : Image → Type 0} {home : HomeFields} {s : Store} {k n p most more : ℕ} {a b : Disk} → (IsTrue a.honest → most ≤ more) → Grew P home s k n p most a b → Grew P home s k n p more a b
 grew-within fewer grew = record {
   grows = grew.grows;
   transfers = grew.transfers;
   went = grew.went;
   few = λ honest. let here = grew.few honest in let few = fewer honest in omega (arith, here, few);
+}
+
+-- in more pointers at most
+pub grew-in : {P : Image → Type 0} {home : HomeFields} {s : Store} {k n p q most : ℕ} {a b : Disk} → p ≤ q → Grew P home s k n p most a b → Grew P home s k n q most a b
+grew-in {home = home} {s = s} {k = k} {n = n} {p = p} {q = q} {b = b} few grew = record {
+  grows = λ honest. (grows-within s (store_of b.image home) k n p q few (grew.grows honest)).0;
+  transfers = grew.transfers;
+  went = grew.went;
+  few = λ honest.
+      let same = (grows-within s (store_of b.image home) k n p q few (grew.grows honest)).1 in
+      let here = grew.few honest in
+      omega (arith, same, here);
 }
 
 -- what was only taken so far: the volume is sound at the end

@@ -11,9 +11,7 @@ use Rattle.f11_header.specs.Header.{IsHeader, holds_header}
 use Rattle.f11_header.specs.MapFields.{most_words}
 use Rattle.f11_header.proofs.HeaderFacts.{header_in-held}
 use Rattle.f11_home.specs.Home.{HomeFields}
-use Rattle.f11_map.specs.InHand.{RewritesMap, AppendsBlocks}
-use Rattle.f11_map.specs.MapArea.{runs_of}
-use Rattle.f11_map.specs.MapWriting.{joins, joins_last, with_blocks}
+use Rattle.f11_map.specs.InHand.{RewritesMap}
 use Rattle.f11_map.proofs.MapLemmas.{length-runs_of-le}
 use Rattle.f11_index.specs.Growth.{with_header, IsGoodFor}
 use Rattle.f11_index.specs.Kept.{index_kept, room}
@@ -37,7 +35,7 @@ use Rattle.f11_store.specs.Pieces.{new_blocks, with_blocks_named, with_more_bloc
 use Rattle.f11_files.specs.Extending.Growing.{SameFree}
 use Rattle.f11_files.specs.Extending.Slots.{GetsBlocks, MayCome, index_behind}
 use Rattle.f11_files.specs.Structure.{index_in, bitmap_in, home_of, store_on, IsStructureFor, StaysFor}
-use Rattle.f11_files.specs.Extending.Tail.{HoldsLast, MayBeGiven, HasStore, pointers_more, Naming, NamesRun, FailsToName, ownership_of}
+use Rattle.f11_files.specs.Extending.Tail.{HoldsLast, MayBeGiven, HasStore, Naming, NamesAll, NamesInHand, NamesRun, FailsToName, ownership_of}
 use Rattle.f11_image_store.specs.StoreOf.{store_of}
 use Rattle.f11_files.specs.Extending.Zeros.{HoldsZeros}
 use Rattle.f11_files.specs.declared.structure.Structure.{Structure}
@@ -51,16 +49,6 @@ use Rattle.f11_files.proofs.Finding.First.{table-of}
 use Rattle.f11_files.proofs.GrowingIndex.SlotGrowth.{slots-more, slots-zero}
 use Rattle.f11_files.proofs.GrowingIndex.ZeroSlots.{zero-grown, zero-header}
 use Rattle.f11_files.proofs.Extending.Written.{WroteAs, are-none, are-slots, for-stays, has-written, image-is, in_use-behind, behind-for}
-
--- how many pointers there are with these blocks
-runs-more : (runs : List (ℕ × ℕ)) (lbn count : ℕ) → length (with_blocks runs lbn count) ≡ length runs + cond (joins_last runs lbn count) 0 1
-runs-more [] lbn count = refl
-runs-more (run ∷ []) lbn count = go (joins run lbn count)
-  where
-    go : (b : Bool) → length (cond b ((run.0, run.1 + count) ∷ []) (run ∷ (lbn, count) ∷ [])) ≡ 1 + cond b 0 1
-    go true = refl
-    go false = refl
-runs-more (run ∷ next ∷ runs) lbn count = let rest = runs-more (next ∷ runs) lbn count in omega (arith, rest)
 
 -- blocks that hold zeros
 pub held-zeros : (image : Image) (lbn count : ℕ) → HoldsZeros image lbn count → held_from image lbn count ≡ zero_blocks count
@@ -98,7 +86,7 @@ module _ (n : ℕ) (was block : List ℕ) (valid : IsHeader was n) (rewrites : R
   }
 
 -- a header that names more blocks
-module _ (was block : List ℕ) (lbn count : ℕ) (appends : AppendsBlocks was block lbn count) where
+module _ (was block : List ℕ) (more lbn count : ℕ) (appends : NamesInHand was block more lbn count) where
   pub segment-more : segment_number block ≡ segment_number was
   unfolding segment_number
   segment-more = appends.rest.segment_stays
@@ -111,15 +99,15 @@ module _ (was block : List ℕ) (lbn count : ℕ) (appends : AppendsBlocks was b
   unfolding blocks_named
   blocks-more = appends.blocks
 
-  pub pointers-more : HasPointersMore (pointers_more was lbn count) was block
+  pub pointers-more : HasPointersMore more was block
   pointers-more = record {
-    pointers = ap (λ (runs : List (ℕ × ℕ)). length runs) appends.pointers ∙ runs-more (runs_of (map_area was)) lbn count;
+    pointers = appends.pointers;
     places_are =
         ap (λ (m : ℕ). min m ((length (map_area block) - 10) / 2) / 2) appends.rest.most
         ∙ ap (λ (l : ℕ). min (most_words (map_area was)) ((l - 10) / 2) / 2) appends.rest.size;
   }
 
-  pub pointers-fit : pointers_more was lbn count ≤ room_in was
+  pub pointers-fit : more ≤ room_in was
   pointers-fit =
       let has = pointers-more in
       let within = length-runs_of-le (map_area block) appends.rest.valid in
@@ -127,7 +115,7 @@ module _ (was block : List ℕ) (lbn count : ℕ) (appends : AppendsBlocks was b
 
 -- it is a file's last, in hand
 module _ (s : Structure) (tail : Tail) (block : List ℕ) (lbn count : ℕ) (old : Disk) (for : IsStructureFor s old) (last : HoldsLast s tail old)
-    (given : MayBeGiven (home_of s) lbn count old) (appends : AppendsBlocks tail.block block lbn count) where
+    (given : MayBeGiven (home_of s) lbn count old) (all : NamesAll tail.block block lbn count) where
   abbrev home : HomeFields
   home = home_of s
 
@@ -138,7 +126,10 @@ module _ (s : Structure) (tail : Tail) (block : List ℕ) (lbn count : ℕ) (old
   n = tail.number
 
   abbrev more : ℕ
-  more = pointers_more tail.block lbn count
+  more = all.more
+
+  abbrev appends : NamesInHand tail.block block more lbn count
+  appends = all.names
 
   abbrev t : Table
   t = table_of old.image home
@@ -157,14 +148,14 @@ module _ (s : Structure) (tail : Tail) (block : List ℕ) (lbn count : ℕ) (old
     good = record {
       valid = valid;
       sequence = sequence-again n tail.block block last.header.valid appends.header ∙ ap file_sequence was-is;
-      segment = segment-more tail.block block lbn count appends ∙ ap segment_number was-is;
+      segment = segment-more tail.block block more lbn count appends ∙ ap segment_number was-is;
     }
 
     no-link : (link_of block).number ≡ 0
-    no-link = ap (λ l. l.number) (link-more tail.block block lbn count appends) ∙ last.no_link
+    no-link = ap (λ l. l.number) (link-more tail.block block more lbn count appends) ∙ last.no_link
 
     blocks-are : blocks_named block ≡ blocks_named (t.header n) ++ range_with_len lbn count
-    blocks-are = blocks-more tail.block block lbn count appends ∙ ap (λ (b : List ℕ). blocks_named b ++ range_with_len lbn count) was-is
+    blocks-are = blocks-more tail.block block more lbn count appends ∙ ap (λ (b : List ℕ). blocks_named b ++ range_with_len lbn count) was-is
 
     pub becomes : MayBecome (volume_of old.image home) n block
     unfolding volume_of
@@ -186,7 +177,7 @@ module _ (s : Structure) (tail : Tail) (block : List ℕ) (lbn count : ℕ) (old
       };
       last = (last.is_last honest).no_link;
       no_link = no-link;
-      pointers = subst (λ (b : List ℕ). HasPointersMore more b block) was-is (pointers-more tail.block block lbn count appends);
+      pointers = subst (λ (b : List ℕ). HasPointersMore more b block) was-is (pointers-more tail.block block more lbn count appends);
       blocks = blocks-are;
     }
 
@@ -244,21 +235,21 @@ module _ (s : Structure) (tail : Tail) (block : List ℕ) (lbn count : ℕ) (old
 
     -- it is written
     module _ (place : ℕ) (new : Disk) (at : place ≡ header_lbn (index_in s) n) where
-      moment : Naming s tail lbn count old (set old.image place block)
+      moment : Naming s tail more count old (set old.image place block)
       moment honest =
           subst (HasStore home then) (ap (λ (x : Index). set old.image (header_lbn x n) block) (sym (for.keeps honest).index_is) ∙ ap (λ (l : ℕ). set old.image l block) (sym at))
           (has-store honest)
 
       pub fails-name : (new ≡ with_transfer false old) ⊎ (new ≡ with_transfer false (with_block_at place block old)) → FailsToName s tail lbn count old new
-      fails-name is = record { fits = pointers-fit tail.block block lbn count appends; went = went_failed_write (Naming s tail lbn count old) old new place block is moment }
+      fails-name is = record { more = more; few = all.few; fits = pointers-fit tail.block block more lbn count appends; went = went_failed_write (Naming s tail more count old) old new place block is moment }
 
       module _ (after : IndexFile) (behind : index_kept after ≡ index_behind (tail.file.number == 1) (index_in s) lbn count) (left : room s.index ≤ room after + count)
           (is : new ≡ with_transfer true (with_block_at place block old)) where
         abbrev e : Structure
         e = record s { index = after }
 
-        went : Went (Naming s tail lbn count old) old new 1 0
-        went = went_write (Naming s tail lbn count old) old new place block is moment
+        went : Went (Naming s tail more count old) old new 1 0
+        went = went_write (Naming s tail more count old) old new place block is moment
 
         image : IsTrue old.honest → new.image ≡ next
         image = image-is s after n block lbn count old new for within place at is
@@ -275,7 +266,9 @@ module _ (s : Structure) (tail : Tail) (block : List ℕ) (lbn count : ℕ) (old
         pub names-run : NamesRun s e tail (record tail { block = block }) lbn count old new
         names-run = record {
           file_is = refl;
-          fits = pointers-fit tail.block block lbn count appends;
+          more = more;
+          few = all.few;
+          fits = pointers-fit tail.block block more lbn count appends;
           holds = record {
             header = record {
               in_use = subst (λ (x : Index). is_in_use x n ≡ true) (sym behind) (in_use-behind (f == 1) (index_in s) lbn count n s refl last.header.in_use);
@@ -285,8 +278,8 @@ module _ (s : Structure) (tail : Tail) (block : List ℕ) (lbn count : ℕ) (old
                   sym (written before).header ∙ ap (λ (i : Image). (table_of i home).header n) (sym (image before))
                   ∙ ap (λ (u : Table). u.header n) (sym (table-of e new for-new honest));
             };
-            no_link = ap (λ l. l.number) (link-more tail.block block lbn count appends) ∙ last.no_link;
-            few = let same = segment-more tail.block block lbn count appends in omega (arith, same, last.few);
+            no_link = ap (λ l. l.number) (link-more tail.block block more lbn count appends) ∙ last.no_link;
+            few = let same = segment-more tail.block block more lbn count appends in omega (arith, same, last.few);
             is_last = λ honest. let before = was-honest honest in subst (λ (i : Image). IsLastOf (table_of i home) f n) (sym (image before)) (last-named before);
           };
           bitmap = refl;

@@ -4,12 +4,12 @@ use Rattle.f11_dev.specs.Disk.{Disk}
 use Rattle.f11_dev.specs.Image.{Image}
 use Rattle.f11_home.specs.Home.{HomeFields}
 use Rattle.f11_map.specs.HeaderBlock.{segment_number}
-use Rattle.f11_store.specs.File.{File, need}
+use Rattle.f11_store.specs.File.{File, need, run_pointers}
 use Rattle.f11_store.specs.Store.{Store, free_headers, free_slots}
 use Rattle.f11_store.specs.declared.refusals.Refusal.{Refusal}
 use Rattle.f11_store.specs.declared.refusals.Refusal.TheVariants.{Damaged}
 use Rattle.f11_files.specs.Answers.{Breaks}
-use Rattle.f11_store.specs.Pieces.{with_more_free, file_numbered, MayGrowAs}
+use Rattle.f11_store.specs.Pieces.{with_more_free, file_numbered, HasRoom, MayGrowAs}
 use Rattle.f11_image_store.specs.FileLaws.{room_in}
 use Rattle.f11_files.specs.Extending.Growing.{Taking}
 use Rattle.f11_files.specs.Extending.Header.{AppendingRun}
@@ -20,7 +20,6 @@ use Rattle.f11_files.specs.declared.structure.Structure.{Structure}
 use Rattle.f11_files.specs.declared.extend.tail.Tail.{Tail}
 use Rattle.f11_files.proofs.Removing.Freeing.{breaks-within, writes-none}
 use Rattle.f11_files.proofs.Extending.Growing.{breaks-weaker, headers-here, room-here, takes-within}
-use Rattle.f11_store.proofs.PieceLemmas.{HasRoom, has-room}
 
 -- blocks that are free take no header
 same-headers : (s : Store) (count : ℕ) → free_headers (with_more_free s count) ≡ free_headers s
@@ -28,7 +27,7 @@ unfolding free_slots
 same-headers s count = refl
 
 module _ (s : Structure) (tail : Tail) (lbn count : ℕ) (old : Disk) (for : IsStructureFor s old) (last : HoldsLast s tail old) (given : MayBeGiven (home_of s) lbn count old)
-    (full : room_in tail.block ≡ 0) (may : IsTrue old.honest → MayGrowAs (with_more_free (store_on s old) count) tail.file.number count) where
+    (full : room_in tail.block ≡ 0) (may : IsTrue old.honest → MayGrowAs (with_more_free (store_on s old) count) tail.file.number count (run_pointers count)) where
   abbrev home : HomeFields
   home = home_of s
 
@@ -48,10 +47,10 @@ module _ (s : Structure) (tail : Tail) (lbn count : ℕ) (old : Disk) (for : IsS
     headers : length file.held ≡ segment_number tail.block + 1
     headers = headers-here s tail old for last honest
 
-    has : HasRoom (with_more_free st count) file count
-    has = has-room (with_more_free st count) file count (may honest).places.no_cause
+    has : HasRoom (with_more_free st count) file count (run_pointers count)
+    has = (may honest).places.has_room
 
-    needed : 1 ≤ need file.room count
+    needed : 1 ≤ need file.room (run_pointers count)
     needed = omega (arith, no-room, given.some)
 
     is-early : segment_number tail.block < 255
@@ -66,7 +65,7 @@ module _ (s : Structure) (tail : Tail) (lbn count : ℕ) (old : Disk) (for : IsS
 
   -- a header was taken for it
   pub taken-moment : (image : Image) → Taking home 0 1 st old image → P image
-  taken-moment image is honest = record { sound = (is honest).sound; stage = inl (takes-within 0 0 1 (need file.room count) st (store_of image home) (omega arith) (needed honest) (is honest).takes) }
+  taken-moment image is honest = record { sound = (is honest).sound; stage = inl (takes-within 0 0 1 (need file.room (run_pointers count)) st (store_of image home) (omega arith) (needed honest) (is honest).takes) }
 
   pub fails-enter : (mid : Disk) (r : Refusal) → Breaks (Taking home 0 1 st old) 3 r old mid → Breaks P 4 r old mid
   fails-enter mid r breaks = breaks-within (λ _. omega arith) (breaks-weaker taken-moment breaks)

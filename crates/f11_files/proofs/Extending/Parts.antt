@@ -82,7 +82,10 @@ fewer-behind s after headers fewer lbn count behind may =
     stands-along s after after headers headers fewer (range_with_len lbn count) [] (λ l _. refl) (behind.within headers) (stands-within after after headers fewer [] may (stands-same after))
 
 pub grows-behind : (s after : Structure) (tail later : Tail) (lbn count : ℕ) → later.number ≡ tail.number → StaysBehind s after lbn count → GrowsWithin s tail (range_with_len lbn count) after later
-grows-behind s after tail later lbn count same behind = fewer-behind s after (growth_headers s tail) (growth_headers after later) lbn count behind (same-headers s after tail later same behind.bits)
+grows-behind s after tail later lbn count same behind = record {
+  grown = fewer-behind s after (growth_headers s tail) (growth_headers after later) lbn count behind (same-headers s after tail later same behind.bits);
+  all = behind.within;
+}
 
 -- a slot is taken, and then the last header links to its
 pub grows-taken-behind : (s t u : Structure) (tail : Tail) (n lbn count : ℕ) → TakesSlot s t n → StaysBehind t u lbn count
@@ -94,23 +97,36 @@ grows-taken-behind s t u tail n lbn count taken behind =
     let same : (m : ℕ) → after m ≡ true → before m ≡ true = λ m is. ap (λ (b : List (List ℕ)). (m == n) || not (bit_of_slot b m)) (sym behind.bits) ∙ is in
     stands-along s t u (growth_headers s tail) before after run run (λ l out. out) (grows-taken s t tail n run taken) (fewer-behind t u before after lbn count behind same)
 
+pub all-taken-behind : (s t u : Structure) (n lbn count : ℕ) → TakesSlot s t n → StaysBehind t u lbn count → (headers : ℕ → Bool) → StandsWithin s headers (range_with_len lbn count) u headers
+all-taken-behind s t u n lbn count taken behind headers =
+    let run = range_with_len lbn count in
+    stands-along s t u headers headers headers run run (λ l out. out) (stands-within s t headers headers run (λ m is. is) (taken-alike s t n taken)) (behind.within headers)
+
 -- nothing is done
 pub grows-same : (s t : Structure) (tail later : Tail) (others : List ℕ) → t ≡ s → later.number ≡ tail.number → GrowsWithin s tail others t later
 grows-same s t tail later others same number =
-    subst (λ (x : Structure). GrowsWithin s tail others x later) (sym same)
-    (stands-within s s (growth_headers s tail) (growth_headers s later) others (same-headers s s tail later number refl) (stands-same s))
+    subst (λ (x : Structure). GrowsWithin s tail others x later) (sym same) (record {
+      grown = stands-within s s (growth_headers s tail) (growth_headers s later) others (same-headers s s tail later number refl) (stands-same s);
+      all = λ headers. stands-within s s headers headers others (λ m is. is) (stands-same s);
+    })
 
 -- blocks are marked used
 pub grows-marked : (s t : Structure) (tail : Tail) (others : List ℕ) → index_in t ≡ index_in s → StandsAlike s t → GrowsWithin s tail others t tail
-grows-marked s t tail others same alike = stands-within s t (growth_headers s tail) (growth_headers t tail) others (same-headers s t tail tail refl (ap (λ (x : Index). x.bitmap) same)) alike
+grows-marked s t tail others same alike = record {
+  grown = stands-within s t (growth_headers s tail) (growth_headers t tail) others (same-headers s t tail tail refl (ap (λ (x : Index). x.bitmap) same)) alike;
+  all = λ headers. stands-within s t headers headers others (λ m is. is) alike;
+}
 
 -- one step of growth, and then another
 pub grows-then : (s t u : Structure) (tail later last : Tail) (others more : List ℕ) → ((l : ℕ) → is_in others l ≡ false → is_in more l ≡ false) → GrowsWithin s tail others t later → GrowsWithin t later more u last → GrowsWithin s tail others u last
-grows-then s t u tail later last others more fewer one two = stands-along s t u (growth_headers s tail) (growth_headers t later) (growth_headers u last) others more fewer one two
+grows-then s t u tail later last others more fewer one two = record {
+  grown = stands-along s t u (growth_headers s tail) (growth_headers t later) (growth_headers u last) others more fewer one.grown two.grown;
+  all = λ headers. stands-along s t u headers headers headers others more fewer (one.all headers) (two.all headers);
+}
 
 pub growth-then : (s t : Structure) (tail later : Tail) (others more : List ℕ) {a b c : Disk} → GrowsWithin s tail others t later → ((l : ℕ) → is_in others l ≡ false → is_in more l ≡ false) → WritesGrowth s tail others a b → WritesGrowth t later more b c
     → WritesGrowth s tail others a c
-growth-then s t tail later others more stands fewer one two = to-then s t (growth_headers s tail) (growth_headers t later) others more stands fewer one two
+growth-then s t tail later others more stands fewer one two = to-then s t (growth_headers s tail) (growth_headers t later) others more stands.grown fewer one two
 
 -- no header is written: bits of the bitmap,
 pub growth-marked : (s : Structure) (tail : Tail) (others : List ℕ) {a b : Disk} → WritesParts s no_header a b → WritesGrowth s tail others a b

@@ -84,7 +84,7 @@ module _ (s : Structure) (from most : ℕ) (old : Disk) (for : IsStructureFor s 
     front-free : (k : ℕ) → lbn ≤ k → k < lbn + part → is_free old.image (storage_bitmap old.image home) k ≡ true
     front-free k low high = ap (λ (b : Bitmap). is_free old.image b k) (sym (bitmap honest)) ∙ each k low (omega (arith, high, within))
 
-    front-keeps : KeepsButFree home old.image image
+    pub front-keeps : KeepsButFree home old.image image
     front-keeps = used-keeps old.image image home lbn part (for.sound honest) marks-there
 
     -- the last block of the front is free, and so in the volume
@@ -94,7 +94,7 @@ module _ (s : Structure) (from most : ℕ) (old : Disk) (for : IsStructureFor s 
       | inr past ↦ let free = front-free (lbn + part - 1) (omega (arith, some)) (omega (arith, some)) in let used = is_free-past old.image (storage_bitmap old.image home) (lbn + part - 1) past in absurd cc
     ]
 
-    front-store : store_of image home ≡ with_fewer_free st part
+    pub front-store : store_of image home ≡ with_fewer_free st part
     front-store = fewer-free old.image image home lbn part front-keeps marks-there front-inside front-free
 
     front-takes : IsTaking home most 0 st image
@@ -103,11 +103,11 @@ module _ (s : Structure) (from most : ℕ) (old : Disk) (for : IsStructureFor s 
       takes = subst (TakesSome most 0 st) (sym front-store) (takes-blocks st part most (omega (arith, within, asked)));
     }
 
-    front-unreferenced : AreUnreferenced (volume_of image home) lbn part
+    pub front-unreferenced : AreUnreferenced (volume_of image home) lbn part
     front-unreferenced = taken-unreferenced old.image image home lbn part (for.sound honest) marks-there front-inside front-free
 
   -- the images that stand while a run is marked used
-  run-moment : (lbn count : ℕ) → count ≤ most → (IsTrue old.honest → (k : ℕ) → lbn ≤ k → k < lbn + count → is_free old.image (bitmap_in s) k ≡ true)
+  pub run-moment : (lbn count : ℕ) → count ≤ most → (IsTrue old.honest → (k : ℕ) → lbn ≤ k → k < lbn + count → is_free old.image (bitmap_in s) k ≡ true)
       → (image : Image) → Changing old.honest false (bitmap_in s) lbn count old.image image → Taking home most 0 st old image
   run-moment lbn count asked each image is honest =
       let marking = is.marking honest in front-takes lbn count marking.part image marking.some marking.within asked honest (each honest) marking.marks

@@ -26,7 +26,7 @@ use Rattle.f11_files.proofs.Finding.First.{table-of}
 use Rattle.f11_files.proofs.Removing.Freeing.{stays-for}
 
 -- blocks that were taken and aren't
-fewer-more : (s : Store) (count : ℕ) → count ≤ s.free → with_more_free (with_fewer_free s count) count ≡ s
+pub fewer-more : (s : Store) (count : ℕ) → count ≤ s.free → with_more_free (with_fewer_free s count) count ≡ s
 fewer-more s count few = let sum : s.free - count + count ≡ s.free = omega (arith, few) in ap (λ (n : ℕ). record s { free = n }) sum
 
 -- the transfers of taking a run, of making zeros and of naming it

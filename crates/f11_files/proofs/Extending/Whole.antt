@@ -1,5 +1,5 @@
 -- A file that is extended: its headers are read, those that it may need readied, and then it grows by runs.
-use Rattle.std.proofs.Common.{◌≡◌, ◌≢◌, ◌≤◌, ◌<◌, ◌+◌, ◌-◌, ◌*◌, ◌/◌, ◌==◌, ◌&&◌, ◌||◌, ℕ, zero, suc, Bool, true, false, nat_lt, cond, get_or, IsTrue, List, [], ◌∷◌, ◌++◌, Option, Some, None, option_map, length, ltb, eqb, Fits, w32, refl, sym, ap, subst, ◌∙◌, arith}
+use Rattle.std.proofs.Common.{◌≡◌, ◌≢◌, ◌≤◌, ◌<◌, ◌+◌, ◌-◌, ◌*◌, ◌/◌, ◌==◌, ◌&&◌, ◌||◌, ℕ, zero, suc, Bool, true, false, not, nat_lt, cond, get_or, IsTrue, List, [], ◌∷◌, ◌++◌, Option, Some, None, option_map, length, ltb, eqb, Fits, w32, refl, sym, ap, subst, ◌∙◌, arith}
 use Rattle.std.proofs.lemmas.Option.{same_Some}
 use Rattle.f11_dev.specs.Disk.{Disk}
 use Rattle.f11_dev.specs.Image.{Image, IsImage}
@@ -77,11 +77,11 @@ same-last t u f n bytes whole same last few =
     subst (IsLastOf u f) (same_Some found.0 n (sym here ∙ there)) found.1
 
 -- where no cause stands against a call, its refusal fails the volume
-fatal-none : (honest : Bool) (s : Store) (r : Refusal) → IsRight false honest [] r → is_fatal r ≡ true
+pub fatal-none : (honest : Bool) (s : Store) (r : Refusal) → IsRight false honest [] r → is_fatal r ≡ true
 fatal-none honest s r right = fatal-enter honest s r (right-anyway right) (other (eqb (refusal_number r) 17) refl)
   where
     other : (same : Bool) → eqb (refusal_number r) 17 ≡ same → same ≡ false
-    other true is = let no : false ≡ true = right.among (ap (λ (k : ℕ). ltb 1 k && ltb k 19) (eqb-true (refusal_number r) 17 is)) in absurd cc
+    other true is = let no : false ≡ true = right.among (ap (λ (k : ℕ). ltb 1 k && not (eqb k 19 || eqb k 20)) (eqb-true (refusal_number r) 17 is)) in absurd cc
     other false is = refl
 
 -- headers are readied, as many where the disk is honest
@@ -117,7 +117,7 @@ unfound home f n r old read fails =
     file = file_named s f
 
     want : refusal_number r ≢ 18
-    want is = no (eqb 6 (refusal_number r)) refl (fails.right.among (ap (λ (k : ℕ). ltb 1 k && ltb k 19) is))
+    want is = no (eqb 6 (refusal_number r)) refl (fails.right.among (ap (λ (k : ℕ). ltb 1 k && not (eqb k 19 || eqb k 20)) is))
       where
         no : (same : Bool) → eqb 6 (refusal_number r) ≡ same → (same || false) ≡ true → ⊥
         no true same is_among = let six = eqb-true 6 (refusal_number r) same in omega (arith, six, is)

@@ -1,17 +1,19 @@
 -- Blocks that were made zeros, before a file's last header names them: what is in hand stays so.
-use Rattle.std.proofs.Common.{◌≡◌, ◌+◌, ◌<◌, ◌≤◌, ◌^◌, ℕ, IsTrue, sym, ap, subst, ◌∙◌, arith}
+use Rattle.std.proofs.Common.{◌≡◌, ◌+◌, ◌<◌, ◌≤◌, ◌==◌, ◌^◌, ℕ, zero, suc, Bool, IsTrue, if◌then◌else◌, refl, sym, ap, subst, ◌∙◌, arith}
 use Rattle.f11_bits.specs.Bitmap.{IsBitmap}
 use Rattle.f11_dev.specs.Disk.{Disk}
 use Rattle.f11_home.specs.Home.{HomeFields}
 use Rattle.f11_index.specs.Headers.{IsLastOf}
 use Rattle.f11_index.specs.Table.{Table, table_of}
+use Rattle.f11_store.specs.File.{run_pointers}
+use Rattle.f11_store.proofs.StoreLemmas.{other_number}
 use Rattle.f11_volume.specs.Volume.{Volume, volume_of}
 use Rattle.f11_writes.specs.NameLaws.{AreUnreferenced}
 use Rattle.f11_writes.proofs.NameLemmas.{unreferenced-stay}
 use Rattle.f11_image_store.specs.FileLaws.{room_in}
 use Rattle.f11_files.specs.Extending.Growing.{SameFree}
 use Rattle.f11_files.specs.Structure.{bitmap_in, home_of, FitsOn, IsStructureFor}
-use Rattle.f11_files.specs.Extending.Tail.{HoldsLast, MayBeGiven, HasNoPlace}
+use Rattle.f11_files.specs.Extending.Tail.{HoldsLast, MayBeGiven, HasNoPlace, places_next}
 use Rattle.f11_files.specs.Extending.Zeros.{Zeroes}
 use Rattle.f11_files.specs.declared.structure.Structure.{Structure}
 use Rattle.f11_files.specs.declared.extend.tail.Tail.{Tail}
@@ -19,12 +21,19 @@ use Rattle.f11_files.proofs.Finding.First.{table-of}
 use Rattle.f11_files.proofs.WriteLemmas.{keeps-volume}
 
 -- a bitmap says of no more than 516,096 blocks
-low-block : (s : Structure) (lbn count : ℕ) → lbn + count ≤ (bitmap_in s).size → 0 < count → lbn < 2 ^ 24
-low-block s lbn count within some =
+low-block : (s : Structure) (lbn count : ℕ) → lbn + count ≤ (bitmap_in s).size → lbn + count ≤ 2 ^ 24
+low-block s lbn count within =
     let is : IsBitmap (bitmap_in s) = s.storage.valid in
-    omega (arith, is.few, is.covered, within, some)
+    omega (arith, is.few, is.covered, within)
 
-module _ (s : Structure) (tail : Tail) (lbn count : ℕ) (old mid : Disk) (for : IsStructureFor s old) (last : HoldsLast s tail old) (within : lbn + count ≤ (bitmap_in s).size) (some : 0 < count) (few : count ≤ 256)
+-- too few places are none, where the header that comes next has enough
+places-none : (room p : ℕ) → room < p → p ≤ (if room == 0 then 102 else room) → (room ≡ 0) × (p ≤ 102)
+places-none zero p lacks fits = (refl, fits)
+places-none (suc room) p lacks fits =
+    let here : p ≤ suc room = subst (λ (b : Bool). p ≤ (if b then 102 else suc room)) (other_number (suc room) 0 (λ none. omega (arith, none))) fits in
+    absurd (omega (arith, lacks, here))
+
+module _ (s : Structure) (tail : Tail) (lbn count : ℕ) (old mid : Disk) (for : IsStructureFor s old) (last : HoldsLast s tail old) (within : lbn + count ≤ (bitmap_in s).size) (some : 0 < count) (fits : run_pointers count ≤ places_next tail.block)
     (unreferenced : IsTrue old.honest → AreUnreferenced (volume_of old.image (home_of s)) lbn count) (zeroed : Zeroes (home_of s) lbn count old mid) where
   abbrev home : HomeFields
   home = home_of s
@@ -62,14 +71,13 @@ module _ (s : Structure) (tail : Tail) (lbn count : ℕ) (old mid : Disk) (for :
   pub mid-given : MayBeGiven home lbn count mid
   mid-given = record {
     some = some;
-    short = few;
-    low = low-block s lbn count within some;
+    low = low-block s lbn count within;
     unreferenced = λ honest. let before = was-honest honest in unreferenced-stay old.image mid.image home lbn count (zeroed.keeps before).volume (unreferenced before);
     zeros = λ honest. zeroed.zeros (was-honest honest);
   }
 
   -- no place is left for them, and nothing was done
-  module _ (now : Disk) (after : Tail) (full : HasNoPlace tail after lbn count mid now) where
+  module _ (now : Disk) (after : Tail) (full : HasNoPlace tail after count mid now) where
     pub now-for : IsStructureFor s now
     now-for = subst (IsStructureFor s) (sym full.disk_is) mid-for
 
@@ -80,4 +88,8 @@ module _ (s : Structure) (tail : Tail) (lbn count : ℕ) (old mid : Disk) (for :
     now-given = subst (MayBeGiven home lbn count) (sym full.disk_is) mid-given
 
     pub now-full : room_in after.block ≡ 0
-    now-full = ap (λ (x : Tail). room_in x.block) full.tail_is ∙ full.room
+    now-full = ap (λ (x : Tail). room_in x.block) full.tail_is ∙ (places-none (room_in tail.block) (run_pointers count) full.lacks fits).0
+
+    -- a new one has places for them
+    pub now-fits : run_pointers count ≤ 102
+    now-fits = (places-none (room_in tail.block) (run_pointers count) full.lacks fits).1

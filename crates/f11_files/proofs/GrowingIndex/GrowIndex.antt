@@ -118,12 +118,12 @@ module _ (s : Structure) (n : ℕ) (end : FileEnd) (was last : List ℕ) (old : 
   stays-clearing new went = failed-stays s s _ old new for refl (fails-clearing new went).writes.went
 
   module _ (block : List ℕ) (cleared : Disk) (clears : ClearsMark s index_id was block old cleared) where
-    pub may-grow-index : IsTrue cleared.honest → MayGrowAs (store_on s cleared) 1 n
+    pub may-grow-index : IsTrue cleared.honest → MayGrowAs (store_on s cleared) 1 n n
     may-grow-index = may-grow s index_id n end was last old for room.room.ends file has block cleared clears
 
     pub fails-growing : (r : Refusal) (new : Disk)
         → Breaks (GrowingByRuns s 1 n cleared) ((store_on s cleared).bitmap_blocks + 5 * n + 3 * need (index_file (store_on s cleared)).room n + 3) r cleared new → FailsToGrowHeld home n r old new
-    fails-growing r new breaks = as-wanting (λ is. let no : true ≡ false = sym breaks.fatal ∙ ap (ltb 18) is in absurd cc)
+    fails-growing r new breaks = as-wanting (λ is. let no : true ≡ false = sym breaks.fatal ∙ ap (λ (k : ℕ). eqb k 19 || eqb k 20) is in absurd cc)
         (breaks-off (λ _. refl) breaks.fatal (fatal-right [] r old.honest breaks.fatal (λ honest. breaks.undamaged (clears.went.honest ∙ honest)))
         (as-whole (breaks-growing s index_id n end was last old for room.room.ends file has block cleared clears breaks)))
 

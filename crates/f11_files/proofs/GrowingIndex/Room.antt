@@ -1,5 +1,5 @@
 -- Room for more slots of the index file.
-use Rattle.std.proofs.Common.{◌≡◌, ◌≢◌, ◌+◌, ◌-◌, ◌<◌, ◌≤◌, ◌||◌, ◌&&◌, ℕ, Bool, true, false, cond, IsTrue, List, [], ◌∷◌, Some, None, ltb, eqb, refl, sym, ap, subst, ◌∙◌, arith}
+use Rattle.std.proofs.Common.{◌≡◌, ◌≢◌, ◌+◌, ◌-◌, ◌<◌, ◌≤◌, ◌||◌, ◌&&◌, ℕ, Bool, true, false, not, cond, IsTrue, List, [], ◌∷◌, Some, None, ltb, eqb, refl, sym, ap, subst, ◌∙◌, arith}
 use Rattle.std.proofs.lemmas.Bool.{eq-eqb, eqb-true, le-ltb, lt-ltb}
 use Rattle.f11_dev.specs.Disk.{Disk}
 use Rattle.f11_dev.specs.Image.{Image}
@@ -83,7 +83,7 @@ module _ (s : Structure) (old : Disk) (for : IsStructureFor s old) where
       let six : refusal_number r ≡ 6 = eqb-true (refusal_number r) 6 (sym test ∙ is) in
       record {
         right = right-damaged _ _ (λ honest.
-            let none : None ≡ Some r = ap (λ (b : Bool). first_of ((NoSuchFile ⇐ b) ∷ [])) (sym (is-there honest)) ∙ fails.right.cause honest (ap (λ (k : ℕ). ltb 1 k && ltb k 19) six) in
+            let none : None ≡ Some r = ap (λ (b : Bool). first_of ((NoSuchFile ⇐ b) ∷ [])) (sym (is-there honest)) ∙ fails.right.cause honest (ap (λ (k : ℕ). ltb 1 k && not (eqb k 19 || eqb k 20)) six) in
             absurd cc);
         reads = subst (λ (k : ℕ). ReadsAtMost (header_count (index_file whole)) old new k) (ap (λ (k : ℕ). cond (eqb k 19) 1 0) six) (reads-index (faults_of r) new fails.reads);
       }

@@ -1,7 +1,6 @@
 -- A file that is deleted.
 use Rattle.std.proofs.Common.{◌≡◌, ◌≢◌, ◌+◌, ◌-◌, ◌*◌, ◌<◌, ◌≤◌, ℕ, suc, Bool, true, false, cond, IsTrue, List, [], ◌∷◌, Option, Some, None, unwrap_or, length, refl, sym, ap, subst, ◌∙◌, arith}
 use Rattle.std.specs.List.{slice_get, sum_by}
-use Rattle.std.proofs.lemmas.Bool.Decides.{nat_tests}
 use Rattle.std.proofs.lemmas.List.{length-append, length-map}
 use Rattle.std.proofs.lemmas.List.Sums.{sum_by-cons}
 use Rattle.f11_dev.specs.Disk.{Disk}
@@ -34,7 +33,8 @@ use Rattle.f11_writes.specs.Kept.{file_in}
 use Rattle.f11_writes.specs.OtherSlots.{KeepsOtherSlots}
 use Rattle.f11_writes.proofs.OtherSlotLemmas.{turned, header-was}
 use Rattle.f11_image_store.specs.Allocation.{FreesBlocks, Kills, LosesHeaders}
-use Rattle.f11_files.specs.Answers.{IsRight, WritesAtMost, FailsToWrite, Meanwhile, is_fatal, is_cause}
+use Rattle.f11_files.specs.Answers.{IsRight, WritesAtMost, FailsToWrite, Meanwhile, is_fatal}
+use Rattle.f11_files.proofs.AnswerLemmas.{fatal-no-cause}
 use Rattle.f11_files.specs.Removing.Delete.{Deletes, FailsToDelete}
 use Rattle.f11_files.specs.Removing.Drops.{BreaksOff, DropsHeader, DropsBehind, HangsBehind, KeepsBlocksBut, headers_behind, drop_cost, tail_cost, without_header, without_headers}
 use Rattle.f11_image_store.specs.Freeing.{FreesMore, Freeing}
@@ -75,15 +75,12 @@ gone-moment home k old image is honest = let there = is honest in record { sound
 
 -- what was broken off was refused, whatever the causes
 pub breaks-right : {home : HomeFields} {s : Store} {most : ℕ} {r : Refusal} {old new : Disk} (causes : List Cause) → BreaksOff home s most r old new → IsRight false old.honest causes r
-breaks-right causes breaks = record {
+breaks-right {r = r} causes breaks = record {
   volume = λ is. let no : true ≡ false = sym breaks.fatal ∙ ap is_fatal is in cc;
-  among = λ is. absurd (fatal-cause _ breaks.fatal is);
-  cause = λ _ is. absurd (fatal-cause _ breaks.fatal is);
+  among = λ is. absurd (fatal-no-cause r breaks.fatal is);
+  cause = λ _ is. absurd (fatal-no-cause r breaks.fatal is);
   undamaged = breaks.undamaged;
 }
-  where
-    fatal-cause : (r : Refusal) → is_fatal r ≡ true → is_cause r ≡ true → ⊥
-    fatal-cause r fatal is = grind (arith, nat_tests)
 
 pub breaks-fails : {home : HomeFields} {s : Store} {most : ℕ} {r : Refusal} {old new : Disk} (causes : List Cause) (work : Work) → (IsTrue old.honest → first_of causes ≡ None)
     → ((image : Image) → Freeing home s old image → Meanwhile work home old image)

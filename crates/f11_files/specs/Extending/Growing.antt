@@ -30,21 +30,21 @@ pub record IsGrowing (home : HomeFields) (blocks headers : ℕ) (End : Store →
 abbrev pub Growing : HomeFields → ℕ → ℕ → (Store → Type 0) → Store → Disk → Image → Type 0
 Growing home blocks headers End s old image = IsTrue old.honest → IsGrowing home blocks headers End s image
 
--- File k of this store has n blocks of zeros more, as slots where it is the index file, after so many transfers at most and three for
--- each header added.
-pub record Grew (P : Image → Type 0) (home : HomeFields) (s : Store) (k n most : ℕ) (old new : Disk) : Type 0 where
-  pub grows : IsTrue old.honest → GrowsAs s k n (store_of new.image home)
+-- File k of this store has n blocks of zeros more in so many pointers at most, as slots where it is the index file, after so many transfers
+-- at most and three for each header added.
+pub record Grew (P : Image → Type 0) (home : HomeFields) (s : Store) (k n pointers most : ℕ) (old new : Disk) : Type 0 where
+  pub grows : IsTrue old.honest → GrowsAs s k n pointers (store_of new.image home)
   pub transfers : ℕ
   pub went : Went P old new transfers 0
   pub few : (honest : IsTrue old.honest) → transfers ≤ most + 3 * (grows honest).grows.added
 
--- what stands while file k grows by n blocks or fewer of them
-abbrev pub GrowingBy : HomeFields → Store → ℕ → ℕ → Disk → Image → Type 0
-GrowingBy home s k n old = Growing home n (need (file_numbered s k).room n) (GrowsSome s k n) s old
+-- what stands while file k grows by n blocks or fewer of them, in so many pointers at most
+abbrev pub GrowingBy : HomeFields → Store → ℕ → ℕ → ℕ → Disk → Image → Type 0
+GrowingBy home s k n pointers old = Growing home n (need (file_numbered s k).room pointers) (GrowsSome s k n pointers) s old
 
 -- and where the blocks were marked used before: of the store with them free
-abbrev pub GrowingInto : HomeFields → Store → Store → ℕ → ℕ → Disk → Image → Type 0
-GrowingInto home s free k n old = Growing home 0 (need (file_numbered s k).room n) (GrowsAs free k n) s old
+abbrev pub GrowingInto : HomeFields → Store → Store → ℕ → ℕ → ℕ → Disk → Image → Type 0
+GrowingInto home s free k n pointers old = Growing home 0 (need (file_numbered s k).room pointers) (GrowsAs free k n pointers) s old
 
 -- the blocks that are free in an image are those of another
 abbrev pub SameFree : HomeFields → Image → Image → Type 0

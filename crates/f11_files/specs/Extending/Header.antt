@@ -1,6 +1,6 @@
 -- A new last header of a file, and what is done with a run of blocks: the last header names them, or links to a new one that does (Files-11
 -- On-Disk Structure Level 1, "File Header" and "Map Area"; profile: what a header that is added says).
-use Rattle.std.specs.Prelude.{◌≡◌, [], ℕ, ◌+◌, ◌≤◌, true, IsTrue, List, ◌∷◌, replicate}
+use Rattle.std.specs.Prelude.{◌≡◌, [], ℕ, ◌+◌, ◌-◌, ◌<◌, ◌≤◌, true, IsTrue, List, ◌∷◌, replicate}
 use Rattle.std.specs.List.{range_with_len}
 use Rattle.f11_chain.specs.Calls.{HoldsHeader}
 use Rattle.f11_dev.specs.Disk.{Disk}
@@ -12,6 +12,7 @@ use Rattle.f11_map.specs.HeaderBlock.{segment_number, blocks_named, LinksToNone}
 use Rattle.f11_index.specs.Kept.{room}
 use Rattle.f11_index.specs.Table.{table_of}
 use Rattle.f11_store.specs.Changes.{with_slots}
+use Rattle.f11_store.specs.File.{run_pointers}
 use Rattle.f11_store.specs.Store.{least_free}
 use Rattle.f11_store.specs.declared.files.FileId.{FileId}
 use Rattle.f11_image_store.specs.Allocation.{AddsFileless, AddsZeroSlots, NamesMore}
@@ -29,7 +30,7 @@ use Rattle.f11_files.specs.declared.structure.Structure.{Structure}
 use Rattle.f11_files.specs.declared.extend.tail.Tail.{Tail}
 
 -- A block is a valid header for the run, in a file behind its last one: it has the owner and the protection of the file, no
--- characteristics, attributes and an ident area of zeros, one pointer in 102 places, and no link.
+-- characteristics, attributes and an ident area of zeros, no more pointers in 102 places than one run takes, and no link.
 pub record IsExtension (tail : Tail) (id : FileId) (lbn count : ℕ) (block : List ℕ) : Type 0 where
   pub valid : IsHeader block id.number
   pub sequence : file_sequence block ≡ id.sequence
@@ -41,8 +42,9 @@ pub record IsExtension (tail : Tail) (id : FileId) (lbn count : ℕ) (block : Li
   pub segment : segment_number block ≡ segment_number tail.block + 1
   pub no_link : LinksToNone block
   pub names : blocks_named block ≡ range_with_len lbn count
-  pub pointer : pointers_in block ≡ 1
-  pub room : room_in block ≡ 101
+  pub some : 0 < pointers_in block
+  pub few : pointers_in block ≤ run_pointers count
+  pub room : room_in block ≡ 102 - pointers_in block
 
 -- The bit of header n's slot, which was 0, is 1; else the index file and where the storage bitmap is are kept as they were.
 pub record TakesSlot (s after : Structure) (n : ℕ) : Type 0 where
@@ -70,7 +72,8 @@ pub record EntersHeader (s after : Structure) (tail : Tail) (lbn count : ℕ) (i
 
 -- what stands while a file is given so many blocks that were marked used before
 abbrev pub AppendingRun : Structure → Tail → ℕ → Disk → Image → Type 0
-AppendingRun s tail count old = GrowingInto (home_of s) (store_on s old) (with_more_free (store_on s old) count) tail.file.number count old
+AppendingRun s tail count old =
+    GrowingInto (home_of s) (store_on s old) (with_more_free (store_on s old) count) tail.file.number count (run_pointers count) old
 
 -- It has them, from `lbn` on: its last header is in hand.
 pub record AppendsRun (s after : Structure) (tail later : Tail) (lbn count most : ℕ) (old new : Disk) : Type 0 where
@@ -84,4 +87,6 @@ pub record AppendsRun (s after : Structure) (tail later : Tail) (lbn count most 
       NamesMore tail.file.number (ownership_of tail) (range_with_len lbn count) (table_of old.image (home_of s))
       (table_of new.image (home_of s))
   pub slots : IsTrue old.honest → AddsZeroSlots (table_of old.image (home_of s)) (table_of new.image (home_of s))
-  pub grew : Grew (AppendingRun s tail count old) (home_of s) (with_more_free (store_on s old) count) tail.file.number count most old new
+  pub grew :
+      Grew (AppendingRun s tail count old) (home_of s) (with_more_free (store_on s old) count) tail.file.number count (run_pointers count) most old
+      new

@@ -24,7 +24,7 @@ use Rattle.f11_files.specs.Answers.{Meanwhile, Does, FailsOrWants, FailsToWrite,
 use Rattle.f11_files.specs.GrowingIndex.Headroom.{ReadiesHeaders}
 use Rattle.f11_files.specs.Extending.Growing.{Grew, GrowingBy}
 use Rattle.f11_files.specs.Operations.{extend_causes, held_causes}
-use Rattle.f11_store.specs.Pieces.{file_numbered, grow_work_of}
+use Rattle.f11_store.specs.Pieces.{file_numbered, piece_work_of}
 use Rattle.f11_image_store.specs.StoreOf.{store_of}
 use Rattle.f11_files.specs.Structure.{bitmap_in, home_of, store_on}
 use Rattle.f11_files.specs.Extending.Tail.{HoldsLast, ownership_of, whose}
@@ -56,18 +56,18 @@ pub record AddsRun (s after : Structure) (tail later : Tail) (from most end coun
       (volume_of new.image (home_of s))
   pub slots : IsTrue old.honest → AddsZeroSlots (table_of old.image (home_of s)) (table_of new.image (home_of s))
   pub grew :
-      Grew (GrowingBy (home_of s) (store_on s old) tail.file.number most old) (home_of s) (store_on s old) tail.file.number count
+      Grew (GrowingBy (home_of s) (store_on s old) tail.file.number most most old) (home_of s) (store_on s old) tail.file.number count count
       (end / 4096 - from / 4096 + 5 * count) old new
 
 -- what stands while file k grows by n blocks
 abbrev pub GrowingByRuns : Structure → ℕ → ℕ → Disk → Image → Type 0
-GrowingByRuns s k n old = Meanwhile (grow_work_of k (file_numbered (store_on s old) k).room n) (home_of s) old
+GrowingByRuns s k n old = Meanwhile (piece_work_of k (file_numbered (store_on s old) k).room n n) (home_of s) old
 
 -- It has grown by them: headers that were added say this ownership.
 pub record GrowsByRuns (s : Structure) (k : ℕ) (ownership : Uic × ℕ) (n : ℕ) (old new : Disk) : Type 0 where
   pub gains : IsTrue old.honest → GainsBlocksAs k ownership n (volume_of old.image (home_of s)) (volume_of new.image (home_of s))
   pub slots : IsTrue old.honest → AddsZeroSlots (table_of old.image (home_of s)) (table_of new.image (home_of s))
-  pub grew : Grew (GrowingByRuns s k n old) (home_of s) (store_on s old) k n ((bitmap_in s).size / 4096 + 5 * n) old new
+  pub grew : Grew (GrowingByRuns s k n old) (home_of s) (store_on s old) k n n ((bitmap_in s).size / 4096 + 5 * n) old new
 
 -- A file was extended by n blocks of zeros, the lowest free ones, with headers that are free: what is left of the cost, but for a look at
 -- its right, and at each of its headers. A header that was added says the owner and the protection of the file's first one.

@@ -7,8 +7,8 @@ ghost use Rattle.f11_header.specs.Fields.{characteristics, check_word, map_area}
 ghost use Rattle.f11_header.specs.Header.{header_in, header_with, holds_header};
 ghost use Rattle.f11_header.specs.MapFields.{segment};
 ghost use Rattle.f11_store.specs.Changes.{with_delete_mark, with_replacement};
-ghost use Rattle.f11_store.specs.File.{with_mark, without_contiguous};
-ghost use Rattle.f11_store.specs.Lags.{with_no_mark};
+ghost use Rattle.f11_store.specs.File.{with_contiguous, with_mark, without_contiguous};
+ghost use Rattle.f11_store.specs.Lags.{with_contiguous_mark, with_no_mark};
 
 use f11_bytes::Block;
 use f11_header::{Header, HeaderMut};
@@ -16,6 +16,9 @@ use f11_store::{Change, FileId};
 
 /// The bit of the characteristics by which a file is marked for delete (SC.MDL).
 const MARKED: u16 = 0o100000;
+
+/// The bit of the characteristics by which a file is marked contiguous (UC.CON).
+const CONTIGUOUS: u16 = 0o200;
 
 /// All bits of the characteristics but the contiguous mark (UC.CON).
 const NOT_CONTIGUOUS: u16 = 0o177577;
@@ -76,6 +79,13 @@ fn marked(block: &Block) -> u16
     Header::new(block).characteristics() | MARKED
 }
 
+/// The characteristics with the contiguous mark.
+fn contiguous(block: &Block) -> u16
+    ensures { result ≡ with_contiguous (characteristics block.now) }
+{
+    Header::new(block).characteristics() | CONTIGUOUS
+}
+
 /// The characteristics without the contiguous mark.
 fn not_contiguous(block: &Block) -> u16
     ensures { result ≡ without_contiguous (characteristics block.now) }
@@ -101,6 +111,15 @@ pub(crate) fn set_mark(block: &mut Block, f: FileId)
     ensures { SaysBut with_delete_mark block.old block.new }
 {
     let characteristics = marked(block);
+    set_characteristics(block, characteristics);
+}
+
+/// Sets the contiguous mark in a file's first header.
+pub(crate) fn set_contiguous(block: &mut Block, f: FileId)
+    requires { IsFirstOf f block.old }
+    ensures { SaysBut with_contiguous_mark block.old block.new }
+{
+    let characteristics = contiguous(block);
     set_characteristics(block, characteristics);
 }
 

@@ -13,9 +13,11 @@ ghost use Rattle.f11_files.specs.Structure.{bitmap_in, home_of, index_in, store_
 ghost use Rattle.f11_files.specs.Extending.Tail.{GrowsWithin, HoldsLast, MayBeGiven, WritesGrowth};
 ghost use Rattle.f11_header.specs.Header.{holds_header};
 ghost use Rattle.f11_map.specs.HeaderBlock.{segment_number};
+ghost use Rattle.f11_store.specs.File.{run_pointers};
 ghost use Rattle.f11_store.specs.Store.{free_headers};
 
 use crate::create::next_sequence;
+use crate::extend::pieces::append_pieces;
 use crate::extend::tail::Tail;
 use crate::structure::Structure;
 use f11_bytes::{BLOCK_SIZE, Block};
@@ -33,14 +35,15 @@ fn fill_extension(block: &mut Block, id: FileId, tail: &Tail, lbn: u32, count: u
     requires sequence { 0 < id.sequence }
     requires held { IsTrue (holds_header tail.now.block) }
     requires early { segment_number tail.now.block < 255 }
-    requires lbn { lbn < 2 ^ 24 }
-    requires count { (0 < count) × (count ≤ 256) }
+    requires low { lbn + count ≤ 2 ^ 24 }
+    requires some { 0 < count }
+    requires fits { run_pointers count ≤ 102 }
     ensures { IsExtension tail.now id lbn count block.new }
 {
     let segment = in_hand::map(&tail.block).segment();
     blank(block, id, tail.owner, tail.protection, segment + 1);
     // it has no pointer yet, and places for 102
-    let _ = in_hand::append(block, lbn, count);
+    append_pieces(block, lbn, count);
 }
 
 impl Structure {
@@ -63,6 +66,7 @@ impl Structure {
         requires last { HoldsLast self.old tail.now (D.disk device.old) }
         requires early { segment_number tail.now.block < 255 }
         requires given { MayBeGiven (home_of self.old) lbn count (D.disk device.old) }
+        requires fits { run_pointers count ≤ 102 }
         requires free { IsTrue (D.disk device.old).honest
             → 0 < free_headers (store_on self.old (D.disk device.old)) }
         ensures entered { IfOk result (λ id. EntersHeader self.old self.new tail.now lbn count id
@@ -121,9 +125,11 @@ impl Structure {
         requires given { MayBeGiven (home_of self.old) lbn count (D.disk device.old) }
         requires within { lbn + count ≤ (bitmap_in self.old).size }
         requires full { room_in tail.old.block ≡ 0 }
+        requires fits { run_pointers count ≤ 102 }
         requires reserved { IsTrue (tail.old.file.number == 1) → count ≤ room self.old.index }
         requires may { let free = with_more_free (store_on self.old (D.disk device.old)) count in
-            IsTrue (D.disk device.old).honest → MayGrowAs free tail.old.file.number count }
+            IsTrue (D.disk device.old).honest
+            → MayGrowAs free tail.old.file.number count (run_pointers count) }
         ensures appended { OnOk result (AppendsRun self.old self.new tail.old tail.new lbn count 1
             (D.disk device.old) (D.disk device.new)) }
         ensures refused { IfErr result (λ refusal. Breaks

@@ -5,16 +5,15 @@ ghost use Rattle.f11_files.specs.Structure.{bitmap_in, home_of, IsStructureFor, 
 ghost use Rattle.f11_files.specs.Extending.Slots.{GetsBlocks, MayCome, StaysBehind};
 ghost use Rattle.f11_files.specs.Extending.Tail.{HoldsLast, MayBeGiven, NamesRun, FailsToName, HasNoPlace};
 
+use crate::extend::pieces::append_all;
 use crate::extend::slots::keep_slots;
 use crate::extend::tail::Tail;
 use crate::structure::Structure;
 use f11_dev::{Device, DeviceFault};
-use f11_map::in_hand::append;
 
 impl Structure {
     /// Names `count` blocks of zeros from `lbn` on, which no header names, in the last header of a file, and writes it: they are slots
-    /// then, where that is the index file. Says whether it did: where they don't join the last pointer and no place is left, nothing is
-    /// done.
+    /// then, where that is the index file. Says whether it did: where it has too few places for them, nothing is done.
     ///
     /// # Errors
     ///
@@ -35,7 +34,7 @@ impl Structure {
         ensures names { IfOk result (λ named. IsTrue named → NamesRun self.old self.new tail.old
             tail.new lbn count (D.disk device.old) (D.disk device.new)) }
         ensures full { IfOk result (λ named. named ≡ false → (self.new ≡ self.old)
-            × HasNoPlace tail.old tail.new lbn count (D.disk device.old) (D.disk device.new)) }
+            × HasNoPlace tail.old tail.new count (D.disk device.old) (D.disk device.new)) }
         ensures failed { OnErr result
             (FailsToName self.old tail.old lbn count (D.disk device.old) (D.disk device.new)) }
         ensures stays { OnOk result (StaysFor false self.old self.new (D.disk device.new)) }
@@ -45,9 +44,8 @@ impl Structure {
         ensures places { IfOk result (λ named. IsTrue named
             → (tail.new.number ≡ tail.old.number) × StaysBehind self.old self.new lbn count) }
     {
-        match append(&mut tail.block, lbn, count) {
-            Ok(()) => {}
-            Err(_) => return Ok(false),
+        if !append_all(&mut tail.block, lbn, count) {
+            return Ok(false);
         }
         match device.write(self.index.lbn_of_header(tail.number), &tail.block) {
             Ok(()) => {}

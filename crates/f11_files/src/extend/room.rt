@@ -26,6 +26,9 @@ const MOST_HEADERS: u32 = 256;
 /// How many blocks a header of its own is reckoned for (profile): so many pointers it has places for.
 const POINTERS: usize = 102;
 
+/// As many, as a count of blocks is made of it.
+pub(crate) const PLACES: u32 = 102;
+
 /// How many more retrieval pointers a header has places for.
 pub(crate) fn room_of(block: &Block) -> usize
     requires { IsTrue (holds_header block.now) }

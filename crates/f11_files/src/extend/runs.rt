@@ -14,14 +14,14 @@ ghost use Rattle.f11_files.specs.Extending.Growing.{GrowingBy};
 ghost use Rattle.f11_files.specs.Extending.Slots.{GetsBlocks};
 ghost use Rattle.f11_index.specs.Kept.{room};
 ghost use Rattle.f11_files.specs.Structure.{counts_of, bitmap_in, home_of, store_on, index_in, IsStructureFor, StaysFor, ConfinesTo};
-ghost use Rattle.f11_files.specs.Extending.Tail.{GrowsWithin, HoldsLast, WritesGrowth, ownership_of};
+ghost use Rattle.f11_files.specs.Extending.Tail.{GrowsWithin, HoldsLast, WritesGrowth, ownership_of, places_next};
 ghost use Rattle.f11_files.specs.Extending.Take.{NoneBelow};
 ghost use Rattle.f11_files.specs.GrowingIndex.Headroom.{WritesAfterSlots};
 ghost use Rattle.f11_header.specs.Header.{holds_header};
 ghost use Rattle.f11_index.specs.Headers.{headers_of};
 ghost use Rattle.f11_index.specs.Table.{table_of};
 ghost use Rattle.f11_store.specs.Changes.{is_in};
-ghost use Rattle.f11_store.specs.File.{need};
+ghost use Rattle.f11_store.specs.File.{need, run_pointers};
 ghost use Rattle.f11_volume.specs.Volume.{volume_of};
 ghost use Rattle.f11_writes.specs.NameLaws.{AreUnreferenced};
 
@@ -60,7 +60,7 @@ impl Structure {
     /// # Errors
     ///
     /// `DeviceFault` where a transfer failed, `Damaged` where no header is free, or the file has 256, though there should be room.
-    fn append_run<D: Device>(
+    pub(crate) fn append_run<D: Device>(
         &mut self,
         device: &mut D,
         tail: &mut Tail,
@@ -71,12 +71,14 @@ impl Structure {
         requires last { HoldsLast self.old tail.old (D.disk device.old) }
         requires gets { GetsBlocks tail.old.file.number }
         requires within { lbn + count ≤ (bitmap_in self.old).size }
-        requires few { (0 < count) × (count ≤ 256) }
+        requires some { 0 < count }
+        requires fits { run_pointers count ≤ places_next tail.old.block }
         requires unreferenced { IsTrue (D.disk device.old).honest
             → AreUnreferenced (volume_of (D.disk device.old).image (home_of self.old)) lbn count }
         requires reserved { IsTrue (tail.old.file.number == 1) → count ≤ room self.old.index }
         requires may { let free = with_more_free (store_on self.old (D.disk device.old)) count in
-            IsTrue (D.disk device.old).honest → MayGrowAs free tail.old.file.number count }
+            IsTrue (D.disk device.old).honest
+            → MayGrowAs free tail.old.file.number count (run_pointers count) }
         ensures appended { OnOk result (AppendsRun self.old self.new tail.old tail.new lbn count
             (count + 1) (D.disk device.old) (D.disk device.new)) }
         ensures refused { IfErr result (λ refusal. Breaks
@@ -122,14 +124,14 @@ impl Structure {
         requires some { 0 < most }
         requires reserved { IsTrue (tail.old.file.number == 1) → most ≤ room self.old.index }
         requires may { IsTrue (D.disk device.old).honest
-            → MayGrowAs (store_on self.old (D.disk device.old)) tail.old.file.number most }
+            → MayGrowAs (store_on self.old (D.disk device.old)) tail.old.file.number most most }
         requires none_below { IsTrue (D.disk device.old).honest
             → NoneBelow (D.disk device.old).image (bitmap_in self.old) from }
         ensures added { IfOk result (λ run. AddsRun self.old self.new tail.old tail.new from most
             run.0 run.1 (D.disk device.old) (D.disk device.new)) }
         ensures refused { let s = store_on self.old (D.disk device.old) in
             IfErr result (λ refusal. Breaks
-            (GrowingBy (home_of self.old) s tail.old.file.number most (D.disk device.old))
+            (GrowingBy (home_of self.old) s tail.old.file.number most most (D.disk device.old))
             (blocks_from (bitmap_in self.old) from + 5 * most + 3) refusal
             (D.disk device.old) (D.disk device.new)) }
         ensures stays { StaysFor (is_refused is_fatal result) self.old self.new
@@ -147,8 +149,8 @@ impl Structure {
         Ok((lbn + count, count))
     }
 
-    /// Gives a file `n` blocks of zeros more, the lowest that are free, where there is room for them and it has no contiguous mark: as slots
-    /// where it is the index file.
+    /// Gives a file `n` blocks of zeros more, the lowest that are free, where there is room for them: as slots where it is
+    /// the index file. Its characteristics stay.
     ///
     /// # Errors
     ///
@@ -164,7 +166,7 @@ impl Structure {
         requires gets { GetsBlocks tail.old.file.number }
         requires reserved { IsTrue (tail.old.file.number == 1) → n ≤ room self.old.index }
         requires may { IsTrue (D.disk device.old).honest
-            → MayGrowAs (store_on self.old (D.disk device.old)) tail.old.file.number n }
+            → MayGrowAs (store_on self.old (D.disk device.old)) tail.old.file.number n n }
         ensures grown { OnOk result (GrowsByRuns self.old tail.old.file.number
             (ownership_of tail.old) n (D.disk device.old) (D.disk device.new)) }
         ensures refused { let s = store_on self.old (D.disk device.old) in

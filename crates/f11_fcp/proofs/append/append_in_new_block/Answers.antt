@@ -1,5 +1,5 @@
-use Rattle.std.proofs.Common.{◌∙◌, ap, sym, subst}
-use Rattle.f11_files.specs.Answers.{is_clean}
+use Rattle.std.proofs.Common.{◌∙◌, ◌||◌, ap, sym, subst}
+use Rattle.f11_files.specs.Answers.{is_clean, is_fatal}
 use Rattle.f11_files.specs.Open.{disk_in, home_in}
 use Rattle.f11_image_store.specs.StoreOf.{store_of}
 use Rattle.f11_home.specs.Home.{HomeFields}
@@ -8,7 +8,7 @@ use Rattle.f11_store.specs.declared.refusals.Refusal.{Refusal}
 use Rattle.f11_fcp.specs.Entries.{FailsToPut, IsTailOf}
 use Rattle.f11_fcp.proofs.RowLemmas.{extended-honest, extended-leaves, leaves-then}
 use Rattle.f11_fcp.proofs.AppendLemmas.{appends-at-home, breaks-at-home, new-appended, new-not-appended, new-tail, not-extended-by-one, not-index}
-use Rattle.f11_fcp.proofs.KnownLemmas.{known-leaves}
+use Rattle.f11_fcp.proofs.KnownLemmas.{known-clean, known-leaves}
 use Rattle.f11_fcp.proofs.append.append_in_new_block.Goals as goal
 
 pub returns-in-Err-clause-refused : goal.returns-in-Err-clause-refused
@@ -19,6 +19,10 @@ returns-in-Err-clause-refused g c =
 
 pub returns-in-Err-clause-counts : goal.returns-in-Err-clause-counts
 returns-in-Err-clause-counts g c = λ clean. c.in-Err.ensures.answers.counts (known-leaves c.in-Err.refusal (ap is_clean (sym c.of_known.ensures) ∙ clean))
+
+pub returns-in-Err-clause-alive : goal.returns-in-Err-clause-alive
+returns-in-Err-clause-alive g c = λ clean.
+    c.in-Err.ensures.answers.next ∙ ap (λ b. b || is_fatal c.in-Err.refusal) c.requires.alive ∙ known-clean c.in-Err.refusal (ap is_fatal (sym c.of_known.ensures) ∙ clean)
 
 pub append_entry-requires-clause-there : goal.append_entry-requires-clause-there
 append_entry-requires-clause-there g c =

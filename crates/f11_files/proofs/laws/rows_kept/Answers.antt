@@ -1,4 +1,4 @@
-use Rattle.f11_files.proofs.Rows.{altered-rows, created-rows, extended-rows, grown-rows, replaced-rows, stored-rows}
+use Rattle.f11_files.proofs.Rows.{altered-rows, created-rows, extended-rows, grown-rows, laid-rows, replaced-rows, stored-rows}
 use Rattle.f11_files.proofs.laws.rows_kept.Goals as goal
 
 pub returns : goal.returns
@@ -8,5 +8,6 @@ returns c = record {
   replaced = replaced-rows;
   created = created-rows;
   extended = extended-rows;
+  laid = laid-rows;
   grown = grown-rows;
 }

@@ -1,4 +1,4 @@
-use Rattle.f11_image_store.proofs.FieldLemmas.{attributes-replaced, ident-replaced, protection-replaced, delete-marked, contiguous-cleared}
+use Rattle.f11_image_store.proofs.FieldLemmas.{attributes-replaced, ident-replaced, protection-replaced, delete-marked, contiguous-cleared, contiguous-set}
 use Rattle.f11_image_store.proofs.laws.written_fields.Goals as goal
 
 pub returns : goal.returns
@@ -8,4 +8,5 @@ returns c = record {
   protection = protection-replaced;
   marked = delete-marked;
   unmarked = contiguous-cleared;
+  contiguous = contiguous-set;
 }

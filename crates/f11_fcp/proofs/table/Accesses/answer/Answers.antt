@@ -5,6 +5,8 @@ use Rattle.f11_fcp.specs.Places.{table_of}
 use Rattle.std.specs.Prelude.{OnOk}
 use Rattle.f11_fcp.specs.ByWindow.{TakesOneTransfer, WindowsAfter, block_of}
 use Rattle.f11_fcp.proofs.ByWindowLemmas.{keeps-same, no-block, on-ok}
+use Rattle.f11_fcp.specs.InOneRun.{InOneRun, run_of}
+use Rattle.f11_fcp.proofs.InOneRunLemmas.{no-run}
 use Rattle.f11_fcp.proofs.OpenLemmas.{handles-block}
 use Rattle.f11_fcp.proofs.table.Accesses.answer.Goals as goal
 
@@ -251,3 +253,104 @@ pub returns-in-WriteBlock-clause-once : goal.returns-in-WriteBlock-clause-once
 returns-in-WriteBlock-clause-once g c =
     let t = table_of c.args.self.now in
     subst (λ (r : Request). TakesOneTransfer c.args.task r (state_of t c.args.files.now) (state_of (table_of c.write_block.new.self) c.write_block.new.files)) (sym c.in-WriteBlock.is) c.write_block.ensures.once
+
+pub returns-in-Create-clause-run : goal.returns-in-Create-clause-run
+returns-in-Create-clause-run g c =
+    let t = table_of c.args.self.now in
+    no-run c.args.task c.args.caller c.args.request.now c.create.result (state_of t c.args.files.now) (state_of t c.create.new.files) (ap (λ (r : Request). run_of r) c.in-Create.is)
+
+pub returns-in-Extend-clause-run : goal.returns-in-Extend-clause-run
+returns-in-Extend-clause-run g c =
+    let t = table_of c.args.self.now in
+    no-run c.args.task c.args.caller c.args.request.now c.extend.result (state_of t c.args.files.now) (state_of t c.extend.new.files) (ap (λ (r : Request). run_of r) c.in-Extend.is)
+
+pub returns-in-GrowIndex-clause-run : goal.returns-in-GrowIndex-clause-run
+returns-in-GrowIndex-clause-run g c =
+    let t = table_of c.args.self.now in
+    no-run c.args.task c.args.caller c.args.request.now c.grow_index.result (state_of t c.args.files.now) (state_of t c.grow_index.new.files) (ap (λ (r : Request). run_of r) c.in-GrowIndex.is)
+
+pub returns-in-ReadAttr-clause-run : goal.returns-in-ReadAttr-clause-run
+returns-in-ReadAttr-clause-run g c =
+    let t = table_of c.args.self.now in
+    no-run c.args.task c.args.caller c.args.request.now c.read_attr.result (state_of t c.args.files.now) (state_of t c.read_attr.new.files) (ap (λ (r : Request). run_of r) c.in-ReadAttr.is)
+
+pub returns-in-WriteAttr-clause-run : goal.returns-in-WriteAttr-clause-run
+returns-in-WriteAttr-clause-run g c =
+    let t = table_of c.args.self.now in
+    no-run c.args.task c.args.caller c.args.request.now c.write_attr.result (state_of t c.args.files.now) (state_of t c.write_attr.new.files) (ap (λ (r : Request). run_of r) c.in-WriteAttr.is)
+
+pub returns-in-Space-clause-run : goal.returns-in-Space-clause-run
+returns-in-Space-clause-run g c =
+    let t = table_of c.args.self.now in
+    no-run c.args.task c.args.caller c.args.request.now c.space.result (state_of t c.args.files.now) (state_of t c.space.new.files) (ap (λ (r : Request). run_of r) c.in-Space.is)
+
+pub returns-in-Find-clause-run : goal.returns-in-Find-clause-run
+returns-in-Find-clause-run g c =
+    let t = table_of c.args.self.now in
+    no-run c.args.task c.args.caller c.args.request.now c.find.result (state_of t c.args.files.now) (state_of t c.find.new.files) (ap (λ (r : Request). run_of r) c.in-Find.is)
+
+pub returns-in-Enter-clause-run : goal.returns-in-Enter-clause-run
+returns-in-Enter-clause-run g c =
+    let t = table_of c.args.self.now in
+    no-run c.args.task c.args.caller c.args.request.now c.enter.result (state_of t c.args.files.now) (state_of t c.enter.new.files) (ap (λ (r : Request). run_of r) c.in-Enter.is)
+
+pub returns-in-Remove-clause-run : goal.returns-in-Remove-clause-run
+returns-in-Remove-clause-run g c =
+    let t = table_of c.args.self.now in
+    no-run c.args.task c.args.caller c.args.request.now c.remove.result (state_of t c.args.files.now) (state_of t c.remove.new.files) (ap (λ (r : Request). run_of r) c.in-Remove.is)
+
+pub returns-in-Truncate-clause-run : goal.returns-in-Truncate-clause-run
+returns-in-Truncate-clause-run g c =
+    let t = table_of c.args.self.now in
+    no-run c.args.task c.args.caller c.args.request.now c.truncate.result (state_of t c.args.files.now) (state_of (table_of c.truncate.new.self) c.truncate.new.files) (ap (λ (r : Request). run_of r) c.in-Truncate.is)
+
+pub returns-in-Delete-clause-run : goal.returns-in-Delete-clause-run
+returns-in-Delete-clause-run g c =
+    let t = table_of c.args.self.now in
+    no-run c.args.task c.args.caller c.args.request.now c.delete.result (state_of t c.args.files.now) (state_of (table_of c.delete.new.self) c.delete.new.files) (ap (λ (r : Request). run_of r) c.in-Delete.is)
+
+pub returns-in-Access-clause-run : goal.returns-in-Access-clause-run
+returns-in-Access-clause-run g c =
+    let t = table_of c.args.self.now in
+    no-run c.args.task c.args.caller c.args.request.now c.access.result (state_of t c.args.files.now) (state_of (table_of c.access.new.self) c.access.new.files) (ap (λ (r : Request). run_of r) c.in-Access.is)
+
+pub returns-in-Deaccess-clause-run : goal.returns-in-Deaccess-clause-run
+returns-in-Deaccess-clause-run g c =
+    let t = table_of c.args.self.now in
+    no-run c.args.task c.args.caller c.args.request.now c.deaccess.result (state_of t c.args.files.now) (state_of (table_of c.deaccess.new.self) c.deaccess.new.files) (ap (λ (r : Request). run_of r) c.in-Deaccess.is)
+
+pub returns-in-Release-clause-run : goal.returns-in-Release-clause-run
+returns-in-Release-clause-run g c =
+    let t = table_of c.args.self.now in
+    no-run c.args.task c.args.caller c.args.request.now c.release.result (state_of t c.args.files.now) (state_of (table_of c.release.new.self) c.release.new.files) (ap (λ (r : Request). run_of r) c.in-Release.is)
+
+pub returns-in-Contiguous-clause-handles : goal.returns-in-Contiguous-clause-handles
+returns-in-Contiguous-clause-handles g c =
+    let t = table_of c.args.self.now in
+    subst (λ (r : Request). Handles c.args.task c.args.caller r c.contiguous.result (state_of t c.args.files.now) c.args.block.now (state_of t c.contiguous.new.files) c.args.block.now) (sym c.in-Contiguous.is)
+    (handles-block c.args.task c.args.caller _ c.contiguous.result (state_of t c.args.files.now) (state_of t c.contiguous.new.files) c.args.block.now refl c.contiguous.ensures.handles)
+
+pub returns-in-Contiguous-clause-windows : goal.returns-in-Contiguous-clause-windows
+returns-in-Contiguous-clause-windows g c =
+    let t = table_of c.args.self.now in
+    subst (λ (r : Request). OnOk c.contiguous.result (WindowsAfter c.args.task r (state_of t c.args.files.now) (state_of t c.contiguous.new.files))) (sym c.in-Contiguous.is) (on-ok c.contiguous.result (keeps-same t))
+
+pub returns-in-Contiguous-clause-once : goal.returns-in-Contiguous-clause-once
+returns-in-Contiguous-clause-once g c =
+    let t = table_of c.args.self.now in
+    no-block c.args.task c.args.request.now (state_of t c.args.files.now) (state_of t c.contiguous.new.files) (ap (λ (r : Request). block_of r) c.in-Contiguous.is)
+
+pub returns-in-Contiguous-clause-run : goal.returns-in-Contiguous-clause-run
+returns-in-Contiguous-clause-run g c =
+    let t = table_of c.args.self.now in
+    subst (λ (r : Request). InOneRun c.args.task c.args.caller r c.contiguous.result (state_of t c.args.files.now) (state_of t c.contiguous.new.files)) (sym c.in-Contiguous.is) c.contiguous.ensures.run
+
+pub returns-in-ReadBlock-clause-run : goal.returns-in-ReadBlock-clause-run
+returns-in-ReadBlock-clause-run g c =
+    let t = table_of c.args.self.now in
+    no-run c.args.task c.args.caller c.args.request.now c.read_block.result (state_of t c.args.files.now) (state_of (table_of c.read_block.new.self) c.read_block.new.files) (ap (λ (r : Request). run_of r) c.in-ReadBlock.is)
+
+pub returns-in-WriteBlock-clause-run : goal.returns-in-WriteBlock-clause-run
+returns-in-WriteBlock-clause-run g c =
+    let t = table_of c.args.self.now in
+    no-run c.args.task c.args.caller c.args.request.now c.write_block.result (state_of t c.args.files.now) (state_of (table_of c.write_block.new.self) c.write_block.new.files) (ap (λ (r : Request). run_of r) c.in-WriteBlock.is)

@@ -1,5 +1,5 @@
-use Rattle.f11_files.proofs.Extending.AddRun.{fails-take, run-may, fails-append, adds-run}
-use Rattle.f11_store.proofs.PieceLemmas.{may-free}
+use Rattle.f11_image_store.specs.FileLaws.{room_in}
+use Rattle.f11_files.proofs.Extending.AddRun.{fails-take, fits-one, run-may, fails-append, adds-run}
 use Rattle.f11_files.proofs.Extending.TakenRun.{run-last}
 use Rattle.f11_files.proofs.AnswerLemmas.{handed}
 use Rattle.f11_files.proofs.Extending.Parts.{grows-marked, grows-then, growth-run, run-free, growth-marked}
@@ -11,7 +11,10 @@ returns-in_err-lbn-clause-refused g c =
     handed _ c.from_residual.result _ c.from_residual.ensures.1 (fails-take c.args.self.now c.args.tail.now c.args.from c.args.most _ _ _ c.in_err-lbn.ensures.refused)
 
 pub append_run-requires-clause-last : goal.append_run-requires-clause-last
-append_run-requires-clause-last g c = run-last c.args.self.now _ c.args.tail.now c.args.from c.args.most _ _ _ _ c.requires.is_for c.requires.last (λ honest. may-free _ _ _ (c.requires.may honest).places) c.in_ok-lbn.ensures.taken (rw c.in_ok-lbn.was at c.take_run.ensures.stays)
+append_run-requires-clause-last g c = run-last c.args.self.now _ c.args.tail.now c.args.from c.args.most _ _ _ _ c.requires.is_for c.requires.last (λ honest. (c.requires.may honest).places.has_room.blocks) c.in_ok-lbn.ensures.taken (rw c.in_ok-lbn.was at c.take_run.ensures.stays)
+
+pub append_run-requires-clause-fits : goal.append_run-requires-clause-fits
+append_run-requires-clause-fits g c = fits-one (room_in c.args.tail.now.block) _ c.in_ok-lbn.ensures.taken.within.short
 
 pub append_run-requires-clause-may : goal.append_run-requires-clause-may
 append_run-requires-clause-may g c = run-may c.args.self.now _ c.args.tail.now c.args.from c.args.most _ _ _ _ c.requires.is_for c.requires.last c.requires.may c.in_ok-lbn.ensures.taken (rw c.in_ok-lbn.was at c.take_run.ensures.stays)

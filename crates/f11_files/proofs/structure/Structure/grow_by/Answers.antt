@@ -1,4 +1,4 @@
-use Rattle.std.proofs.Common.{◌∙◌, arith, ◌≡◌, ℕ, false, IsTrue, ap}
+use Rattle.std.proofs.Common.{◌∙◌, arith, ◌≡◌, ℕ, false, IsTrue, ap, refl}
 use Rattle.f11_files.proofs.AnswerLemmas.{handed}
 use Rattle.f11_files.proofs.Extending.GrowBy.{growing-none, sound-moment, next-gets, next-may, next-reserved, next-below, fails-run, growing-more, growing-done}
 use Rattle.f11_files.proofs.Removing.Freeing.{handed-stays, stays-for}
@@ -9,7 +9,7 @@ use Rattle.f11_volume.specs.Volume.{volume_of}
 use Rattle.f11_image_store.specs.Allocation.{free_list}
 use Rattle.f11_files.specs.Structure.{home_of}
 use Rattle.f11_files.proofs.Confining.Parts.{fewer-free, parts-none, to-parts}
-use Rattle.f11_files.proofs.Extending.Parts.{grows-then, growth-then}
+use Rattle.f11_files.proofs.Extending.Parts.{grows-same, grows-then, growth-then}
 use Rattle.f11_files.specs.Extending.Tail.{growth_headers}
 use Rattle.f11_files.proofs.structure.Structure.grow_by.Goals as goal
 
@@ -17,7 +17,7 @@ pub loop-left-init : goal.loop-left-init
 loop-left-init g c = record {
   growing = growing-none c.args.self.now c.args.tail.now c.args.n _ c.requires.is_for c.requires.last c.requires.reserved c.requires.may;
   confined = λ _. to-parts c.args.self.now _ (growth_headers c.args.self.now c.args.tail.now) _ (λ n is. is) (parts-none c.args.self.now (growth_headers c.args.self.now c.args.tail.now) _);
-  places = λ _ l none _. none;
+  places = λ _. grows-same c.args.self.now c.args.self.now c.args.tail.now c.args.tail.now _ refl refl;
 }
 
 pub add_run-requires-clause-is_for : goal.add_run-requires-clause-is_for

@@ -1,0 +1,55 @@
+//! Files that are laid out in one run.
+ghost use Rattle.std.specs.Prelude.{[]};
+ghost use Rattle.f11_fcp.specs.Handles.{Handles, IsOpen, StaysOpen, state_of};
+ghost use Rattle.f11_fcp.specs.InOneRun.{InOneRun};
+ghost use Rattle.f11_fcp.specs.Places.{table_of};
+ghost use Rattle.f11_store.specs.declared.requests.Request.TheVariants as asked;
+
+use crate::answer::of_accessed;
+use crate::table::Accesses;
+use f11_dev::Device;
+use f11_files::Files;
+use f11_store::{Lun, Refusal, Reply, Right, Task, Uic, may};
+
+impl Accesses {
+    /// So many blocks of zeros in one run for a file that has none, the lowest that are free, and the contiguous mark.
+    ///
+    /// # Errors
+    ///
+    /// `BadArgument`, `NoSuchAccess`, `NoPrivilege`, `NotEmpty`, `TooManySegments`, `DeviceFull`, `NoHeader`, and `NoRun` where nowhere
+    /// so many free blocks follow one another.
+    pub(crate) fn contiguous<D: Device>(
+        &self,
+        files: &mut Files<D>,
+        task: Task,
+        caller: Uic,
+        lun: Lun,
+        n: u32,
+    ) -> Result<Reply, Refusal>
+        requires open { IsOpen (table_of self.now) files.old }
+        ensures handles { Handles task caller (asked.Contiguous lun n) result
+            (state_of (table_of self.now) files.old) [] (state_of (table_of self.now) files.new) [] }
+        ensures open { StaysOpen result (table_of self.now) files.new }
+        ensures run { InOneRun task caller (asked.Contiguous lun n) result
+            (state_of (table_of self.now) files.old) (state_of (table_of self.now) files.new) }
+    {
+        if n == 0 {
+            return Err(Refusal::BadArgument);
+        }
+        let held = match self.writer(task, lun) {
+            Some(held) => held,
+            None => return Err(Refusal::NoSuchAccess),
+        };
+        let attr = match files.read_attr(held.file) {
+            Ok(attr) => attr,
+            Err(refusal) => return Err(of_accessed(refusal)),
+        };
+        if !may(caller, attr.owner, attr.protection, Right::Extend) {
+            return Err(Refusal::NoPrivilege);
+        }
+        match files.contiguous(held.file, n) {
+            Ok(length) => Ok(Reply::Length(length)),
+            Err(refusal) => Err(of_accessed(refusal)),
+        }
+    }
+}

@@ -1,0 +1,18 @@
+use Rattle.f11_files.proofs.Opening.Values.{files-for}
+use Rattle.f11_files.specs.Structure.{StaysFor}
+use Rattle.f11_files.proofs.Opening.Kept.{stays-opened}
+use Rattle.f11_files.proofs.LayingOut.Whole.{laying-failed}
+use Rattle.f11_files.proofs.files.Files.contiguous.Goals as goal
+
+pub contiguous-answer-requires-clause-is_for : goal.contiguous-answer-requires-clause-is_for
+contiguous-answer-requires-clause-is_for g c = files-for c.args.self.now (g.met.D.Device.is_image c.args.self.now.device) c.if-self.false
+
+pub invariant_of-self : goal.invariant_of-self
+invariant_of-self g c =
+    let failed = c.is_fatal-self.result in
+    let stays : StaysFor failed c.args.self.now.structure c.contiguous-answer.new.self (g.D.Device.disk c.contiguous-answer.new.device) = rw c.is_fatal-self.ensures c.contiguous-answer.ensures.stays in
+    let is = stays-opened _ _ failed _ (g.met.D.Device.is_image c.contiguous-answer.new.device) stays in
+    record { lies = is.lies; accepted = is.accepted; home = is.home; keeps = is.keeps }
+
+pub returns-then-self-clause-refused : goal.returns-then-self-clause-refused
+returns-then-self-clause-refused g c = laying-failed _ c.if-self.true
