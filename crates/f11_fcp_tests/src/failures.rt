@@ -22,7 +22,7 @@ const MADE: FileId = FileId {
 };
 
 /// Each request, as it is answered once one has failed the volume.
-const LATER: [Row; 16] = [
+const LATER: [Row; 17] = [
     (1, SYSTEM, Ask::Create, Err(Refusal::VolumeFailed)),
     (
         0,
@@ -33,6 +33,7 @@ const LATER: [Row; 16] = [
     (0, SYSTEM, Ask::Deaccess(0), Err(Refusal::VolumeFailed)),
     (2, SYSTEM, Ask::Release, Err(Refusal::VolumeFailed)),
     (0, SYSTEM, Ask::Extend(0, 1), Err(Refusal::VolumeFailed)),
+    (0, SYSTEM, Ask::Contiguous(0, 0), Err(Refusal::VolumeFailed)),
     (0, SYSTEM, Ask::Truncate(0, 0), Err(Refusal::VolumeFailed)),
     (3, SYSTEM, Ask::Delete(FIRST), Err(Refusal::VolumeFailed)),
     (0, SYSTEM, Ask::GrowIndex(1), Err(Refusal::VolumeFailed)),

@@ -95,7 +95,7 @@ fn a_file_is_truncated_under_a_reader(rt: HostRuntime) -> Result<(), Fail> {
 
 #[test]
 fn all_requests_of_all_tasks(rt: HostRuntime) -> Result<(), Fail> {
-    let rows: [Row; 24] = [
+    let rows: [Row; 26] = [
         (0, SYSTEM, Ask::Create, Ok(Reply::Created(file(6, 1)))),
         (
             1,
@@ -104,6 +104,8 @@ fn all_requests_of_all_tasks(rt: HostRuntime) -> Result<(), Fail> {
             Ok(Reply::Done),
         ),
         (2, SYSTEM, Ask::Enter(MASTER, X, SIX), Ok(Reply::Done)),
+        (1, SYSTEM, Ask::Contiguous(3, 3), Ok(Reply::Length(3))),
+        (1, SYSTEM, Ask::Truncate(3, 0), Ok(Reply::Length(0))),
         (1, SYSTEM, Ask::Extend(3, 2), Ok(Reply::Length(2))),
         (
             3,

@@ -1,7 +1,9 @@
 //! In which order requests write blocks: a contract says of each moment that the image is accepted, which it would be in other orders, too.
 use crate::asks::{Ask, MASTER, Records, Row, SIX, X};
 use crate::directories::{Answer, DONE, NO_ENTRY, Y};
-use crate::steps::Step::{Bitmap, Data, Header, HeaderAt, Killed, Slot, Zeros};
+use crate::steps::Step::{
+    Bitmap, Data, Header, HeaderAt, Killed, SecondBitmap, Slot, Zeros, ZerosFrom,
+};
 use crate::steps::{Case, Edit, LONG, ROOT, SHORT, Step, first_disordered};
 use f11_fixtures::SYSTEM;
 use f11_store::{FileId, Mode, Refusal, Reply};
@@ -111,6 +113,101 @@ const EXTENDED: [Case; 6] = [
             Slot(17),
             Header(8),
         ],
+    },
+];
+
+/// Block 22 is free then, and so are 22 to 24 in a row, 26, 29, 31, 33, and those from 36 on.
+const SHORT_EMPTIED: [Row; 2] = [
+    (0, SYSTEM, Ask::Access(SHORT, Mode::Write, 0), DONE),
+    (0, SYSTEM, Ask::Truncate(0, 0), Ok(Reply::Length(0))),
+];
+
+/// A file without blocks.
+const FIRST_MADE: [Row; 2] = [
+    (
+        0,
+        SYSTEM,
+        Ask::Create,
+        Ok(Reply::Created(FileId {
+            number: 6,
+            sequence: 1,
+            volume: 0,
+        })),
+    ),
+    (0, SYSTEM, Ask::Access(LONG, Mode::Write, 0), DONE),
+];
+
+/// The storage bitmap for all of the run; then for each header zeros, and the header that names them. Where that is a new one it, its slot's
+/// bit, and the link to it. Last the first header with the mark.
+const LAID_OUT: [Case; 6] = [
+    Case {
+        edits: &[],
+        begun: &SHORT_EMPTIED,
+        request: (0, SYSTEM, Ask::Contiguous(0, 3), Ok(Reply::Length(3))),
+        steps: &[
+            Bitmap,
+            Zeros(22),
+            Zeros(23),
+            Zeros(24),
+            Header(9),
+            Header(9),
+        ],
+    },
+    // the rows in front are too short; and the header has the mark already
+    Case {
+        edits: &[Edit::Contiguous(9)],
+        begun: &SHORT_EMPTIED,
+        request: (0, SYSTEM, Ask::Contiguous(0, 4), Ok(Reply::Length(4))),
+        steps: &[Bitmap, ZerosFrom(36, 4), Header(9)],
+    },
+    // its header names 256 of them, and a new one the others
+    Case {
+        edits: &[Edit::Full(9)],
+        begun: &SHORT_EMPTIED,
+        request: (0, SYSTEM, Ask::Contiguous(0, 258), Ok(Reply::Length(258))),
+        steps: &[
+            Bitmap,
+            ZerosFrom(36, 256),
+            Header(9),
+            ZerosFrom(292, 2),
+            Header(10),
+            Slot(10),
+            Header(9),
+            Header(9),
+        ],
+    },
+    // a new one names all of them
+    Case {
+        edits: &[Edit::Placeless(9)],
+        begun: &SHORT_ACCESSED,
+        request: (0, SYSTEM, Ask::Contiguous(0, 2), Ok(Reply::Length(2))),
+        steps: &[
+            Bitmap,
+            ZerosFrom(23, 2),
+            Header(10),
+            Slot(10),
+            Header(9),
+            Header(9),
+        ],
+    },
+    // two bitmap blocks have the bits of the run
+    Case {
+        edits: &[Edit::Wide],
+        begun: &FIRST_MADE,
+        request: (0, SYSTEM, Ask::Contiguous(0, 16), Ok(Reply::Length(16))),
+        steps: &[
+            Bitmap,
+            SecondBitmap,
+            ZerosFrom(4090, 16),
+            Header(6),
+            Header(6),
+        ],
+    },
+    Case {
+        edits: &[],
+        begun: &SHORT_EMPTIED,
+        request: (0, SYSTEM, Ask::Contiguous(0, 365), Err(Refusal::NoRun)),
+        steps: &[],
     },
 ];
 
@@ -437,6 +534,7 @@ fn blocks_are_written_in_order(rt: HostRuntime) -> Result<(), Fail> {
     for cases in [
         CREATED.as_slice(),
         &EXTENDED,
+        &LAID_OUT,
         &GROWN,
         &TRUNCATED,
         &DELETED,

@@ -30,8 +30,12 @@ pub enum Step {
     Slot(u16),
     /// The storage bitmap.
     Bitmap,
+    /// Its second block.
+    SecondBitmap,
     /// A block that is zeros then.
     Zeros(u32),
+    /// So many blocks from one on, each of which is zeros then, in ascending order.
+    ZerosFrom(u32, u32),
     /// A block of a file.
     Data(u32),
 }
@@ -43,7 +47,9 @@ impl Step {
             Step::Header(n) | Step::Killed(n) => u32::from(n) + 2,
             Step::Slot(_) => 2,
             Step::Bitmap => 20,
-            Step::HeaderAt(_, lbn) | Step::Zeros(lbn) | Step::Data(lbn) => lbn,
+            Step::SecondBitmap => 21,
+            Step::HeaderAt(_, lbn) | Step::Data(lbn) => lbn,
+            Step::Zeros(lbn) | Step::ZerosFrom(lbn, _) => lbn,
         }
     }
 
@@ -53,8 +59,24 @@ impl Step {
             Step::Header(n) | Step::HeaderAt(n, _) => read_word(after, 2) == n,
             Step::Killed(n) => read_word(before, 2) == n && read_word(after, 2) == 0,
             Step::Slot(n) => is_turned(before, after, n),
-            Step::Zeros(_) => *after == ZEROS,
-            Step::Bitmap | Step::Data(_) => true,
+            Step::Zeros(_) | Step::ZerosFrom(..) => *after == ZEROS,
+            Step::Bitmap | Step::SecondBitmap | Step::Data(_) => true,
+        }
+    }
+
+    /// How many writes it is.
+    fn writes(self) -> u32 {
+        match self {
+            Step::ZerosFrom(_, count) => count,
+            _ => 1,
+        }
+    }
+
+    /// One of its writes, from 0.
+    fn write(self, number: u32) -> Step {
+        match self {
+            Step::ZerosFrom(lbn, _) => Step::Zeros(lbn.saturating_add(number)),
+            step => step,
         }
     }
 }
@@ -76,8 +98,13 @@ pub enum Edit {
     Contiguous(u16),
     /// It has one pointer, and no place for another (M.MAX).
     Full(u16),
+    /// It has no pointer and no place for one (M.USE, M.MAX); the blocks that it named are lost.
+    Placeless(u16),
     /// Slots 10 to 16 are in use, with dead headers: none is free.
     NoneFree,
+    /// Another volume, of 4,200 blocks and no file, of which blocks 4,090 to 4,105 alone are free: the second bitmap block has the bits of
+    /// ten of them.
+    Wide,
 }
 
 impl Edit {
@@ -86,7 +113,12 @@ impl Edit {
         match self {
             Edit::Contiguous(n) => Edit::make_byte(device, n, 12, 0x80),
             Edit::Full(n) => Edit::make_byte(device, n, 101, 2),
+            Edit::Placeless(n) => {
+                Edit::make_byte(device, n, 100, 0)?;
+                Edit::make_byte(device, n, 101, 0)
+            }
             Edit::NoneFree => put_words(device, 2, &[(0, 0xffff)]),
+            Edit::Wide => Ok(()),
         }
     }
 
@@ -113,6 +145,9 @@ pub struct Case {
 /// A volume of 400 blocks and 16 slots with the two files, and with these edits. Its free blocks are 23, 24, 26, 29, 31, 33 and those from
 /// 36 on, and hold sevens, as those of the files do.
 fn prepared(alloc: Global, edits: &[Edit]) -> Result<Memory, DeviceFault> {
+    if matches!(edits.first(), Some(Edit::Wide)) {
+        return wide(alloc);
+    }
     let mut device = volumes::fresh(alloc, 400)?;
     for lbn in 22..400 {
         keep(&mut device, lbn, &SEVENS)?;
@@ -131,6 +166,19 @@ fn prepared(alloc: Global, edits: &[Edit]) -> Result<Memory, DeviceFault> {
     for edit in edits {
         edit.make(&mut device)?;
     }
+    Ok(device)
+}
+
+/// The volume of [`Edit::Wide`]. Its free blocks hold sevens.
+fn wide(alloc: Global) -> Result<Memory, DeviceFault> {
+    let mut device = volumes::fresh(alloc, 4200)?;
+    for lbn in 4090..4106 {
+        keep(&mut device, lbn, &SEVENS)?;
+    }
+    keep(&mut device, 20, &ZEROS)?;
+    keep(&mut device, 21, &ZEROS)?;
+    put_words(&mut device, 20, &[(510, 0xfc00)])?;
+    put_words(&mut device, 21, &[(0, 0x3ff)])?;
     Ok(device)
 }
 
@@ -161,10 +209,10 @@ impl Case {
     }
 
     /// The first write that isn't as it should be, of those that change a block.
-    fn first_disordered(&self, alloc: Global) -> Result<Option<usize>, Fail> {
+    fn first_disordered(&self, alloc: Global) -> Result<Option<u32>, Fail> {
         let (begun, ended) = self.span(alloc)?;
         let mut before = self.stopped(alloc, begun)?;
-        let mut seen = 0;
+        let mut seen: u32 = 0;
         for transfers in begun..ended {
             let mut after = self.stopped(alloc, transfers.saturating_add(1))?;
             if let Some(lbn) = first_other(&mut before, &mut after)? {
@@ -175,16 +223,24 @@ impl Case {
             }
             before = after;
         }
-        Ok(if seen == self.steps.len() {
-            None
-        } else {
-            Some(seen)
-        })
+        Ok(self.write(seen).map(|_| seen))
+    }
+
+    /// Its write of this number, from 0.
+    fn write(&self, number: u32) -> Option<Step> {
+        let mut left = number;
+        for step in self.steps {
+            if left < step.writes() {
+                return Some(step.write(left));
+            }
+            left = left.saturating_sub(step.writes());
+        }
+        None
     }
 
     /// Whether this is one of its writes.
-    fn has_at(&self, number: usize, lbn: u32, before: &Block, after: &Block) -> bool {
-        match self.steps.get(number) {
+    fn has_at(&self, number: u32, lbn: u32, before: &Block, after: &Block) -> bool {
+        match self.write(number) {
             Some(step) => step.lbn() == lbn && step.makes(before, after),
             None => false,
         }
@@ -202,7 +258,7 @@ fn first_other(one: &mut Memory, other: &mut Memory) -> Result<Option<u32>, Fail
 }
 
 /// The first write of cases that isn't as it should be: the case, and the write.
-pub fn first_disordered(alloc: Global, cases: &[Case]) -> Result<Option<(usize, usize)>, Fail> {
+pub fn first_disordered(alloc: Global, cases: &[Case]) -> Result<Option<(usize, u32)>, Fail> {
     for (i, case) in cases.iter().enumerate() {
         if let Some(write) = case.first_disordered(alloc)? {
             return Ok(Some((i, write)));
