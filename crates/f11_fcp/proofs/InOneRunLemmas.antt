@@ -91,7 +91,10 @@ module _ (task : ℕ) (caller : Uic) (lun n : ℕ) (old new : State) where
             record {
               refused = λ is. absurd (cc);
               no_run = λ none lacks clean. absurd (lacks gained.lbn first.each);
-              lies = (gained.lbn, first,
-              subst (λ (m : ℕ). file_blocks (table_of new.disk.image old.home) m ≡ range_with_len gained.lbn n) same
-              (rows-then new.disk.image old.home mid.home k (range_with_len gained.lbn n) home gained.blocks));
+              lies = (
+                gained.lbn,
+                first,
+                subst (λ (m : ℕ). file_blocks (table_of new.disk.image old.home) m ≡ range_with_len gained.lbn n) same
+                    (rows-then new.disk.image old.home mid.home k (range_with_len gained.lbn n) home gained.blocks),
+              );
             }

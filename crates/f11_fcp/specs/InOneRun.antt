@@ -21,8 +21,9 @@ use Rattle.f11_fcp.specs.Handles.{State, store_at}
 abbrev pub free_in : State → ℕ → Bool
 free_in v = is_free v.disk.image (storage_bitmap v.disk.image v.home)
 
--- A request for n blocks in one run: `NoRun` is answered exactly where no cause that the store knows stands against it and nowhere n free
--- blocks follow one another; where it is served, the file's blocks are the lowest n that did. Both where no transfer fails.
+-- A request for n blocks in one run: where `NoRun` is answered, no cause that the store knows stands against it and nowhere n free blocks
+-- follow one another; where that is so, and the volume doesn't fail, `NoRun` is answered; where it is served, the file's blocks are the
+-- lowest n free ones that followed one another.
 pub record LiesInRun (task : ℕ) (caller : Uic) (lun n : ℕ) (result : Result Reply Refusal) (old new : State) : Type 0 where
   pub refused :
       result ≡ Err NoRun → (first_refusal (store_at old) task caller (request.Contiguous lun n) ≡ None) × NoRunOf (free_in old) n

@@ -37,8 +37,8 @@ abbrev pub is_spent : {D : Type 0} {met : Ghosts D} → Volume D met → Bool
 is_spent v = v.failed
 
 -- A request was served. Once one has failed the volume each is refused as VolumeFailed, and nothing is done; before that it is handled.
--- It fails the volume where it answers DeviceFault or Damaged, and no other way. Where it asks for blocks in one run, it is told where
--- they lie. The block that is lent is changed by ReadBlock alone.
+-- It fails the volume where it answers DeviceFault or Damaged, and no other way. Where it asks for blocks in one run, these
+-- lie in the image as it asks. The block that is lent is changed by ReadBlock alone.
 pub record Serving {D : Type 0} {met : Ghosts D} (task : ℕ) (caller : Uic) (r : Request)
     (result : Result Reply Refusal) (old new : Volume D met) (block block' : List ℕ) : Type 0 where
   pub refused : is_spent old ≡ true → IsErrOf result VolumeFailed

@@ -49,7 +49,8 @@ impl<D: Device> Volume<D> {
     ///
     /// `VolumeFailed` where an earlier request answered `DeviceFault` or `Damaged`; else the first refusal whose cause holds;
     /// `NoMemory` where there is none for slots of the index file, which grows for `GrowIndex`, and first for `Create`, `Extend` and
-    /// `Enter` where they need a header that isn't free; `DeviceFault` where a transfer failed, and `Damaged` where a device that isn't
+    /// `Enter` where they need a header that isn't free; `NoRun` where nowhere so many free blocks follow one another as `Contiguous` asks
+    /// for; `DeviceFault` where a transfer failed, and `Damaged` where a device that isn't
     /// honest gave what no accepted volume has.
     pub fn serve(
         &mut self,

@@ -12,7 +12,6 @@ use Rattle.f11_store.specs.Cost.{slots_cost}
 use Rattle.f11_store.specs.Headroom.{slots_first}
 use Rattle.f11_store.specs.Lags.{after_slots, and_then, grow_work, no_work, with_headers_first, work_if, LagsBy, Work}
 use Rattle.f11_store.specs.Moments.{AreRespectful}
-use Rattle.f11_store.specs.Refusal.{refusal_number}
 use Rattle.f11_store.specs.SlotsFirst.{IsReady}
 use Rattle.f11_store.specs.Store.{Store, index_file}
 use Rattle.f11_store.specs.declared.refusals.Refusal.{Refusal}

@@ -19,11 +19,23 @@ const C: Id = (8, 1);
 /// write; and the header is read and written once more. 26,112 pointers are in 256 headers.
 const ONE_RUN: [Row; 9] = [
     (Call::CreateIn(6, 7), Ok(Given::Done), None),
-    (Call::Contiguous(A, 6684673), Err(Refusal::TooManySegments), Some(1)),
-    (Call::Contiguous(A, 6684672), Err(Refusal::DeviceFull), Some(1)),
+    (
+        Call::Contiguous(A, 6684673),
+        Err(Refusal::TooManySegments),
+        Some(1),
+    ),
+    (
+        Call::Contiguous(A, 6684672),
+        Err(Refusal::DeviceFull),
+        Some(1),
+    ),
     (Call::Contiguous(A, 300), Ok(Given::Count(300)), Some(305)),
     (Call::Contiguous(A, 1), Err(Refusal::NotEmpty), Some(1)),
-    (Call::Contiguous(A, 6684673), Err(Refusal::NotEmpty), Some(1)),
+    (
+        Call::Contiguous(A, 6684673),
+        Err(Refusal::NotEmpty),
+        Some(1),
+    ),
     (Call::Contiguous(B, 79), Err(Refusal::DeviceFull), Some(1)),
     (Call::Contiguous(C, 1), Err(Refusal::NoSuchFile), Some(0)),
     (Call::Space, Ok(Given::Space(78, 9, 16)), Some(0)),
@@ -120,8 +132,20 @@ const NO_HEADER: [Row; 5] = [
 fn a_run_takes_headers(rt: HostRuntime) -> Result<(), Fail> {
     let (mut device, wrong) = go(rt.alloc(), narrow(rt.alloc())?, &A_HEADER_MORE)?;
     assert_eq!(rt; wrong, None);
-    assert!(rt; has_words(&mut device, 8, &[(12, 0o200), (94, 7), (96, 1), (100, 0x0202), (102, 0xff00)])?);
-    assert!(rt; has_words(&mut device, 9, &[(12, 0), (92, 1), (100, 0xcc02), (102, 0), (104, 278)])?);
+    assert!(rt;
+        has_words(
+            &mut device,
+            8,
+            &[(12, 0o200), (94, 7), (96, 1), (100, 0x0202), (102, 0xff00)]
+        )?
+    );
+    assert!(rt;
+        has_words(
+            &mut device,
+            9,
+            &[(12, 0), (92, 1), (100, 0xcc02), (102, 0), (104, 278)]
+        )?
+    );
     let (_, wrong) = go(rt.alloc(), narrow(rt.alloc())?, &NO_HEADER)?;
     assert_eq!(rt; wrong, None);
     Ok(())
@@ -129,7 +153,12 @@ fn a_run_takes_headers(rt: HostRuntime) -> Result<(), Fail> {
 
 /// Lays file 6 of the volume of a device out, and gives whether it answered right: `DeviceFault` where a transfer failed, or else not; and
 /// the device.
-fn laid<D: Device + Drop>(alloc: Global, device: D, n: u32, fails: bool) -> Result<(D, bool), Fail> {
+fn laid<D: Device + Drop>(
+    alloc: Global,
+    device: D,
+    n: u32,
+    fails: bool,
+) -> Result<(D, bool), Fail> {
     let mut files = opened(alloc, device)?;
     let answer = Call::Contiguous(A, n).make(&mut files);
     let wanted = if fails {
@@ -163,11 +192,17 @@ fn a_transfer_of_laying_out_fails(rt: HostRuntime) -> Result<(), Fail> {
     let made = device.transfers();
     let opening = transfers(&opened(rt.alloc(), device)?).saturating_sub(made);
     for k in 0..=7 {
-        assert!(rt; stops(rt.alloc(), opening.saturating_add(k), 2, k < 7)?, "{k}");
+        assert!(rt;
+            stops(rt.alloc(), opening.saturating_add(k), 2, k < 7)?,
+            "{k}"
+        );
     }
     // from the last zeros of the first header on
     for k in 257..=266 {
-        assert!(rt; stops(rt.alloc(), opening.saturating_add(k), 257, k < 266)?, "{k}");
+        assert!(rt;
+            stops(rt.alloc(), opening.saturating_add(k), 257, k < 266)?,
+            "{k}"
+        );
     }
     Ok(())
 }

@@ -3,9 +3,10 @@ use Rattle.std.specs.Prelude.{◌≡◌, ℕ, ◌-◌, ◌≤◌, ◌&&◌, nat_
 use Rattle.f11_dev.specs.Image.{Image, IsImage}
 use Rattle.f11_home.specs.Home.{HomeFields, IsHomeOf}
 use Rattle.f11_layout.specs.Files.{own_file}
-use Rattle.f11_layout.specs.OwnFields.{own_ident, own_attributes, fewest_runs}
+use Rattle.f11_layout.specs.OwnFields.{own_ident, own_attributes}
 use Rattle.f11_layout.specs.Places.{bit_blocks}
 use Rattle.f11_layout.specs.declared.layout.Layout.{Layout}
+use Rattle.f11_map.specs.MapWriting.{fewest_runs}
 use Rattle.f11_store.specs.File.{File}
 use Rattle.f11_store.specs.Store.{Store}
 use Rattle.f11_volume.specs.Fresh.{used_by, IsFreshVolume}

@@ -1,9 +1,9 @@
 -- No block of a fresh volume from LBN 256 on is a home block.
-use Rattle.std.proofs.Common.{◌≡◌, ◌<◌, ◌≤◌, ◌+◌, ◌-◌, ◌*◌, ℕ, true, false, List, refl, sym, ap, subst, ◌∙◌, inl, inr, arith, length, slice_index}
-use Rattle.std.specs.Prelude.{codes, nat_le, nat_lt, ◌&&◌, ◌==◌, slice_set, take, drop}
+use Rattle.std.proofs.Common.{◌≡◌, ◌<◌, ◌≤◌, ◌+◌, ◌-◌, ◌*◌, ℕ, true, false, List, refl, sym, ap, subst, ◌∙◌, inl, inr, arith, slice_index}
+use Rattle.std.specs.Prelude.{nat_le, nat_lt, ◌&&◌, ◌==◌, slice_set, drop}
 use Rattle.std.specs.Int.{bit_at}
 use Rattle.std.proofs.lemmas.Bool.{cases_eq, cases_lt, and_from, and_parts, lt-ltb, le-leb, ltb-true, leb-true}
-use Rattle.std.proofs.lemmas.List.{get_or-take, get_or-drop, get_or-set_other}
+use Rattle.std.proofs.lemmas.List.{get_or-take, get_or-drop}
 use Rattle.f11_bytes.specs.Bits.{bit}
 use Rattle.f11_bytes.specs.Block.{zero_block}
 use Rattle.f11_bytes.proofs.PartLemmas.{slice_index-slice_range}

@@ -5,9 +5,10 @@ use Rattle.f11_header.specs.Fields.{file_number, file_sequence, owner, protectio
 use Rattle.f11_header.specs.Header.{IsHeader}
 use Rattle.f11_header.specs.MapFields.{segment, link, most_words, places}
 use Rattle.f11_map.specs.MapArea.{runs_of, blocks_of}
+use Rattle.f11_map.specs.MapWriting.{fewest_runs}
 use Rattle.f11_layout.specs.Files.{own_file}
 use Rattle.f11_layout.specs.NamesBlocks.{HasNoPointers}
-use Rattle.f11_layout.specs.OwnFields.{own_ident, own_attributes, fewest_runs}
+use Rattle.f11_layout.specs.OwnFields.{own_ident, own_attributes}
 use Rattle.f11_layout.specs.declared.layout.Layout.{Layout}
 
 -- A block is the header of file n of a fresh volume as far as it doesn't name blocks.

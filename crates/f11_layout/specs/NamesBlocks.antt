@@ -7,8 +7,7 @@ use Rattle.f11_header.specs.Header.{holds_header, header_in, header_with}
 use Rattle.f11_header.specs.MapFields.{places}
 use Rattle.f11_header.specs.Writing.{KeepsHeader}
 use Rattle.f11_map.specs.MapArea.{runs_of, blocks_of}
-use Rattle.f11_map.specs.MapWriting.{WritesPointers}
-use Rattle.f11_layout.specs.OwnFields.{fewest_runs}
+use Rattle.f11_map.specs.MapWriting.{fewest_runs, WritesPointers}
 
 -- a sealed header with 102 places for pointers names no block
 pub record HasNoPointers (b : List ℕ) : Type 0 where

@@ -1,6 +1,5 @@
 -- What the header of a fresh volume's own file says (Files-11 On-Disk Structure Level 1, "File Header"; profile: what that is).
-use Rattle.std.specs.Prelude.{ℕ, ◌+◌, ◌-◌, ◌*◌, ◌/◌, min, List, map, replicate, slice_index}
-use Rattle.std.specs.List.{range_with_len}
+use Rattle.std.specs.Prelude.{ℕ, List, replicate, slice_index}
 use Rattle.f11_bytes.specs.Words.{with_word, with_long}
 use Rattle.f11_layout.specs.declared.files.OwnFile.{OwnFile}
 
@@ -14,7 +13,3 @@ own_ident name =
 abbrev pub own_attributes : OwnFile → List ℕ
 own_attributes f = with_word (with_long
     (with_long (with_word (with_word (replicate 32 0) 0 1) 2 f.record_size) 4 f.count) 8 f.end_block) 12 f.end_byte
-
--- the fewest retrieval pointers that name so many blocks in a row, those of 256 blocks first
-abbrev pub fewest_runs : ℕ → ℕ → List (ℕ × ℕ)
-fewest_runs first count = map (λ i. (first + 256 * i, min 256 (count - 256 * i))) (range_with_len 0 ((count + 255) / 256))

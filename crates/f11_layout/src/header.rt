@@ -7,14 +7,11 @@ use crate::files::OwnFile;
 use crate::layout::Layout;
 use f11_bytes::{Block, write_long, write_word};
 use f11_header::{HeaderMut, blank};
-use f11_map::in_hand::append;
+use f11_map::in_hand::append_runs;
 use f11_store::FileId;
 
 /// The protection of a fresh volume's own files.
 const PROTECTION: u16 = 0o160000;
-
-/// How many blocks a retrieval pointer can name.
-const MOST: u32 = 256;
 
 impl Layout {
     ghost use Rattle.f11_layout.specs.Files.{own_file};
@@ -56,10 +53,8 @@ fn name_blocks(block: &mut Block, first: u32, count: u32)
     requires count { count ≤ 256 * 102 }
     ensures { NamesBlocks first count block.old block.new }
 {
-    for i in 0..count.div_ceil(MOST) {
-        let done = MOST * i;
-        let _ = append(block, first + done, MOST.min(count - done));
-    }
+    // it has places for 102 pointers, and these are no more
+    let _ = append_runs(block, first, count);
 }
 
 /// The ident area of a file of this name: its five words, and zeros.

@@ -1,10 +1,10 @@
 -- Facts about a header in hand whose map area is written.
-use Rattle.std.proofs.Common.{◌≡◌, ℕ, ◌≤◌, List, [], ◌++◌, length, take, subst, Option, Some, IsTrue, sym, ap, ◌∙◌, arith}
-use Rattle.std.specs.Prelude.{unwrap_or, option_map}
+use Rattle.std.proofs.Common.{◌≡◌, ℕ, ◌-◌, ◌<◌, ◌≤◌, List, [], ◌++◌, length, take, subst, Option, Some, IsTrue, refl, sym, ap, ◌∙◌, arith}
+use Rattle.std.specs.Prelude.{unwrap_or, option_map, Result, Ok, Err, IsErr, OnOk}
 use Rattle.std.specs.List.{range_with_len}
 use Rattle.f11_bytes.specs.Words.{word_sum}
 use Rattle.f11_header.specs.Fields.{ident_room, map_area, map_offset, file_number, check_word, HeaderFields, header_fields}
-use Rattle.f11_header.specs.MapFields.{segment, IsMapArea}
+use Rattle.f11_header.specs.MapFields.{segment, places, IsMapArea}
 use Rattle.f11_header.specs.Header.{holds_header, header_in, header_with}
 use Rattle.f11_header.specs.Writing.{KeepsHeader, with_check_word, with_map}
 use Rattle.f11_header.proofs.AreaLemmas.{length-map_area, length-with_map, with_map-map_area}
@@ -14,6 +14,7 @@ use Rattle.f11_map.specs.InHand.{RewritesMap, AppendsBlocks, AppendsRuns, CutsBl
 use Rattle.f11_map.specs.MapArea.{runs_of, blocks_of}
 use Rattle.f11_map.specs.MapWriting.{with_blocks, fewest_runs, cut_to, WritesPointers, WritesLink}
 use Rattle.f11_map.proofs.FewestLemmas.{length-behind}
+use Rattle.f11_store.specs.File.{run_pointers}
 use Rattle.f11_store.specs.declared.files.FileId.{FileId}
 
 -- the map area that the header of a block says
@@ -71,6 +72,12 @@ AppendsRuns-sealed b area m new lbn count long holds lent is writes pointers blo
       blocks = ap blocks_of header.1 ∙ blocks ∙ ap (λ (l : List ℕ). blocks_of l ++ range_with_len lbn count) lent;
       rest = subst (WritesPointers (map_area b)) (sym header.1) rest;
     }
+
+-- where there are places for their pointers, the blocks are appended
+pub appended : {E : Type 0} (result : Result Unit E) (old new : List ℕ) (lbn count : ℕ) → run_pointers count ≤ places (map_area old) - length (runs_of (map_area old))
+    → OnOk result (AppendsRuns old new lbn count) → (IsErr result → places (map_area old) - length (runs_of (map_area old)) < run_pointers count) → AppendsRuns old new lbn count
+appended (Ok done) old new lbn count fits appends full = appends
+appended (Err error) old new lbn count fits appends full = let lacks = full refl in absurd (omega (arith, fits, lacks))
 
 pub CutsBlocks-sealed : (b area m new : List ℕ) (place : ℕ) → length b ≡ 512 → IsTrue (holds_header b) → area ≡ map_area b → new ≡ with_check_word (with_map b m)
     → WritesPointers area m → runs_of m ≡ cut_to (runs_of area) place → blocks_of m ≡ take place (blocks_of area) → CutsBlocks b new place

@@ -150,6 +150,10 @@ IsMapArea-from old new i n writes area few =
       });
     }
 
+-- where pointers were written there are as many places
+pub places-written : (old new : List ℕ) → WritesPointers old new → places new ≡ places old
+places-written old new writes = places-same old new writes.size writes.most
+
 -- what else stays
 pub WritesPointers-from : (old new : List ℕ) (i n : ℕ) → Rewrites old new i n → IsMapArea old → n ≤ places old → WritesPointers old new
 WritesPointers-from old new i n writes area few =

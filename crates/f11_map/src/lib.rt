@@ -10,3 +10,4 @@ mod pointer;
 
 pub use map::Map;
 pub use map_mut::{MapFull, MapMut};
+pub use pointer::{POINTER_BLOCKS, run_pointers};

@@ -8,6 +8,7 @@ ghost use Rattle.f11_header.specs.Header.{holds_header};
 ghost use Rattle.f11_map.specs.MapArea.{LiesIn, runs_of, blocks_of};
 ghost use Rattle.f11_map.specs.MapWriting.{joins_last};
 
+use crate::pointer::POINTER_BLOCKS;
 use f11_bytes::read_word;
 use f11_header::Header;
 use f11_header::map_fields::{
@@ -137,6 +138,6 @@ impl<'a> Map<'a> {
             return false;
         }
         let (first, blocks) = self.run(pointers - 1);
-        first + blocks == lbn && blocks + count <= 256
+        first + blocks == lbn && blocks + count <= POINTER_BLOCKS
     }
 }

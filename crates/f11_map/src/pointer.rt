@@ -10,8 +10,16 @@ use f11_bytes::write_word;
 use f11_header::map_fields::{IN_USE, LINK_NUMBER, LINK_SEQUENCE, LINK_VOLUME, POINTERS};
 use f11_store::FileId;
 
-/// The most blocks that a pointer names.
-const MOST_BLOCKS: u32 = 256;
+/// How many blocks a retrieval pointer names at most (Files-11 On-Disk Structure Level 1, "Retrieval Pointers").
+pub const POINTER_BLOCKS: u32 = 256;
+
+/// How few retrieval pointers can name `count` blocks in a row: one for each [`POINTER_BLOCKS`] of them, and one for the rest
+/// (Files-11 On-Disk Structure Level 1, "Retrieval Pointers").
+pub fn run_pointers(count: u32) -> u32
+    ensures { result ≡ run_pointers count }
+{
+    count.div_ceil(POINTER_BLOCKS)
+}
 
 /// Makes pointer `i` the last one, and lets it name `count` blocks, 1 to 256, from LBN `lbn` on, below 16,777,216.
 pub fn put_last(area: &mut [u8], i: usize, lbn: u32, count: u32)
@@ -27,13 +35,6 @@ pub fn put_last(area: &mut [u8], i: usize, lbn: u32, count: u32)
     put_words_in_use(area, i + 1);
 }
 
-/// How many pointers `count` blocks in a row take.
-pub fn run_pointers(count: u32) -> u32
-    ensures { result ≡ run_pointers count }
-{
-    count.div_ceil(MOST_BLOCKS)
-}
-
 /// Puts the fewest pointers that name `count` blocks, from LBN `lbn` on, behind the `pointers` that there are.
 pub fn put_runs(area: &mut [u8], pointers: usize, lbn: u32, count: u32)
     requires is_map { IsMapArea area.old }
@@ -44,8 +45,8 @@ pub fn put_runs(area: &mut [u8], pointers: usize, lbn: u32, count: u32)
     ensures rest { WritesPointers area.old area.new }
 {
     for i in 0..run_pointers(count) {
-        let done = MOST_BLOCKS * i;
-        let named = MOST_BLOCKS.min(count - done);
+        let done = POINTER_BLOCKS * i;
+        let named = POINTER_BLOCKS.min(count - done);
         put_last(area, pointers + i as usize, lbn + done, named);
     }
 }

@@ -11,8 +11,8 @@ pub fn stores()
     ensures { laws.AgreeingAreOne }
 {}
 
-/// What a refusal is: it changes nothing, and it is the only one; only want of memory stands beside
-/// an answer.
+/// What a refusal is: it changes nothing, and it is the only one; only want of memory, or of a run of
+/// free blocks, stands beside an answer.
 pub fn refusals()
     ensures unchanged { laws.RefusalChangesNothing }
     ensures one { laws.RefusalIsOne }

@@ -1,5 +1,5 @@
 -- A run of blocks that a file gets: it is made zeros, and its last header names it, or a new one.
-use Rattle.std.proofs.Common.{◌==◌, true, false, ◌≡◌, ◌+◌, ◌<◌, ◌≤◌, ℕ, Bool, cond, IsTrue, inl, inr, sym, ap, subst, ◌∙◌, arith}
+use Rattle.std.proofs.Common.{◌==◌, ◌≡◌, ◌+◌, ◌<◌, ◌≤◌, ℕ, Bool, IsTrue, inl, inr, sym, ap, subst, ◌∙◌, arith}
 use Rattle.std.specs.List.{range_with_len}
 use Rattle.f11_dev.specs.Disk.{Disk}
 use Rattle.f11_dev.specs.Image.{Image}

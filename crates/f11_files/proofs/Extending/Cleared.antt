@@ -7,22 +7,19 @@ use Rattle.f11_dev.specs.Image.{Image}
 use Rattle.f11_home.specs.Home.{HomeFields}
 use Rattle.f11_map.specs.HeaderBlock.{segment_number, link_of}
 use Rattle.f11_index.specs.Headers.{IsLastOf}
-use Rattle.f11_index.specs.Table.{Table, table_in, table_of, IsFile, first}
+use Rattle.f11_index.specs.Table.{Table, table_of, IsFile, first}
 use Rattle.f11_index.proofs.ChainLemmas.{live_of-header}
 use Rattle.f11_chain.specs.Calls.{HoldsHeader}
 use Rattle.f11_chain.specs.declared.blocks.FileEnd.{FileEnd}
 use Rattle.f11_store.specs.Causes.{Cause}
-use Rattle.f11_store.specs.Cost.{header_count}
-use Rattle.f11_store.specs.File.{File, need}
-use Rattle.f11_store.specs.Store.{Store, file_named}
+use Rattle.f11_store.specs.File.{need}
 use Rattle.f11_store.specs.declared.files.FileId.{FileId}
 use Rattle.f11_store.specs.declared.refusals.Refusal.TheVariants.{Damaged}
 use Rattle.f11_store.specs.declared.refusals.Refusal.{Refusal}
 use Rattle.f11_volume.specs.Space.{storage_bitmap}
-use Rattle.f11_files.specs.Answers.{IsRight, ReadsAtMost, is_fatal}
+use Rattle.f11_files.specs.Answers.{IsRight, is_fatal}
 use Rattle.f11_files.specs.Extending.Mark.{ClearsMark}
 use Rattle.f11_files.specs.Extending.Runs.{IsTailOf}
-use Rattle.f11_files.specs.Finding.First.{HoldsFile}
 use Rattle.f11_files.specs.Extending.Room.{HoldsEnd}
 use Rattle.f11_image_store.specs.StoreOf.{store_of}
 use Rattle.f11_files.specs.Structure.{index_in, bitmap_in, home_of, store_on, IsStructureFor}
@@ -31,9 +28,7 @@ use Rattle.f11_files.specs.declared.structure.Structure.{Structure}
 use Rattle.f11_files.specs.declared.extend.tail.Tail.{Tail}
 use Rattle.f11_files.proofs.AnswerLemmas.{fatal-no-cause}
 use Rattle.f11_files.proofs.Finding.First.{table-of}
-use Rattle.f11_files.proofs.Finding.Locate.{reads-along}
 use Rattle.f11_files.proofs.Finding.Named.{block-is, is-file}
-use Rattle.f11_files.proofs.Opening.Kept.{looked-for}
 use Rattle.f11_image_store.specs.Allocation.{ownership_in}
 use Rattle.f11_volume.specs.Volume.{volume_of}
 

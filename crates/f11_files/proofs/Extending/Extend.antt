@@ -1,5 +1,5 @@
 -- A file that is extended, once its contiguous mark is cleared.
-use Rattle.std.proofs.Common.{arith, ◌≡◌, ◌+◌, ◌-◌, ◌*◌, ◌≤◌, ◌==◌, ℕ, Bool, true, false, cond, IsTrue, [], List, Some, None, refl, sym, ap, subst, ◌∙◌}
+use Rattle.std.proofs.Common.{arith, ◌≡◌, ◌+◌, ◌-◌, ◌*◌, ◌≤◌, ◌==◌, ℕ, Bool, true, cond, IsTrue, [], List, Some, None, refl, sym, ap, subst, ◌∙◌}
 use Rattle.f11_dev.specs.Disk.{Disk}
 use Rattle.f11_dev.specs.Went.{Went}
 use Rattle.f11_home.specs.Home.{HomeFields}
@@ -15,7 +15,6 @@ use Rattle.f11_store.specs.declared.refusals.Refusal.{Refusal}
 use Rattle.f11_files.specs.Answers.{Breaks, Meanwhile, WritesAtMost}
 use Rattle.f11_files.specs.Extending.Mark.{Clearing, ClearsMark}
 use Rattle.f11_files.specs.Extending.Runs.{ExtendsInHand, FailsToExtendHeld, GrowingByRuns, GrowsByRuns, IsTailOf}
-use Rattle.f11_files.specs.Operations.{held_causes}
 use Rattle.f11_store.specs.Pieces.{file_numbered, MayGrowAs, grow_work_if, grow_work_of}
 use Rattle.f11_files.specs.Extending.Room.{HoldsRoom}
 use Rattle.f11_image_store.specs.StoreOf.{store_of}

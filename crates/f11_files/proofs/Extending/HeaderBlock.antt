@@ -1,25 +1,21 @@
 -- The block of a header that a file gets behind its last one.
-use Rattle.std.proofs.Common.{◌≡◌, ◌+◌, ◌<◌, ℕ, zero, suc, true, IsTrue, List, [], ◌∷◌, ◌++◌, length, refl, ap, ◌∙◌, ◌&&◌, nat_lt, arith}
+use Rattle.std.proofs.Common.{◌≡◌, ◌+◌, ◌<◌, ℕ, true, IsTrue, List, [], ◌++◌, length, ap, ◌∙◌, ◌&&◌, nat_lt, arith}
 use Rattle.std.specs.List.{range_with_len}
 use Rattle.std.proofs.lemmas.Bool.{and_from, lt-ltb}
 use Rattle.f11_header.specs.Fields.{HeaderFields, header_fields, map_area}
 use Rattle.f11_header.specs.Header.{holds_header, IsEmptyHeader}
 use Rattle.f11_header.specs.MapFields.{places, segment as segment_in}
+use Rattle.f11_map.specs.InHand.{AppendsRuns}
 use Rattle.f11_map.specs.MapArea.{blocks_in, runs_of}
 use Rattle.f11_map.specs.HeaderBlock.{segment_number, link_of, blocks_named}
+use Rattle.f11_store.specs.File.{run_pointers}
 use Rattle.f11_store.specs.declared.files.FileId.{FileId}
 use Rattle.f11_files.specs.Extending.Header.{IsExtension}
 use Rattle.f11_image_store.specs.FileLaws.{pointers_in, room_in}
-use Rattle.f11_files.specs.Extending.Tail.{NamesAll, NamesInHand}
-use Rattle.std.proofs.lemmas.List.FromFn.{length-range_with_len}
+use Rattle.f11_files.specs.Extending.Tail.{NamesInHand}
 use Rattle.f11_files.specs.declared.extend.tail.Tail.{Tail}
 use Rattle.f11_files.proofs.Extending.NameRun.{held-again, segment-more, link-more, blocks-more, pointers-more}
 use Rattle.f11_image_store.proofs.NewFileLemmas.{runs-none}
-
--- where there is no pointer no block is named
-none-in : (runs : List (ℕ × ℕ)) → length runs ≡ 0 → blocks_in runs ≡ []
-none-in [] none = refl
-none-in (run ∷ runs) none = absurd (omega (arith, none))
 
 -- an identification that names a header
 pub names-header : (id : FileId) → 0 < id.number → 0 < id.sequence → (nat_lt 0 id.number && nat_lt 0 id.sequence) ≡ true
@@ -51,30 +47,18 @@ module _ (tail : Tail) (id : FileId) (segment : ℕ) (empty : List ℕ) (holds :
   numbered = blank.segment_is
 
   -- the blocks were appended
-  module _ (lbn count : ℕ) (block : List ℕ) (is : segment ≡ segment_number tail.block) (some : 0 < count) (all : NamesAll empty block lbn count) where
-    abbrev appends : NamesInHand empty block all.more lbn count
-    appends = all.names
+  module _ (lbn count : ℕ) (block : List ℕ) (is : segment ≡ segment_number tail.block) (some : 0 < count) (appends : AppendsRuns empty block lbn count) where
+    names : NamesInHand empty block (run_pointers count) lbn count
+    names = record { header = appends.header; pointers = appends.more; blocks = appends.blocks; rest = appends.rest }
 
     held : IsTrue (holds_header block) × (header_fields block ≡ record (header_fields empty) { map = map_area block })
     held = held-again empty block holds appends.header
 
-    pointers-are : pointers_in block ≡ all.more
-    pointers-are =
-        let given = appends.pointers in
-        let none : pointers_in empty ≡ 0 = ap (λ (runs : List (ℕ × ℕ)). length runs) no-runs in
-        omega (arith, given, none)
-
-    -- it has one, as it names blocks
-    some-pointer : (n : ℕ) → pointers_in block ≡ n → 0 < n
-    some-pointer zero none =
-        let blocks : length (blocks_in (runs_of (map_area block))) ≡ count =
-        ap (λ (bs : List ℕ). length bs) (appends.blocks ∙ ap (λ (runs : List (ℕ × ℕ)). blocks_in runs ++ range_with_len lbn count) no-runs) ∙ length-range_with_len lbn count in
-        let zero_long = ap (λ (bs : List ℕ). length bs) (none-in (runs_of (map_area block)) none) in
-        omega (arith, blocks, zero_long, some)
-    some-pointer (suc n) is = omega arith
+    pointers-are : pointers_in block ≡ run_pointers count
+    pointers-are = let none = ap (λ (runs : List (ℕ × ℕ)). length runs) no-runs in omega (arith, none, names.pointers)
 
     all-places : places (map_area block) ≡ 102
-    all-places = (pointers-more empty block all.more lbn count appends).places_are ∙ blank.room
+    all-places = (pointers-more empty block (run_pointers count) lbn count names).places_are ∙ blank.room
 
     pub is-extension : IsExtension tail id lbn count block
     is-extension = record {
@@ -85,10 +69,10 @@ module _ (tail : Tail) (id : FileId) (segment : ℕ) (empty : List ℕ) (holds :
       no_characteristics = ap (λ (h : HeaderFields). h.characteristics) held.1 ∙ blank.no_characteristics;
       no_attributes = ap (λ (h : HeaderFields). h.attributes) held.1 ∙ blank.no_attributes;
       no_ident = appends.header.ident ∙ blank.no_ident;
-      segment = segment-more empty block all.more lbn count appends ∙ numbered ∙ ap (λ (k : ℕ). k + 1) is;
-      no_link = ap (λ (l : FileId). l.number) (link-more empty block all.more lbn count appends) ∙ links-none;
-      names = blocks-more empty block all.more lbn count appends ∙ ap (λ (bs : List ℕ). bs ++ range_with_len lbn count) names-none;
-      some = some-pointer (pointers_in block) refl;
-      few = let few = all.few in omega (arith, pointers-are, few);
+      segment = segment-more empty block (run_pointers count) lbn count names ∙ numbered ∙ ap (λ (k : ℕ). k + 1) is;
+      no_link = ap (λ (l : FileId). l.number) (link-more empty block (run_pointers count) lbn count names) ∙ links-none;
+      names = blocks-more empty block (run_pointers count) lbn count names ∙ ap (λ (bs : List ℕ). bs ++ range_with_len lbn count) names-none;
+      some = omega (arith, pointers-are, some);
+      few = omega (arith, pointers-are);
       room = omega (arith, all-places);
     }

@@ -1,5 +1,5 @@
 -- Blocks of zeros that a file's last header names.
-use Rattle.std.proofs.Common.{[], ◌≡◌, ◌⊎◌, ◌+◌, ◌-◌, ◌/◌, ◌≤◌, ◌==◌, ℕ, zero, suc, Bool, true, false, cond, IsTrue, List, inl, inr, ◌∷◌, ◌++◌, length, min, option_map, refl, sym, ap, subst, ◌∙◌, arith}
+use Rattle.std.proofs.Common.{◌≡◌, ◌⊎◌, ◌+◌, ◌≤◌, ◌==◌, ℕ, zero, suc, Bool, true, false, IsTrue, List, inl, inr, ◌∷◌, ◌++◌, length, option_map, refl, sym, ap, subst, ◌∙◌, arith}
 use Rattle.std.specs.List.{range_with_len}
 use Rattle.std.proofs.Math.ListN.{set}
 use Rattle.f11_dev.specs.Disk.{Disk, with_transfer, with_block_at}
@@ -8,11 +8,11 @@ use Rattle.f11_dev.specs.Went.{Went}
 use Rattle.f11_dev.proofs.WentLemmas.{went_write, went_failed_write}
 use Rattle.f11_header.specs.Fields.{HeaderFields, header_fields, file_sequence, map_area}
 use Rattle.f11_header.specs.Header.{IsHeader, holds_header}
-use Rattle.f11_header.specs.MapFields.{most_words}
 use Rattle.f11_header.proofs.HeaderFacts.{header_in-held}
 use Rattle.f11_home.specs.Home.{HomeFields}
 use Rattle.f11_map.specs.InHand.{RewritesMap}
 use Rattle.f11_map.proofs.MapLemmas.{length-runs_of-le}
+use Rattle.f11_map.proofs.PointerLemmas.{places-written}
 use Rattle.f11_index.specs.Growth.{with_header, IsGoodFor}
 use Rattle.f11_index.specs.Kept.{index_kept, room}
 use Rattle.f11_index.specs.declared.index_file.IndexFile.{IndexFile}
@@ -102,9 +102,7 @@ module _ (was block : List ℕ) (more lbn count : ℕ) (appends : NamesInHand wa
   pub pointers-more : HasPointersMore more was block
   pointers-more = record {
     pointers = appends.pointers;
-    places_are =
-        ap (λ (m : ℕ). min m ((length (map_area block) - 10) / 2) / 2) appends.rest.most
-        ∙ ap (λ (l : ℕ). min (most_words (map_area was)) ((l - 10) / 2) / 2) appends.rest.size;
+    places_are = places-written (map_area was) (map_area block) appends.rest;
   }
 
   pub pointers-fit : more ≤ room_in was

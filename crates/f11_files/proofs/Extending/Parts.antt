@@ -5,7 +5,6 @@ use Rattle.std.specs.List.{range_with_len}
 use Rattle.f11_chain.specs.Calls.{table}
 use Rattle.f11_chain.specs.declared.blocks.FileEnd.{FileEnd}
 use Rattle.f11_dev.specs.Disk.{Disk}
-use Rattle.f11_dev.specs.Image.{Image}
 use Rattle.f11_index.proofs.HeadersLemmas.{header-placed}
 use Rattle.f11_index.specs.Calls.{SetsBit}
 use Rattle.f11_map.specs.HeaderBlock.{segment_number, link_of}

@@ -1,7 +1,6 @@
 -- Room for more blocks of a file.
-use Rattle.std.proofs.Common.{◌||◌, eqb, ◌≡◌, ◌≢◌, ◌-◌, ◌+◌, ◌<◌, ◌≤◌, inl, inr, ltb, ℕ, Bool, true, false, cond, IsTrue, List, [], ◌∷◌, ◌++◌, length, length-append, Some, None, refl, sym, ap, subst, ◌∙◌, arith}
+use Rattle.std.proofs.Common.{◌≡◌, ◌≢◌, ◌-◌, ◌+◌, ◌<◌, inl, inr, ltb, ℕ, Bool, true, false, cond, IsTrue, List, [], ◌∷◌, ◌++◌, length, length-append, Some, None, refl, sym, ap, subst, ◌∙◌, arith}
 use Rattle.std.proofs.lemmas.Bool.{cases_lt, le-ltb, lt-ltb}
-use Rattle.std.proofs.lemmas.Option.{none-some}
 use Rattle.f11_dev.specs.Disk.{Disk}
 use Rattle.f11_dev.specs.Image.{Image}
 use Rattle.f11_header.specs.Fields.{map_area}
@@ -13,7 +12,7 @@ use Rattle.f11_index.proofs.ChainLemmas.{file_of-header, live_of-header}
 use Rattle.f11_index.proofs.HeadersLemmas.{Comes, Comes-header, Comes-last, last-whole, live-some}
 use Rattle.f11_chain.specs.Calls.{table, ReadsLast}
 use Rattle.f11_chain.specs.declared.blocks.FileEnd.{FileEnd}
-use Rattle.f11_store.specs.Causes.{◌⇐◌, first_of, is_missing, growth_causes}
+use Rattle.f11_store.specs.Causes.{◌⇐◌, first_of}
 use Rattle.f11_store.specs.Cost.{header_count}
 use Rattle.f11_store.specs.File.{File, need}
 use Rattle.f11_store.specs.Refusal.{refusal_number}
@@ -27,8 +26,8 @@ use Rattle.f11_writes.specs.Kept.{file_in}
 use Rattle.f11_files.specs.Answers.{is_among, ReadsAtMost, FailsToRead, faults_of}
 use Rattle.f11_image_store.specs.FileLaws.{room_in}
 use Rattle.f11_files.specs.Finding.First.{HoldsFile}
-use Rattle.f11_files.specs.Operations.{held_causes, file_causes, IsSpaceOf}
-use Rattle.f11_files.specs.Extending.Room.{room_causes, FindsEnd, HoldsEnd, HoldsRoom}
+use Rattle.f11_files.specs.Operations.{held_causes, IsSpaceOf}
+use Rattle.f11_files.specs.Extending.Room.{room_causes, FindsEnd, HoldsEnd}
 use Rattle.f11_files.specs.Structure.{index_in, home_of, store_on, IsStructureFor}
 use Rattle.f11_files.specs.declared.structure.Structure.{Structure}
 use Rattle.f11_files.proofs.AnswerLemmas.{right-cause}

@@ -1,5 +1,5 @@
 -- A file that is extended: its headers are read, those that it may need readied, and then it grows by runs.
-use Rattle.std.proofs.Common.{◌≡◌, ◌≢◌, ◌≤◌, ◌<◌, ◌+◌, ◌-◌, ◌*◌, ◌/◌, ◌==◌, ◌&&◌, ◌||◌, ℕ, zero, suc, Bool, true, false, not, nat_lt, cond, get_or, IsTrue, List, [], ◌∷◌, ◌++◌, Option, Some, None, option_map, length, ltb, eqb, Fits, w32, refl, sym, ap, subst, ◌∙◌, arith}
+use Rattle.std.proofs.Common.{◌≡◌, ◌≢◌, ◌≤◌, ◌<◌, ◌+◌, ◌-◌, ◌*◌, ◌/◌, ◌==◌, ◌&&◌, ◌||◌, ℕ, Bool, true, false, not, nat_lt, cond, IsTrue, List, [], ◌∷◌, Some, None, option_map, length, ltb, eqb, Fits, w32, refl, sym, ap, subst, ◌∙◌, arith}
 use Rattle.std.proofs.lemmas.Option.{same_Some}
 use Rattle.f11_dev.specs.Disk.{Disk}
 use Rattle.f11_dev.specs.Image.{Image, IsImage}
@@ -24,7 +24,7 @@ use Rattle.f11_store.proofs.Respects.{extend_respectful}
 use Rattle.f11_image_store.specs.Allocation.{GainsBlocks}
 use Rattle.std.specs.Prelude.{is_none}
 use Rattle.std.proofs.lemmas.Bool.Decides.{nat_tests}
-use Rattle.f11_store.specs.Cost.{growth_cost, header_count, lengthen_cost, slots_cost}
+use Rattle.f11_store.specs.Cost.{growth_cost, header_count, slots_cost}
 use Rattle.f11_store.specs.File.{File, need}
 use Rattle.f11_store.specs.Headroom.{slots_first}
 use Rattle.f11_store.specs.Lags.{Work, extend_work, with_headers_first}
@@ -36,26 +36,24 @@ use Rattle.f11_store.specs.declared.files.FileId.{FileId}
 use Rattle.f11_store.specs.declared.refusals.Refusal.{Refusal}
 use Rattle.f11_store.specs.declared.refusals.Refusal.TheVariants.{NoSuchFile, TooManySegments, Damaged}
 use Rattle.f11_store.proofs.SlotsFirst.{named-stays, of-stays, ready-may-extend}
-use Rattle.f11_volume.specs.Sound.{HasSoundVolume}
 use Rattle.f11_volume.specs.Volume.{volume_of}
 use Rattle.f11_volume.proofs.FileLemmas.{image-files}
 use Rattle.f11_image_store.specs.FileLaws.{room_in}
 use Rattle.f11_image_store.specs.StoreOf.{store_of}
-use Rattle.f11_image_store.proofs.FileLemmas.{last-behind}
 use Rattle.f11_image_store.proofs.KeptBlocksLemmas.{held-stored, is-stored}
 use Rattle.f11_files.specs.Answers.{Does, FailsOrWants, FailsToRead, FailsToWrite, IsRight, IsUnderWay, Meanwhile, ReadsAtMost, WritesAtMost, faults_of, is_among, is_fatal}
-use Rattle.f11_files.specs.Extending.Again.{FindsAgain, IsEndOf}
+use Rattle.f11_files.specs.Extending.Again.{IsEndOf}
 use Rattle.f11_files.specs.Extending.Room.{FindsEnd, HoldsEnd, HoldsRoom}
 use Rattle.f11_files.specs.Extending.Runs.{headers_for, ExtendsFile, ExtendsInHand, FailsToExtend, FailsToExtendHeld, IsLengthAfter}
 use Rattle.f11_files.specs.GrowingIndex.Headroom.{AllotsSlots, FailsToReady, ReadiesHeaders, ready_work}
 use Rattle.f11_files.specs.Operations.{extend_causes, file_causes, held_causes}
-use Rattle.f11_files.specs.Structure.{home_of, index_in, store_on, IsStructureFor}
+use Rattle.f11_files.specs.Structure.{home_of, store_on, IsStructureFor}
 use Rattle.f11_files.specs.declared.structure.Structure.{Structure}
-use Rattle.f11_files.proofs.AnswerLemmas.{fails-more, reads-looked, right-cause}
+use Rattle.f11_files.proofs.AnswerLemmas.{fails-more, right-cause}
 use Rattle.f11_files.proofs.Behind.{does-read, fails-read, honest-read, right-anyway, store-read, wants-as, wants-read, wants-within}
 use Rattle.f11_files.proofs.Creating.Make.{fatal-enter}
 use Rattle.f11_files.proofs.Overall.{does-within, growth-more, growth-stays}
-use Rattle.f11_files.proofs.Extending.Room.{ends-then, headers-named, last-few, last-of, room-named}
+use Rattle.f11_files.proofs.Extending.Room.{headers-named, last-few, last-of, room-named}
 use Rattle.f11_files.proofs.Finding.Locate.{counts-last, held-are, reads-along, whole}
 use Rattle.f11_files.proofs.Finding.Named.{found-named, is-file}
 use Rattle.f11_files.proofs.Readied.{fails-first, fails-ready, honest-ready, is-ready}

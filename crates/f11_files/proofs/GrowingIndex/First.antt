@@ -1,5 +1,5 @@
 -- Slots that the index file gets in its last header, before headers are taken: room and blocks for them.
-use Rattle.std.proofs.Common.{rules, ◌≡◌, ◌≢◌, ◌≤◌, ◌<◌, ◌+◌, ◌-◌, ◌&&◌, ℕ, zero, suc, Bool, true, false, nat_le, nat_lt, IsTrue, List, [], ◌∷◌, Some, None, length, refl, sym, ap, subst, ◌∙◌, arith}
+use Rattle.std.proofs.Common.{◌≡◌, ◌≢◌, ◌≤◌, ◌<◌, ◌+◌, ◌-◌, ◌&&◌, ℕ, zero, suc, Bool, true, false, nat_le, nat_lt, IsTrue, List, [], ◌∷◌, Some, None, length, refl, sym, ap, subst, ◌∙◌, arith}
 use Rattle.std.proofs.lemmas.Bool.Decides.{nat_tests}
 use Rattle.f11_dev.specs.Disk.{Disk}
 use Rattle.f11_dev.specs.Looked.{Looked}
@@ -8,20 +8,19 @@ use Rattle.f11_home.specs.Home.{HomeFields}
 use Rattle.f11_image_store.specs.Allocation.{free_list}
 use Rattle.f11_image_store.specs.Confines.{either, new_header, no_header}
 use Rattle.f11_image_store.specs.FileLaws.{room_in}
-use Rattle.f11_image_store.specs.StoreOf.{store_of, slot_limit}
+use Rattle.f11_image_store.specs.StoreOf.{slot_limit}
 use Rattle.f11_index.specs.Headers.{headers_of}
 use Rattle.f11_index.specs.IndexFile.{index_of, slots, free_slots_in}
 use Rattle.f11_index.specs.Table.{table_of}
 use Rattle.f11_store.specs.Causes.{◌⇐◌, first_of}
 use Rattle.f11_store.specs.Changes.{is_in}
-use Rattle.f11_store.specs.Cost.{growth_cost, header_count}
+use Rattle.f11_store.specs.Cost.{header_count}
 use Rattle.f11_store.specs.File.{File, need}
 use Rattle.f11_store.specs.Headroom.{may_get_slots}
-use Rattle.f11_store.specs.Lags.{grow_work}
 use Rattle.f11_store.specs.Refusal.{refusal_number}
-use Rattle.f11_store.specs.Store.{Store, file_named, free_headers, index_file}
+use Rattle.f11_store.specs.Store.{Store, index_file}
 use Rattle.f11_store.specs.declared.refusals.Refusal.{Refusal}
-use Rattle.f11_store.specs.declared.refusals.Refusal.TheVariants.{TooManySegments, DeviceFull, NoHeader}
+use Rattle.f11_store.specs.declared.refusals.Refusal.TheVariants.{DeviceFull, NoHeader}
 use Rattle.f11_files.specs.Answers.{is_among, faults_of, ReadsAtMost, WritesMoreOf}
 use Rattle.f11_files.specs.Extending.Room.{room_causes, FindsEnd}
 use Rattle.f11_files.specs.GrowingIndex.First.{fit_causes, if_fit, slots_causes, FailsToGetSlots, GetsSlotsFirst}

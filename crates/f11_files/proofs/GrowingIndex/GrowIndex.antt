@@ -1,5 +1,5 @@
 -- More slots for the index file: its room, memory for them, its contiguous mark, and then run by run.
-use Rattle.std.proofs.Common.{◌-◌, ◌≡◌, ◌≢◌, ◌+◌, ◌*◌, ◌≤◌, ◌&&◌, ◌||◌, ℕ, Bool, true, false, cond, IsTrue, List, [], Some, None, ltb, eqb, refl, sym, ap, subst, ◌∙◌, arith}
+use Rattle.std.proofs.Common.{◌-◌, ◌≡◌, ◌+◌, ◌*◌, ◌||◌, ℕ, Bool, true, false, cond, IsTrue, List, [], Some, None, eqb, refl, sym, ap, subst, ◌∙◌, arith}
 use Rattle.std.proofs.lemmas.Bool.{le-ltb}
 use Rattle.f11_dev.specs.Disk.{Disk}
 use Rattle.f11_dev.specs.Went.{Went}
@@ -16,10 +16,9 @@ use Rattle.f11_store.specs.Causes.{first_of, growth_causes}
 use Rattle.f11_store.specs.Changes.{with_more_slots, GrowsIndex}
 use Rattle.f11_store.specs.Cost.{growth_cost, header_count}
 use Rattle.f11_store.specs.File.{File, need}
-use Rattle.f11_store.specs.Lags.{Work, grow_work, work_if}
+use Rattle.f11_store.specs.Lags.{Work, grow_work}
 use Rattle.f11_store.specs.Store.{Store, file_named, index_file}
 use Rattle.f11_store.specs.declared.refusals.Refusal.TheVariants.{NoSuchFile, IndexLimit, NoMemory, DeviceFault}
-use Rattle.f11_store.specs.Refusal.{refusal_number}
 use Rattle.f11_store.specs.declared.refusals.Refusal.{Refusal}
 use Rattle.f11_volume.specs.Volume.{volume_of}
 use Rattle.f11_image_store.specs.Allocation.{GainsSlots}

@@ -4,7 +4,6 @@ use Rattle.std.specs.Prelude.{not, if◌then◌else◌}
 use Rattle.std.proofs.lemmas.Bool.Decides.{nat_tests}
 use Rattle.f11_dev.specs.Disk.{Disk}
 use Rattle.f11_dev.specs.Image.{Image}
-use Rattle.f11_dev.specs.Looked.{Looked}
 use Rattle.f11_dev.proofs.LookedLemmas.{looked_none}
 use Rattle.f11_dev.proofs.WentLemmas.{went_looked, went_weaker}
 use Rattle.f11_home.specs.Home.{HomeFields}
@@ -18,23 +17,23 @@ use Rattle.f11_store.specs.Causes.{◌⇐◌, first_of, header_causes}
 use Rattle.f11_store.specs.Changes.{GetsSlots, GrowsIndex}
 use Rattle.f11_store.specs.Cost.{growth_cost, slots_cost}
 use Rattle.f11_store.specs.Headroom.{lacking, lacks_headers, may_get_slots, slots_first}
-use Rattle.f11_store.specs.Lags.{LagsBy, Work, grow_work, no_work, with_headers_first, work_if}
+use Rattle.f11_store.specs.Lags.{LagsBy, grow_work, no_work, with_headers_first, work_if}
 use Rattle.f11_store.specs.SlotsFirst.{HasNoOtherSlots}
 use Rattle.f11_store.specs.Step.{gets_slots}
-use Rattle.f11_store.specs.Store.{Store, free_headers, index_file}
+use Rattle.f11_store.specs.Store.{Store, index_file}
 use Rattle.f11_store.specs.declared.refusals.Refusal.{Refusal}
 use Rattle.f11_store.specs.declared.refusals.Refusal.TheVariants.{DeviceFull, NoHeader}
 use Rattle.f11_store.proofs.SlotsFirst.{enough-are-free, gaining-lags}
 use Rattle.f11_volume.specs.Sound.{HasSoundVolume}
 use Rattle.f11_volume.specs.Volume.{Volume, volume_of}
-use Rattle.f11_files.specs.Answers.{Meanwhile, is_cause}
-use Rattle.f11_files.specs.GrowingIndex.First.{fit_causes, if_fit, slots_causes, FailsToGetSlots, GetsSlotsFirst}
+use Rattle.f11_files.specs.Answers.{Meanwhile}
+use Rattle.f11_files.specs.GrowingIndex.First.{if_fit, slots_causes, FailsToGetSlots, GetsSlotsFirst}
 use Rattle.f11_files.specs.GrowingIndex.Headroom.{AllotsSlots, ConfinesSlots, FailsToReady, ReadiesHeaders, ready_work}
 use Rattle.f11_files.specs.Structure.{home_of, index_in, store_on, IsStructureFor, StaysFor}
 use Rattle.f11_files.specs.declared.structure.Structure.{Structure}
 use Rattle.f11_files.proofs.AnswerLemmas.{right-cause}
-use Rattle.f11_files.proofs.GrowingIndex.First.{confined-looked, fit-of}
-use Rattle.f11_files.proofs.Opening.Space.{free-of, slots-of}
+use Rattle.f11_files.proofs.GrowingIndex.First.{fit-of}
+use Rattle.f11_files.proofs.Opening.Space.{slots-of}
 use Rattle.f11_files.proofs.WriteLemmas.{as-wanting, fails-unread}
 
 some-not : (k : ℕ) → 0 < k → (k == 0) ≡ false

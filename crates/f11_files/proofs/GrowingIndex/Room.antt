@@ -13,7 +13,7 @@ use Rattle.f11_store.specs.File.{File}
 use Rattle.f11_store.specs.Refusal.{refusal_number}
 use Rattle.f11_store.specs.Store.{Store, file_named, index_file}
 use Rattle.f11_store.specs.declared.refusals.Refusal.{Refusal}
-use Rattle.f11_store.specs.declared.refusals.Refusal.TheVariants.{NoSuchFile, IndexLimit, TooManySegments, DeviceFull, NoHeader, Damaged}
+use Rattle.f11_store.specs.declared.refusals.Refusal.TheVariants.{NoSuchFile, IndexLimit, Damaged}
 use Rattle.f11_files.specs.Answers.{FailsToRead, ReadsAtMost, is_among, is_cause, faults_of}
 use Rattle.f11_files.specs.GrowingIndex.Runs.{index_id, HoldsIndexRoom}
 use Rattle.f11_files.specs.Operations.{file_causes, grow_causes, held_causes}

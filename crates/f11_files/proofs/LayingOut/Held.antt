@@ -1,12 +1,11 @@
 -- A file that is laid out once its headers are in hand: the run is marked used, its blocks come, and then the mark is set.
-use Rattle.std.proofs.Common.{◌≡◌, ◌≢◌, ◌+◌, ◌-◌, ◌*◌, ◌<◌, ◌≤◌, ◌==◌, ◌++◌, ℕ, Bool, true, false, cond, IsTrue, List, [], length, Option, Some, None, unwrap_or, inl, inr, refl, sym, ap, subst, ◌∙◌, arith}
-use Rattle.std.specs.List.{range_with_len}
-use Rattle.std.proofs.lemmas.Bool.{cases_eq, both_ways, false≢true}
+use Rattle.std.proofs.Common.{◌≡◌, ◌≢◌, ◌+◌, ◌≤◌, ℕ, Bool, false, cond, IsTrue, List, length, Option, Some, None, unwrap_or, inl, inr, sym, ap, subst, ◌∙◌, arith}
+use Rattle.std.proofs.lemmas.Bool.{cases_eq, false≢true}
 use Rattle.f11_bits.specs.Bitmap.{Bitmap}
 use Rattle.f11_chain.specs.declared.blocks.FileEnd.{FileEnd}
-use Rattle.f11_chain.specs.Calls.{table, HoldsHeader}
+use Rattle.f11_chain.specs.Calls.{HoldsHeader}
 use Rattle.f11_dev.specs.Disk.{Disk}
-use Rattle.f11_dev.specs.Image.{Image, IsImage}
+use Rattle.f11_dev.specs.Image.{IsImage}
 use Rattle.f11_home.specs.Home.{HomeFields}
 use Rattle.f11_index.specs.Headers.{IsLastOf}
 use Rattle.f11_index.specs.IndexFile.{Index, is_in_use}
@@ -15,7 +14,7 @@ use Rattle.f11_map.specs.HeaderBlock.{link_of, segment_number}
 use Rattle.f11_store.specs.Causes.{first_of}
 use Rattle.f11_store.specs.Causes as causes
 use Rattle.f11_store.specs.File.{File, no_file, run_pointers}
-use Rattle.f11_store.specs.Pieces.{file_numbered, with_more_free, HasPlaces, MayGrowAs}
+use Rattle.f11_store.specs.Pieces.{file_numbered, with_more_free, MayGrowAs}
 use Rattle.f11_store.specs.Store.{Store, file_named}
 use Rattle.f11_store.specs.declared.files.FileId.{FileId}
 use Rattle.f11_store.specs.declared.refusals.Refusal.TheVariants.{NoSuchFile}

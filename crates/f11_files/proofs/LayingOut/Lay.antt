@@ -1,5 +1,5 @@
 -- The blocks of a run that was marked used, which a file gets header by header.
-use Rattle.std.proofs.Common.{◌≡◌, ◌≢◌, ◌⊎◌, ◌+◌, ◌-◌, ◌*◌, ◌<◌, ◌≤◌, ◌==◌, ℕ, zero, suc, min, Bool, true, false, IsTrue, List, [], length, Option, Some, unwrap_or, if◌then◌else◌, inl, inr, refl, sym, ap, subst, ◌∙◌, arith, length-append}
+use Rattle.std.proofs.Common.{◌≡◌, ◌⊎◌, ◌+◌, ◌-◌, ◌*◌, ◌<◌, ◌≤◌, ◌==◌, ℕ, zero, suc, min, Bool, true, false, IsTrue, List, [], length, Option, Some, unwrap_or, if◌then◌else◌, inl, inr, refl, sym, ap, subst, ◌∙◌, arith, length-append}
 use Rattle.std.specs.List.{range_with_len}
 use Rattle.std.proofs.lemmas.Bool.{cases_lt, both_ways}
 use Rattle.std.proofs.lemmas.List.{length-replicate}
@@ -31,7 +31,7 @@ use Rattle.f11_store.proofs.StoreLemmas.{other_number, same_number}
 use Rattle.f11_volume.specs.Contents.{file_of}
 use Rattle.f11_volume.specs.Sound.{HasSoundVolume}
 use Rattle.f11_volume.specs.Space.{storage_bitmap}
-use Rattle.f11_volume.specs.Volume.{Volume, volume_of}
+use Rattle.f11_volume.specs.Volume.{volume_of}
 use Rattle.f11_writes.specs.NameLaws.{AreUnreferenced}
 use Rattle.f11_writes.proofs.NameLemmas.{part-unreferenced}
 use Rattle.f11_image_store.specs.Allocation.{NamesMore}
@@ -41,11 +41,11 @@ use Rattle.f11_image_store.proofs.AllocationLemmas.{gains-nothing, names-twice}
 use Rattle.f11_image_store.proofs.PointerLemmas.{file-pointers}
 use Rattle.f11_image_store.proofs.StoreLemmas.{file-at, seen-own}
 use Rattle.f11_files.specs.Answers.{Breaks, WritesAtMost}
-use Rattle.f11_files.specs.Extending.Growing.{GrowingInto, IsGrowing, SameFree}
+use Rattle.f11_files.specs.Extending.Growing.{IsGrowing, SameFree}
 use Rattle.f11_files.specs.Extending.Header.{AppendingRun, AppendsRun}
 use Rattle.f11_files.specs.Extending.Slots.{GetsBlocks}
 use Rattle.f11_files.specs.Extending.Tail.{HoldsLast, ownership_of, places_next, whose}
-use Rattle.f11_files.specs.LayingOut.Lay.{laying_cost, run_free, IsLaying, LayingRun, LaysRun}
+use Rattle.f11_files.specs.LayingOut.Lay.{laying_cost, run_free, LayingRun, LaysRun}
 use Rattle.f11_files.specs.Structure.{bitmap_in, home_of, store_on, IsStructureFor, StaysFor}
 use Rattle.f11_files.specs.declared.structure.Structure.{Structure}
 use Rattle.f11_files.specs.declared.extend.tail.Tail.{Tail}

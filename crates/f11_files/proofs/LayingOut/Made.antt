@@ -1,9 +1,8 @@
 -- A file that was laid out once its headers were in hand: what it is then, and what stood meanwhile.
-use Rattle.std.proofs.Common.{◌≡◌, ◌+◌, ◌-◌, ◌*◌, ◌/◌, ◌<◌, ◌≤◌, ◌++◌, ◌&&◌, ℕ, zero, suc, Bool, false, not, IsTrue, List, [], ◌∷◌, length, inl, inr, refl, sym, ap, subst, ◌∙◌, arith}
+use Rattle.std.proofs.Common.{◌≡◌, ◌-◌, ◌≤◌, ◌++◌, ℕ, false, IsTrue, List, [], ◌∷◌, length, refl, sym, ap, subst, ◌∙◌, arith}
 use Rattle.std.specs.List.{range_with_len}
 use Rattle.std.proofs.lemmas.List.{append-nil}
 use Rattle.f11_bits.specs.Bitmap.{Bitmap}
-use Rattle.f11_bits.specs.Transfers.{run_transfers}
 use Rattle.f11_chain.specs.FileHeaders.{file_blocks}
 use Rattle.f11_chain.specs.declared.blocks.FileEnd.{FileEnd}
 use Rattle.f11_dev.specs.Disk.{Disk}
@@ -11,24 +10,23 @@ use Rattle.f11_dev.specs.Image.{Image, IsImage}
 use Rattle.f11_home.specs.Home.{HomeFields}
 use Rattle.f11_index.specs.Table.{Table, table_of, first, IsFile}
 use Rattle.f11_index.proofs.ChainLemmas.{file_of-header}
-use Rattle.f11_store.specs.Changes.{is_in, with_change, LaysOut}
+use Rattle.f11_store.specs.Changes.{with_change, LaysOut}
 use Rattle.f11_store.specs.Cost.{contiguous_cost, header_count}
 use Rattle.f11_store.specs.File.{File, need, run_need, run_pointers, zero_blocks}
 use Rattle.f11_store.specs.Lags.{Work, LagsBy, blocks_work, contiguous_work, file_changes, one_part, with_contiguous_mark}
-use Rattle.f11_store.specs.Pieces.{file_numbered, AddsBlocks, TakesSome}
+use Rattle.f11_store.specs.Pieces.{file_numbered, AddsBlocks}
 use Rattle.f11_store.specs.Store.{Store, file_named}
 use Rattle.f11_store.specs.declared.callers.Uic.{Uic}
 use Rattle.f11_store.specs.declared.files.FileId.{FileId}
 use Rattle.f11_store.proofs.ContiguousLaws.{blocks-come-lags, mark-comes-lags, marked-is-laid-out}
 use Rattle.f11_store.proofs.PieceLagLemmas.{taken-lags}
 use Rattle.f11_store.proofs.PieceLemmas.{none-zeros}
-use Rattle.f11_volume.specs.Sound.{HasSoundVolume}
 use Rattle.f11_volume.specs.Space.{storage_bitmap}
-use Rattle.f11_volume.specs.Volume.{Volume, volume_of}
+use Rattle.f11_volume.specs.Volume.{volume_of}
 use Rattle.f11_image_store.specs.Allocation.{ownership_in, GainsBlocks, NamesMore}
 use Rattle.f11_image_store.specs.StoreOf.{store_of}
 use Rattle.f11_image_store.proofs.AllocationLemmas.{names-twice}
-use Rattle.f11_files.specs.Answers.{IsUnderWay, Meanwhile, WritesAtMost}
+use Rattle.f11_files.specs.Answers.{IsUnderWay, Meanwhile}
 use Rattle.f11_files.specs.Changing.Fields.{Alters}
 use Rattle.f11_files.specs.Extending.Growing.{Taking}
 use Rattle.f11_files.specs.Extending.Runs.{IsTailOf}
@@ -44,7 +42,7 @@ use Rattle.f11_files.proofs.Extending.Growing.{takes-within}
 use Rattle.f11_files.proofs.Finding.First.{table-of}
 use Rattle.f11_files.proofs.Finding.Locate.{length-named}
 use Rattle.f11_files.proofs.Finding.Named.{block-is}
-use Rattle.f11_files.proofs.LayingOut.Held.{few-blocks, is-named, may-lay, no-pointers, numbered, taken-free}
+use Rattle.f11_files.proofs.LayingOut.Held.{few-blocks, may-lay, no-pointers, numbered, taken-free}
 use Rattle.f11_files.proofs.LayingOut.Lay.{adds-blocks, file-bounds}
 use Rattle.f11_files.proofs.Removing.Freeing.{writes-none, writes-then, writes-within}
 

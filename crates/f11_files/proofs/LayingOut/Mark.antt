@@ -1,6 +1,5 @@
 -- The contiguous mark of a file is set: it has the headers and the blocks that it had.
 use Rattle.std.proofs.Common.{◌≡◌, ◌↔◌, ◌≤◌, ℕ, Bool, true, IsTrue, List, sym, ap, subst, ◌∙◌}
-use Rattle.std.proofs.Math.ListN.{set}
 use Rattle.f11_dev.specs.Disk.{Disk, with_transfer, with_block_at}
 use Rattle.f11_dev.specs.Image.{Image}
 use Rattle.f11_home.specs.Home.{HomeFields}

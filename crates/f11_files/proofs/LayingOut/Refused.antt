@@ -7,14 +7,13 @@ use Rattle.f11_bits.specs.Transfers.{run_transfers}
 use Rattle.f11_chain.specs.declared.blocks.FileEnd.{FileEnd}
 use Rattle.f11_dev.specs.Disk.{Disk}
 use Rattle.f11_dev.specs.Image.{Image, IsImage}
-use Rattle.f11_dev.specs.Went.{Went}
 use Rattle.f11_dev.proofs.WentLemmas.{went_looked, went_weaker}
 use Rattle.f11_home.specs.Home.{HomeFields}
 use Rattle.f11_store.specs.Causes.{first_of, is_missing}
 use Rattle.f11_store.specs.Cost.{contiguous_cost, header_count}
 use Rattle.f11_store.specs.File.{File, run_need, run_pointers, zero_blocks}
 use Rattle.f11_store.specs.Lags.{Work, contiguous_work, file_changes, one_part, with_contiguous_mark, work_if}
-use Rattle.f11_store.specs.Pieces.{file_numbered, longer_file, AddsBlocks}
+use Rattle.f11_store.specs.Pieces.{longer_file, AddsBlocks}
 use Rattle.f11_store.specs.Refusal.{refusal_number}
 use Rattle.f11_store.specs.Store.{Store, file_named, of_sequence}
 use Rattle.f11_store.specs.declared.files.FileId.{FileId}

@@ -1,5 +1,5 @@
 -- A file that is laid out, from the first look at its headers on.
-use Rattle.std.proofs.Common.{◌≡◌, ◌≢◌, ◌+◌, ◌-◌, ◌*◌, ◌≤◌, ◌<◌, ◌||◌, ◌&&◌, not, eqb, ltb, ℕ, Bool, true, false, cond, IsTrue, List, [], ◌∷◌, length, Option, Some, None, Result, Ok, Err, refl, sym, ap, subst, ◌∙◌, arith}
+use Rattle.std.proofs.Common.{◌≡◌, ◌≢◌, ◌+◌, ◌-◌, ◌*◌, ◌≤◌, ◌<◌, ◌||◌, ◌&&◌, not, eqb, ltb, ℕ, Bool, true, false, cond, IsTrue, List, [], ◌∷◌, length, Some, None, Result, Ok, Err, refl, sym, ap, subst, ◌∙◌, arith}
 use Rattle.std.proofs.lemmas.Bool.{eqb-true}
 use Rattle.std.specs.Prelude.{IsErrAnd}
 use Rattle.f11_bits.specs.Run.{NoRunOf}
@@ -13,21 +13,21 @@ use Rattle.f11_store.specs.Causes.{◌⇐◌, first_of, is_missing}
 use Rattle.f11_store.specs.Changes.{LaysOut}
 use Rattle.f11_store.specs.Cost.{contiguous_cost, header_count}
 use Rattle.f11_store.specs.File.{File, length_of, run_need}
-use Rattle.f11_store.specs.Lags.{Work, contiguous_work, work_if}
+use Rattle.f11_store.specs.Lags.{contiguous_work, work_if}
 use Rattle.f11_store.specs.Refusal.{refusal_number}
 use Rattle.f11_store.specs.Store.{Store, file_named, free_headers}
 use Rattle.f11_store.specs.declared.files.FileId.{FileId}
 use Rattle.f11_store.specs.declared.refusals.Refusal.{Refusal}
-use Rattle.f11_store.specs.declared.refusals.Refusal.TheVariants.{DeviceFull, NoHeader, NoRun, NoSuchFile, NotEmpty, TooManySegments, VolumeFailed}
+use Rattle.f11_store.specs.declared.refusals.Refusal.TheVariants.{DeviceFull, NoHeader, NoSuchFile, NotEmpty, TooManySegments, VolumeFailed}
 use Rattle.f11_volume.specs.Volume.{volume_of}
 use Rattle.f11_image_store.specs.FileLaws.{room_in}
 use Rattle.f11_image_store.specs.StoreOf.{store_of}
-use Rattle.f11_files.specs.Answers.{faults_of, is_among, is_clean, is_fatal, is_refused, Does, FailsToRead, FailsToWrite, Meanwhile, ReadsAtMost, WritesAtMost}
+use Rattle.f11_files.specs.Answers.{faults_of, is_among, is_clean, is_refused, Does, FailsToRead, FailsToWrite, Meanwhile, ReadsAtMost, WritesAtMost}
 use Rattle.f11_files.specs.Extending.Room.{FindsEnd}
 use Rattle.f11_files.specs.LayingOut.Room.{run_causes}
 use Rattle.f11_files.specs.LayingOut.Whole.{FailsToLayOut, FailsToLayOutHeld, GainsRun, HoldsRunRoom, LaysOutFile, LaysOutHeld}
 use Rattle.f11_files.specs.Operations.{contiguous_causes, file_causes, IsSpaceOf}
-use Rattle.f11_files.specs.Structure.{home_of, index_in, store_on, IsStructureFor}
+use Rattle.f11_files.specs.Structure.{home_of, store_on, IsStructureFor}
 use Rattle.f11_files.specs.declared.structure.Structure.{Structure}
 use Rattle.f11_files.proofs.AnswerLemmas.{fails-more, reads-more, reads-within, right-cause}
 use Rattle.f11_files.proofs.Behind.{does-read, honest-read, image-read, store-read, writes-read}

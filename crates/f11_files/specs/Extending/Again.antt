@@ -1,5 +1,5 @@
 -- A file's first header and its last, which are read again once other blocks were written.
-use Rattle.std.specs.Prelude.{◌≡◌, ℕ, IsTrue, List, length, None}
+use Rattle.std.specs.Prelude.{◌≡◌, ℕ, List, length, None}
 use Rattle.f11_dev.specs.Disk.{Disk}
 use Rattle.f11_dev.specs.Image.{Image}
 use Rattle.f11_dev.specs.Looked.{Looked}

@@ -9,7 +9,6 @@ use Rattle.f11_store.specs.Causes.{Cause, ◌⇐◌, first_of}
 use Rattle.f11_store.specs.File.{need}
 use Rattle.f11_store.specs.declared.files.FileId.{FileId}
 use Rattle.f11_store.specs.declared.refusals.Refusal.TheVariants.{TooManySegments, DeviceFull, NoHeader}
-use Rattle.f11_image_store.specs.FileLaws.{room_in}
 use Rattle.f11_files.specs.Finding.First.{HoldsFile}
 use Rattle.f11_files.specs.Operations.{held_causes}
 use Rattle.f11_files.specs.Structure.{index_in, store_on}

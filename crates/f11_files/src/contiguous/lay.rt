@@ -20,8 +20,7 @@ ghost use Rattle.f11_volume.specs.Volume.{volume_of};
 ghost use Rattle.f11_writes.specs.NameLaws.{AreUnreferenced};
 
 use crate::answer::{is_fatal, is_no_file};
-use crate::contiguous::room::{judge_run, pointers_for};
-use crate::extend::pieces::LONGEST;
+use crate::contiguous::room::judge_run;
 use crate::extend::room::{PLACES, need, room_of};
 use crate::extend::runs::tail_of;
 use crate::extend::tail::Tail;
@@ -30,6 +29,7 @@ use crate::structure::Structure;
 use f11_bytes::{BLOCK_SIZE, Block};
 use f11_chain::FileEnd;
 use f11_dev::Device;
+use f11_map::{POINTER_BLOCKS, run_pointers};
 use f11_store::{FileId, Refusal};
 
 /// How many of so many blocks come next: those for which the last header has places, or else a new one.
@@ -38,7 +38,7 @@ fn next_blocks(block: &Block, left: u32) -> u32
     ensures { result ≡ next_blocks (room_in block.now) left }
 {
     let room = room_of(block) as u32;
-    left.min(LONGEST * if room == 0 { PLACES } else { room })
+    left.min(POINTER_BLOCKS * if room == 0 { PLACES } else { room })
 }
 
 /// What a refusal is for a file that was found before: it isn't as it should be where it isn't found any more.
@@ -174,7 +174,7 @@ impl Structure {
         let mut last = [0; BLOCK_SIZE];
         let end = self.find_end(device, f, &mut first, &mut last)?;
         let room = room_of(&last);
-        let (free, more) = (self.storage.free(), need(room, pointers_for(n)));
+        let (free, more) = (self.storage.free(), need(room, run_pointers(n)));
         judge_run(
             end.blocks,
             end.headers,

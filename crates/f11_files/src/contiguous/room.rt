@@ -2,18 +2,10 @@
 ghost use Rattle.std.specs.Prelude.{◌≡◌, ◌≤◌, None, Some, IfErr, OnOk};
 ghost use Rattle.f11_files.specs.LayingOut.Room.{run_causes};
 ghost use Rattle.f11_store.specs.Causes.{first_of};
-ghost use Rattle.f11_store.specs.File.{run_pointers};
 
-use crate::extend::pieces::LONGEST;
 use crate::extend::room::{is_too_long, need};
+use f11_map::run_pointers;
 use f11_store::Refusal;
-
-/// How many retrieval pointers `n` blocks in one run take.
-pub(crate) fn pointers_for(n: u32) -> u32
-    ensures { result ≡ run_pointers n }
-{
-    n.div_ceil(LONGEST)
-}
 
 /// Whether a file may be laid out in one run of `n` blocks, which has so many blocks and headers, the last of them with room for so many
 /// pointers, where so many blocks and headers are free.
@@ -34,7 +26,7 @@ pub(crate) fn judge_run(
     ensures refused { IfErr result (λ refusal.
         first_of (run_causes blocks headers room free free_headers n) ≡ Some refusal) }
 {
-    let pointers = pointers_for(n);
+    let pointers = run_pointers(n);
     if blocks > 0 {
         return Err(Refusal::NotEmpty);
     }

@@ -17,7 +17,6 @@ ghost use Rattle.f11_store.specs.File.{run_pointers};
 ghost use Rattle.f11_store.specs.Store.{free_headers};
 
 use crate::create::next_sequence;
-use crate::extend::pieces::append_pieces;
 use crate::extend::tail::Tail;
 use crate::structure::Structure;
 use f11_bytes::{BLOCK_SIZE, Block};
@@ -43,7 +42,7 @@ fn fill_extension(block: &mut Block, id: FileId, tail: &Tail, lbn: u32, count: u
     let segment = in_hand::map(&tail.block).segment();
     blank(block, id, tail.owner, tail.protection, segment + 1);
     // it has no pointer yet, and places for 102
-    append_pieces(block, lbn, count);
+    let _ = in_hand::append_runs(block, lbn, count);
 }
 
 impl Structure {

@@ -1,12 +1,9 @@
-use Rattle.std.proofs.Common.{rules, arith, ◌<◌}
-use Rattle.f11_layout.proofs.NamesLemmas.{NamesRuns-none, NamesRuns-more, has-room, done}
+use Rattle.f11_map.proofs.InHandLemmas.{appended}
+use Rattle.f11_layout.proofs.NamesLemmas.{has-places, names-blocks}
 use Rattle.f11_layout.proofs.header.name_blocks.Goals as goal
 
-pub loop-i-init : goal.loop-i-init
-loop-i-init c = NamesRuns-none _ _ _ (search rules) c.requires.none
-
-pub loop-i-preserved : goal.loop-i-preserved
-loop-i-preserved c =
-    let few : c.loop-i.i < 102 = omega (arith, c.loop-i-test.true, c.div_ceil-i-end.ensures, c.requires.count) in
-    NamesRuns-more _ _ _ _ _ _ c.loop-i.invariant (omega (arith, c.loop-i-test.true, c.div_ceil-i-end.ensures))
-    (done _ (λ is. let full = c.append.ensures.full.0 is in has-room _ _ _ _ _ few c.loop-i.invariant full.0) (rw c.min.ensures at c.append.ensures.ok))
+pub returns : goal.returns
+returns c =
+    let fits = has-places c.args.block.now c.args.count c.requires.count c.requires.none in
+    names-blocks c.args.first c.args.count c.args.block.now _ c.requires.none
+    (appended c.append_runs.result c.args.block.now _ c.args.first c.args.count fits c.append_runs.ensures.ok c.append_runs.ensures.full.0)

@@ -52,7 +52,7 @@ returns-in-Ok-contiguous-clause-handles g c =
     laid c.args.task c.args.lun c.args.caller (state_of t c.args.files.now) (entry_of c.in-Some.held) c.in-Some.ensures.some.0 c.args.n (ne_eqb _ _ c.if-n-eq0.false) c.in-Some.ensures.some.1
     c.in-Ok.attr (state_of t c.read_attr.new.self) (state_of t c.contiguous.new.self) c.in-Ok.ensures.read.reads c.in-Ok.ensures.read.attr_is (sym c.may.ensures ∙ c.if-not-may.false)
     (λ honest. there-held t (store_in c.args.files.now) c.args.task c.args.lun (entry_of c.in-Some.held) (c.requires.open.kept honest) c.in-Some.ensures.within.0 c.in-Some.ensures.within.1 c.in-Some.ensures.some.0)
-    c.in-Ok.ensures.answers.home c.in-Ok-contiguous.ensures.answers.home refl c.in-Ok-contiguous.length c.in-Some.held.own c.in-Ok-contiguous.ensures.laid.0 c.in-Ok-contiguous.ensures.laid.1
+    c.in-Ok.ensures.answers.home c.in-Ok-contiguous.ensures.answers.home refl c.in-Ok-contiguous.length c.in-Ok-contiguous.ensures.laid.0 c.in-Ok-contiguous.ensures.laid.1
 
 pub returns-in-Ok-contiguous-clause-open : goal.returns-in-Ok-contiguous-clause-open
 returns-in-Ok-contiguous-clause-open g c =

@@ -24,7 +24,7 @@ returns-in_err-judge_run-clause-refused g c =
     handed (λ r. FailsToLayOut false (home_of c.args.self.now) c.args.f c.args.n r (g.D.Device.disk c.args.device.now) (g.D.Device.disk c.find_end.new.device)) c.from_residual-in_err-judge_run.result _ c.from_residual-in_err-judge_run.ensures.1
     (no-run-room c.args.self.now c.args.f c.args.n c.in_ok-end.end _ _ (g.D.Device.disk c.args.device.now) (g.D.Device.disk c.find_end.new.device) c.requires.is_for c.requires.own c.requires.some c.in_ok-end.ensures.end c.room_of-room.result c.free-free.result (length (free_slots_in (index_in c.args.self.now))) (slots (index_in c.args.self.now)) c.headers_for.result c.room_of-room.ensures
     (λ honest. space-is c.args.self.now (g.D.Device.disk c.args.device.now) c.requires.is_for honest _ _ _ c.free-free.ensures.free refl refl)
-    (lacks-alike _ _ _ (subst (λ (m : ℕ). m - c.headers_for.result ≡ m - length (free_slots_in (index_in c.args.self.now))) (c.need-more.ensures.need ∙ ap (λ (p : ℕ). need c.room_of-room.result p) c.pointers_for.ensures) c.headers_for.ensures))
+    (lacks-alike _ _ _ (subst (λ (m : ℕ). m - c.headers_for.result ≡ m - length (free_slots_in (index_in c.args.self.now))) (c.need-more.ensures.need ∙ ap (λ (p : ℕ). need c.room_of-room.result p) c.run_pointers.ensures) c.headers_for.ensures))
     _ c.in_err-judge_run.ensures.refused)
 
 pub returns-in_err-judge_run-clause-stays : goal.returns-in_err-judge_run-clause-stays
@@ -40,7 +40,7 @@ lay_out_held-requires-clause-is_for g c = looked-for c.args.self.now _ _ _ _ c.r
 pub lay_out_held-requires-clause-room : goal.lay_out_held-requires-clause-room
 lay_out_held-requires-clause-room g c = has-run-room c.args.self.now c.args.f c.args.n c.in_ok-end.end _ _ (g.D.Device.disk c.args.device.now) (g.D.Device.disk c.find_end.new.device) c.requires.is_for c.requires.own c.requires.some c.in_ok-end.ensures.end c.room_of-room.result c.free-free.result (length (free_slots_in (index_in c.args.self.now))) (slots (index_in c.args.self.now)) c.headers_for.result c.room_of-room.ensures
     (λ honest. space-is c.args.self.now (g.D.Device.disk c.args.device.now) c.requires.is_for honest _ _ _ c.free-free.ensures.free refl refl)
-    (lacks-alike _ _ _ (subst (λ (m : ℕ). m - c.headers_for.result ≡ m - length (free_slots_in (index_in c.args.self.now))) (c.need-more.ensures.need ∙ ap (λ (p : ℕ). need c.room_of-room.result p) c.pointers_for.ensures) c.headers_for.ensures))
+    (lacks-alike _ _ _ (subst (λ (m : ℕ). m - c.headers_for.result ≡ m - length (free_slots_in (index_in c.args.self.now))) (c.need-more.ensures.need ∙ ap (λ (p : ℕ). need c.room_of-room.result p) c.run_pointers.ensures) c.headers_for.ensures))
     c.in_ok-judge_run.ensures.room
 
 pub returns-in_err-lay_out_held-clause-refused : goal.returns-in_err-lay_out_held-clause-refused
@@ -48,7 +48,7 @@ returns-in_err-lay_out_held-clause-refused g c =
     handed (λ r. FailsToLayOut false (home_of c.args.self.now) c.args.f c.args.n r (g.D.Device.disk c.args.device.now) (g.D.Device.disk c.lay_out_held.new.device)) c.from_residual-in_err-lay_out_held.result _ c.from_residual-in_err-lay_out_held.ensures.1
     (fails-whole c.args.self.now c.args.f c.args.n c.in_ok-end.end _ _ (g.D.Device.disk c.args.device.now) (g.D.Device.disk c.find_end.new.device) c.requires.is_for c.requires.own c.requires.some c.in_ok-end.ensures.end c.room_of-room.result c.free-free.result (length (free_slots_in (index_in c.args.self.now))) (slots (index_in c.args.self.now)) c.headers_for.result c.room_of-room.ensures
     (λ honest. space-is c.args.self.now (g.D.Device.disk c.args.device.now) c.requires.is_for honest _ _ _ c.free-free.ensures.free refl refl)
-    (lacks-alike _ _ _ (subst (λ (m : ℕ). m - c.headers_for.result ≡ m - length (free_slots_in (index_in c.args.self.now))) (c.need-more.ensures.need ∙ ap (λ (p : ℕ). need c.room_of-room.result p) c.pointers_for.ensures) c.headers_for.ensures))
+    (lacks-alike _ _ _ (subst (λ (m : ℕ). m - c.headers_for.result ≡ m - length (free_slots_in (index_in c.args.self.now))) (c.need-more.ensures.need ∙ ap (λ (p : ℕ). need c.room_of-room.result p) c.run_pointers.ensures) c.headers_for.ensures))
     c.in_ok-judge_run.ensures.room _ _ c.in_err-lay_out_held.ensures.refused)
 
 pub returns-in_err-lay_out_held-clause-stays : goal.returns-in_err-lay_out_held-clause-stays
@@ -68,7 +68,7 @@ returns-clause-laid g c = (
   refl,
   lays-whole c.args.self.now c.args.f c.args.n c.in_ok-end.end _ _ (g.D.Device.disk c.args.device.now) (g.D.Device.disk c.find_end.new.device) c.requires.is_for c.requires.own c.requires.some c.in_ok-end.ensures.end c.room_of-room.result c.free-free.result (length (free_slots_in (index_in c.args.self.now))) (slots (index_in c.args.self.now)) c.headers_for.result c.room_of-room.ensures
       (λ honest. space-is c.args.self.now (g.D.Device.disk c.args.device.now) c.requires.is_for honest _ _ _ c.free-free.ensures.free refl refl)
-      (lacks-alike _ _ _ (subst (λ (m : ℕ). m - c.headers_for.result ≡ m - length (free_slots_in (index_in c.args.self.now))) (c.need-more.ensures.need ∙ ap (λ (p : ℕ). need c.room_of-room.result p) c.pointers_for.ensures) c.headers_for.ensures))
+      (lacks-alike _ _ _ (subst (λ (m : ℕ). m - c.headers_for.result ≡ m - length (free_slots_in (index_in c.args.self.now))) (c.need-more.ensures.need ∙ ap (λ (p : ℕ). need c.room_of-room.result p) c.run_pointers.ensures) c.headers_for.ensures))
       c.in_ok-judge_run.ensures.room _ c.in_ok-lay_out_held.ensures.laid,
 )
 

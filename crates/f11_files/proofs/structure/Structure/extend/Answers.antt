@@ -1,12 +1,12 @@
-use Rattle.std.proofs.Common.{◌≡◌, ℕ, IsTrue, false, refl, sym, ap, subst, ◌∙◌, arith}
+use Rattle.std.proofs.Common.{false, refl, sym, subst}
 use Rattle.f11_dev.specs.Disk.{Disk}
 use Rattle.f11_dev.proofs.LookedLemmas.{looked_none}
 use Rattle.f11_home.specs.Home.{HomeFields}
 use Rattle.f11_files.specs.Answers.{ReadsAtMost}
 use Rattle.f11_files.specs.Extending.Again.{IsEndOf}
-use Rattle.f11_files.specs.Extending.Room.{HoldsEnd, HoldsRoom}
+use Rattle.f11_files.specs.Extending.Room.{HoldsEnd}
 use Rattle.f11_files.specs.Extending.Runs.{headers_for, FailsToExtend}
-use Rattle.f11_files.specs.Structure.{home_of, IsStructureFor}
+use Rattle.f11_files.specs.Structure.{home_of}
 use Rattle.f11_files.specs.declared.structure.Structure.{Structure}
 use Rattle.f11_files.proofs.AnswerLemmas.{handed, not-clean}
 use Rattle.f11_files.proofs.Behind.{confined-read, more-looked, more-of, stays-handed}

@@ -1,4 +1,4 @@
-use Rattle.std.proofs.Common.{◌≡◌, IsTrue, false, length, refl, arith}
+use Rattle.std.proofs.Common.{IsTrue, length, refl, arith}
 use Rattle.f11_index.specs.IndexFile.{slots, free_slots_in}
 use Rattle.f11_files.specs.GrowingIndex.First.{if_fit, FailsToGetSlots}
 use Rattle.f11_store.specs.Headroom.{may_get_slots}

@@ -1,7 +1,7 @@
-use Rattle.std.proofs.Common.{◌∙◌, ap, inl, refl, arith}
+use Rattle.std.proofs.Common.{◌∙◌, ap, inl, refl}
 use Rattle.f11_store.specs.declared.files.FileId.{FileId}
 use Rattle.f11_files.specs.GrowingIndex.Runs.{index_id}
-use Rattle.f11_files.proofs.AnswerLemmas.{each-err, each-ok, not-clean}
+use Rattle.f11_files.proofs.AnswerLemmas.{each-err, each-ok}
 use Rattle.f11_files.proofs.Extending.Cleared.{holds-last}
 use Rattle.f11_files.proofs.Removing.Freeing.{stays-then}
 use Rattle.f11_files.proofs.GrowingIndex.GrowIndex.{reserved-room, wants-memory, fails-clearing, stays-clearing, may-grow-index, fails-growing, grows-held}

@@ -1,7 +1,6 @@
 use Rattle.std.proofs.Common.{◌≡◌, IsTrue, Some, None, false, length, refl, sym, ◌∙◌, arith}
 use Rattle.f11_index.specs.IndexFile.{slots, free_slots_in}
 use Rattle.f11_store.specs.Causes.{first_of}
-use Rattle.f11_store.specs.Cost.{header_count}
 use Rattle.f11_files.specs.Extending.Room.{room_causes}
 use Rattle.f11_files.specs.GrowingIndex.Runs.{index_id, FailsToGrow}
 use Rattle.f11_files.specs.Operations.{grow_causes, held_causes, IsSpaceOf}

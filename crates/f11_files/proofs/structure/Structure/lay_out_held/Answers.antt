@@ -1,4 +1,4 @@
-use Rattle.std.proofs.Common.{◌∙◌, false, refl}
+use Rattle.std.proofs.Common.{◌∙◌}
 use Rattle.f11_files.specs.LayingOut.Whole.{lost}
 use Rattle.f11_files.proofs.AnswerLemmas.{handed, not-clean}
 use Rattle.f11_files.proofs.LayingOut.Held.{taken-empty, taken-for, taken-last, taken-may, taken-within}
@@ -6,9 +6,6 @@ use Rattle.f11_files.proofs.LayingOut.Made.{lays-out-held}
 use Rattle.f11_files.proofs.LayingOut.Parts.{laying-confined, marking-confined, taking-confined}
 use Rattle.f11_files.proofs.LayingOut.Refused.{breaks-lay, breaks-mark, breaks-take, broken-stays, fails-held, fatal-unclean, finds-no-run, held-stays}
 use Rattle.f11_files.proofs.Removing.Freeing.{handed-stays, stays-for, stays-then}
-use Rattle.f11_files.proofs.LayingOut.Take.{takes-whole}
-use Rattle.f11_files.proofs.LayingOut.Mark.{altered-gains}
-use Rattle.f11_files.proofs.LayingOut.Lay.{laid-done}
 use Rattle.f11_files.proofs.structure.Structure.lay_out_held.Goals as goal
 
 pub returns-in-Ok-None-clause-refused : goal.returns-in-Ok-None-clause-refused

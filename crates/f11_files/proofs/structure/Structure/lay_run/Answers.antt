@@ -1,12 +1,11 @@
-use Rattle.std.proofs.Common.{ℕ, ◌∙◌, ◌-◌, ◌+◌, ◌≡◌, ◌*◌, ◌≤◌, arith, refl, subst}
+use Rattle.std.proofs.Common.{ℕ, ◌∙◌, ◌-◌, ◌+◌, arith, refl, subst}
 use Rattle.std.specs.List.{range_with_len}
-use Rattle.f11_dev.specs.Disk.{Disk}
 use Rattle.f11_files.proofs.AnswerLemmas.{handed}
-use Rattle.f11_files.proofs.Confining.Parts.{parts-none, stands-same, to-parts}
+use Rattle.f11_files.proofs.Confining.Parts.{parts-none, to-parts}
 use Rattle.f11_files.proofs.Extending.Growing.{breaks-stays}
 use Rattle.f11_files.proofs.Extending.Parts.{grows-same, grows-then, growth-then}
 use Rattle.f11_files.proofs.LayingOut.Lay.{fails-run, laid-done, laid-more, laid-none, next-few, next-fits, next-for, next-gets, next-may, next-reserved, next-some, next-unreferenced, next-within, part-in, sound-moment, LaidUpTo}
-use Rattle.f11_files.proofs.Removing.Freeing.{handed-stays, stays-for}
+use Rattle.f11_files.proofs.Removing.Freeing.{handed-stays}
 use Rattle.f11_files.specs.Extending.Tail.{growth_headers}
 use Rattle.f11_files.proofs.structure.Structure.lay_run.Goals as goal
 

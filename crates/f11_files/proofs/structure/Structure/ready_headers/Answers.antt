@@ -1,4 +1,4 @@
-use Rattle.std.proofs.Common.{◌-◌, false, refl, sym, ap, ◌∙◌, arith}
+use Rattle.std.proofs.Common.{◌-◌, false, refl, arith}
 use Rattle.f11_dev.proofs.LookedLemmas.{looked_none}
 use Rattle.f11_store.specs.Headroom.{slots_first}
 use Rattle.f11_files.specs.GrowingIndex.Headroom.{FailsToReady}
