@@ -4,7 +4,7 @@ use Rattle.std.specs.Prelude.{Option, Some, None, Result, Ok, Err, codes}
 use Rattle.std.specs.Fmt.{decimal}
 use Rattle.std.specs.Io.KnownBytes.{Keeps}
 use Rattle.f11_dev.specs.Disk.{Disk}
-use Rattle.f11_fcp.specs.Accesses.{Table, held_in, no_entries}
+use Rattle.f11_fcp.specs.Accesses.{AccessTable, held_in, no_entries}
 use Rattle.f11_files.specs.Answers.{is_fatal, is_fault as is_files_fault}
 use Rattle.f11_findings.specs.declared.finding.Finding.{Finding}
 use Rattle.f11_flx.specs.Copying.{is_whole, of_files, of_rt}
@@ -88,7 +88,7 @@ pub record FaresBoth (result : Result ℕ FlxRefusal) (files files' rt rt' : Dis
 -- volume unless a transfer of it failed. Where one of either failed nothing is undone on the other; an RT-11 source is only read.
 pub record CopiesImages (c : Copying) (result : Result ℕ FlxRefusal) (files files' rt rt' : Disk) : Type 0 where
   pub home : HomeFields
-  pub held : Table
+  pub held : AccessTable
   pub home_is : IsTrue files.honest → IsHomeOf files.image home
   pub outcome : IsTrue files.honest → IsTrue rt.honest → is_whole result ≡ true →
       OutcomeIs c result (held_in no_entries (store_of files.image home)) (held_in held (store_of files'.image home)) rt rt'
