@@ -15,9 +15,9 @@ use Rattle.f11_store.specs.Store.{Store}
 use Rattle.rt11_volume.specs.Calls.{has_failed, volume_device}
 use Rattle.rt11_volume.specs.Verifying.Verdict.{IsRtAccepted, IsSoundDisk}
 use Rattle.rt11_volume.specs.declared.volume.RtAccepted.{RtAccepted}
-use Rattle.f11_commands.specs.CopyCommand.{AnswersCopy, CopiesImages, EndsBetween, Tells}
+use Rattle.f11_commands.specs.CopyCommand.{AnswersCopy, CopiesImages, EndsBetween, TellsCopy}
 use Rattle.f11_commands.specs.Copying.{OutcomeIs, StandsAsIs}
-use Rattle.f11_commands.specs.Finding.{Answers}
+use Rattle.f11_commands.specs.Finding.{FaresAsAnswered}
 use Rattle.f11_commands.specs.declared.copy.CopyAnswer.{CopyAnswer}
 use Rattle.f11_commands.specs.declared.copy.Copying.{Copying}
 use Rattle.f11_commands.specs.declared.outcome.Failure.{Failure}
@@ -31,7 +31,7 @@ both false b h k = absurd (let never : false ≡ true = h in cc)
 module _ {D E : Type 0} {met : Ghosts D} {met' : Ghosts E} (rt-disk : E → Disk) (c : Copying) (result : Result ℕ FlxRefusal) (old : Disk)
     (first last : Volume D met) (rt rt' : RtAccepted E met') (mounts : Mounts old first)
     (accepted : IsTrue (rt-disk (volume_device rt)).honest → IsRtAccepted (rt-disk (volume_device rt)).image)
-    (unfailed : has_failed rt ≡ false) (answers : Answers rt-disk c.direction c.rt_name result (OutcomeIs c result) first last rt rt')
+    (unfailed : has_failed rt ≡ false) (answers : FaresAsAnswered rt-disk c.direction c.rt_name result (OutcomeIs c result) first last rt rt')
   where
     first-is : store_of_volume first ≡ held_in no_entries (store_of old.image (state_in first).home)
     first-is =
@@ -80,7 +80,7 @@ module _ {D E : Type 0} {met : Ghosts D} {met' : Ghosts E} (rt-disk : E → Disk
     }
 
     pub ends-between : {W : Type 0} (told : Result CopyAnswer Failure) (contents : W → Option (List ℕ)) (before after : W) (new rt-new : Disk)
-        → new ≡ (state_in last).disk → rt-new ≡ d' → Tells result told contents before after
+        → new ≡ (state_in last).disk → rt-new ≡ d' → TellsCopy result told contents before after
         → EndsBetween c told old new d rt-new contents before after
     ends-between told contents before after new rt-new at rt-at tells =
         inl (subst (λ (x : Disk). AnswersCopy c told old x d rt-new contents before after) (sym at)
