@@ -9,7 +9,7 @@ use Rattle.f11_flx.proofs.RtCopyLemmas.{has-written, took-puts}
 use Rattle.f11_flx.proofs.RtOutcomeLemmas.{locked-leaves}
 use Rattle.f11_flx.proofs.SeenLemmas.{granted-seen}
 use Rattle.f11_flx.proofs.VolumeLemmas.{volume-seen}
-use Rattle.f11_flx.specs.Asking.{Asking, Denies, Granted, Grants, Service, Who, asks, counts, plain, reads, told, writes}
+use Rattle.f11_flx.specs.Asking.{Asking, Denies, Granted, Grants, FilesService, Who, asks, counts, plain, reads, told, writes}
 use Rattle.f11_flx.specs.Copying.{of_volume}
 use Rattle.f11_flx.specs.Ended.{EndsUnread, is_building, is_building_request}
 use Rattle.f11_flx.specs.EndedToRt.{EndsHeld, EndsOnFiles, IsMadeInPart, WasRefused, is_holding, is_holding_request}
@@ -96,7 +96,7 @@ module _ {D : Type 0} {met : Ghosts D} (v w : Volume D met) (sound : is_sound v 
           denied-stays d.0 d.1 (store_of_volume h.at) (store_of_volume w) (volume-seen.denied operator d.0 d.1 h.at w d.3 seen.1 d.2).0
 
 -- an RT-11 volume that is copied to has the files that it had, or its new one besides, where the other volume broke the copy off
-pub begun-left : {V E : Type 0} {met : Ghosts E} (S : Service V) (disk : E → Disk) (who : Who) (lun : ℕ) (file : FileId) (name : List ℕ) (day : ℕ) (m : CopyMode) (e : Refusal)
+pub begun-left : {V E : Type 0} {met : Ghosts E} (S : FilesService V) (disk : E → Disk) (who : Who) (lun : ℕ) (file : FileId) (name : List ℕ) (day : ℕ) (m : CopyMode) (e : Refusal)
     (v w : V) (rt rt' : RtAccepted E met) → EndsOnFiles m S disk who lun file name day e v w rt rt' → IsSoundDisk (rt_disk disk rt) →
     IsSoundDisk (rt_disk disk rt') × LeavesBegun name (rt_store disk rt) (rt_store disk rt')
 begun-left {E = E} {met = met} S disk who lun file name day m e v w rt rt' h sound = by h.target

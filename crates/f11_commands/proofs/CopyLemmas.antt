@@ -4,7 +4,7 @@ use Rattle.f11_dev.specs.Disk.{Disk}
 use Rattle.f11_dev.specs.Image.{Image}
 use Rattle.f11_dev.specs.declared.device.Device.{Ghosts}
 use Rattle.f11_home.specs.Home.{HomeFields}
-use Rattle.f11_fcp.specs.Accesses.{Table, held_in, no_entries}
+use Rattle.f11_fcp.specs.Accesses.{AccessTable, held_in, no_entries}
 use Rattle.f11_fcp.specs.Lists.{is_sound, store_of_volume}
 use Rattle.f11_fcp.specs.Mounting.{Mounts}
 use Rattle.f11_fcp.specs.Serving.{is_spent, state_in}
@@ -15,9 +15,9 @@ use Rattle.f11_store.specs.Store.{Store}
 use Rattle.rt11_volume.specs.Calls.{has_failed, volume_device}
 use Rattle.rt11_volume.specs.Verifying.Verdict.{IsRtAccepted, IsSoundDisk}
 use Rattle.rt11_volume.specs.declared.volume.RtAccepted.{RtAccepted}
-use Rattle.f11_commands.specs.CopyCommand.{AnswersCopy, CopiesImages, EndsBetween, Tells}
+use Rattle.f11_commands.specs.CopyCommand.{AnswersCopy, CopiesImages, EndsBetween, TellsCopy}
 use Rattle.f11_commands.specs.Copying.{OutcomeIs, StandsAsIs}
-use Rattle.f11_commands.specs.Finding.{Answers}
+use Rattle.f11_commands.specs.Finding.{FaresAsAnswered}
 use Rattle.f11_commands.specs.declared.copy.CopyAnswer.{CopyAnswer}
 use Rattle.f11_commands.specs.declared.copy.Copying.{Copying}
 use Rattle.f11_commands.specs.declared.outcome.Failure.{Failure}
@@ -31,11 +31,11 @@ both false b h k = absurd (let never : false ≡ true = h in cc)
 module _ {D E : Type 0} {met : Ghosts D} {met' : Ghosts E} (rt-disk : E → Disk) (c : Copying) (result : Result ℕ FlxRefusal) (old : Disk)
     (first last : Volume D met) (rt rt' : RtAccepted E met') (mounts : Mounts old first)
     (accepted : IsTrue (rt-disk (volume_device rt)).honest → IsRtAccepted (rt-disk (volume_device rt)).image)
-    (unfailed : has_failed rt ≡ false) (answers : Answers rt-disk c.direction c.rt_name result (OutcomeIs c result) first last rt rt')
+    (unfailed : has_failed rt ≡ false) (answers : FaresAsAnswered rt-disk c.direction c.rt_name result (OutcomeIs c result) first last rt rt')
   where
     first-is : store_of_volume first ≡ held_in no_entries (store_of old.image (state_in first).home)
     first-is =
-        ap (λ (t : Table). held_in t (store_of (state_in first).disk.image (state_in first).home)) mounts.none
+        ap (λ (t : AccessTable). held_in t (store_of (state_in first).disk.image (state_in first).home)) mounts.none
         ∙ ap (λ (i : Image). held_in no_entries (store_of i (state_in first).home)) mounts.looked.image
 
     last-is : store_of_volume last ≡ held_in (state_in last).table (store_of (state_in last).disk.image (state_in first).home)
@@ -80,7 +80,7 @@ module _ {D E : Type 0} {met : Ghosts D} {met' : Ghosts E} (rt-disk : E → Disk
     }
 
     pub ends-between : {W : Type 0} (told : Result CopyAnswer Failure) (contents : W → Option (List ℕ)) (before after : W) (new rt-new : Disk)
-        → new ≡ (state_in last).disk → rt-new ≡ d' → Tells result told contents before after
+        → new ≡ (state_in last).disk → rt-new ≡ d' → TellsCopy result told contents before after
         → EndsBetween c told old new d rt-new contents before after
     ends-between told contents before after new rt-new at rt-at tells =
         inl (subst (λ (x : Disk). AnswersCopy c told old x d rt-new contents before after) (sym at)

@@ -9,7 +9,7 @@ use Rattle.f11_files.specs.Answers.{is_fatal, is_fault}
 use Rattle.f11_flx.proofs.KeptLemmas.{denied-live, rt-apart, same-refusal}
 use Rattle.f11_flx.proofs.VolumeLemmas.{IsFared, denied-fared, granted-fared, volume-seen}
 use Rattle.f11_flx.specs.Asking.{Asking, Denies, Fails, Grants, Who, asks, plain, told, who_asks}
-use Rattle.f11_flx.specs.Copying.{AsksOnly, FaresFiles, FaresRt, MakesFile, MakesRtFile, ReadsFiles, ReadsRt, WhereSound, is_whole, of_files, of_rt, of_volume}
+use Rattle.f11_flx.specs.Copying.{AsksOnly, FaresFiles, FaresRt, MayMakeFile, MakesRtFile, ReadsFiles, ReadsRt, WhereSound, is_whole, of_files, of_rt, of_volume}
 use Rattle.f11_flx.specs.CopyFromRt.{CopiesFromRt, FailsToCopyFromRt}
 use Rattle.f11_flx.specs.CopyToRt.{CopiesToRt, FailsToCopyToRt, RefusesCopyToRt}
 use Rattle.f11_flx.specs.Ended.{Ends}
@@ -35,7 +35,7 @@ use Rattle.rt11_volume.specs.declared.volume.RtAccepted.{RtAccepted}
 use Rattle.f11_commands.proofs.AskedLemmas.{denied-home, denied-undamaged, granted-home, never, tried-breaks, tried-home}
 use Rattle.f11_commands.proofs.BrokenLemmas.{begun-left, held-stands, stands-behind, unread-stands}
 use Rattle.f11_commands.specs.Copying.{CopiesWithin, KeepsRt, LeavesBegun, OutcomeIs, ReadsSource, StandsAsIs, directory_name, is_undoing, master_directory, operator}
-use Rattle.f11_commands.specs.Finding.{Answers, WithinDirectory, is_found}
+use Rattle.f11_commands.specs.Finding.{FaresAsAnswered, WithinDirectory, is_found}
 use Rattle.f11_commands.specs.declared.copy.Copying.{Copying}
 use Rattle.f11_commands.specs.declared.copy.Direction.{Direction}
 use Rattle.f11_commands.specs.declared.copy.Direction.TheVariants.{ToRt, FromRt}
@@ -104,10 +104,10 @@ module _ {D : Type 0} {met : Ghosts D} where
 module _ {D E : Type 0} {met : Ghosts D} {met' : Ghosts E} (disk : E → Disk) where
   -- a copy behind something that was granted
   pub answers-behind : (direction : Direction) (rt-name : List ℕ) (result : Result ℕ FlxRefusal) (Holds Holds' : Store → Store → Disk → Disk → Type 0) (x : Asking) (v u w : Volume D met) (rt rt' : RtAccepted E met')
-      → is_undoing x ≡ false → Grants of_volume operator x v u → Answers disk direction rt-name result Holds u w rt rt'
+      → is_undoing x ≡ false → Grants of_volume operator x v u → FaresAsAnswered disk direction rt-name result Holds u w rt rt'
       → (Grants plain operator x (store_of_volume v) (store_of_volume u) → Holds (store_of_volume u) (store_of_volume w) (disk (volume_device rt)) (disk (volume_device rt'))
       → Holds' (store_of_volume v) (store_of_volume w) (disk (volume_device rt)) (disk (volume_device rt')))
-      → Answers disk direction rt-name result Holds' v w rt rt'
+      → FaresAsAnswered disk direction rt-name result Holds' v w rt rt'
   answers-behind direction rt-name result Holds Holds' x v u w rt rt' none grants a step =
       let fared = granted-fared operator x v u grants in
       record {
@@ -133,7 +133,7 @@ module _ {D E : Type 0} {met : Ghosts D} {met' : Ghosts E} (disk : E → Disk) w
       → Fails of_volume operator is_found (request.Find dir name) e v w
       → (Denies plain operator (asks (request.Find dir name)) e (store_of_volume v) (store_of_volume w)
       → Holds (store_of_volume v) (store_of_volume w) (disk (volume_device rt)) (disk (volume_device rt)))
-      → Answers disk direction rt-name (Err (Files e)) Holds v w rt rt
+      → FaresAsAnswered disk direction rt-name (Err (Files e)) Holds v w rt rt
   answers-not-found direction rt-name Holds dir name e v w rt (inl denies) step =
       let fared = denied-fared operator (asks (request.Find dir name)) e v w denies in
       record {
@@ -210,7 +210,7 @@ module _ {D E : Type 0} {met : Ghosts D} {met' : Ghosts E} (disk : E → Disk) w
         → IfOk result (λ blocks. WhereSound disk v rt (CopiesToRt c.mode operator 0 source c.rt_name 0 blocks s s' (rt_store_of d.image) (rt_store_of d'.image)))
         → IfErr result (λ e. is_whole result ≡ true → WhereSound disk v rt (RefusesCopyToRt e c.mode operator 0 source c.rt_name s s' d d'))
         → IfErr result (λ e. is_lethal e ≡ true → EndsToRt c.mode of_volume disk operator 0 source c.rt_name 0 e v w rt rt')
-        → Answers disk ToRt c.rt_name result (OfSource source result) v w rt rt'
+        → FaresAsAnswered disk ToRt c.rt_name result (OfSource source result) v w rt rt'
     answers-to-rt source result files target copied refused ended = record {
       fares = files.fares;
       fares_rt = target.fares;
@@ -261,11 +261,11 @@ module _ {D E : Type 0} {met : Ghosts D} {met' : Ghosts E} (disk : E → Disk) w
         by_result (Err e) made copies not-copied sound rt-sound whole = let is = not-copied whole sound rt-sound in (is.why, ap (λ i. rt_store_of i) is.unwritten)
 
     -- a copy from it
-    pub answers-from-rt : (dir : FileId) (result : Result ℕ FlxRefusal) → ReadsRt disk result rt rt' → MakesFile result operator v w
+    pub answers-from-rt : (dir : FileId) (result : Result ℕ FlxRefusal) → ReadsRt disk result rt rt' → MayMakeFile result operator v w
         → IfOk result (λ blocks. WhereSound disk v rt (CopiesFromRt c.mode c.rt_name operator 0 dir c.name 0 blocks (rt_store_of d.image) s s'))
         → IfErr result (λ e. is_whole result ≡ true → WhereSound disk v rt (FailsToCopyFromRt e c.mode c.rt_name operator 0 dir c.name 0 d s s'))
         → IfErr result (λ e. is_lethal e ≡ true → Ends of_volume operator e v w)
-        → Answers disk FromRt c.rt_name result (WithinDirectory FromRt c dir result) v w rt rt'
+        → FaresAsAnswered disk FromRt c.rt_name result (WithinDirectory FromRt c dir result) v w rt rt'
     answers-from-rt dir result source files copied refused ended = record {
       fares = files.fares;
       fares_rt = source.fares;
@@ -291,7 +291,7 @@ module _ {D E : Type 0} {met : Ghosts D} {met' : Ghosts E} (disk : E → Disk) w
         same : (r : Result ℕ FlxRefusal) → KeepsRt FromRt r (rt_store_of d.image) (rt_store_of d'.image)
         same r = ap (λ i. rt_store_of i) source.image
 
-        by_result : (r : Result ℕ FlxRefusal) → MakesFile r operator v w
+        by_result : (r : Result ℕ FlxRefusal) → MayMakeFile r operator v w
             → IfOk r (λ blocks. WhereSound disk v rt (CopiesFromRt c.mode c.rt_name operator 0 dir c.name 0 blocks (rt_store_of d.image) s s'))
             → IfErr r (λ e. is_whole r ≡ true → WhereSound disk v rt (FailsToCopyFromRt e c.mode c.rt_name operator 0 dir c.name 0 d s s'))
             → is_sound v ≡ true → IsSoundDisk d → is_whole r ≡ true → CopiesWithin FromRt c dir r s s' d d'
@@ -311,7 +311,7 @@ module _ {D E : Type 0} {met : Ghosts D} {met' : Ghosts E} (disk : E → Disk) (
       → IfErr result (λ e. is_whole result ≡ true → WhereSound disk v rt
       (RefusesCopyToRt e c.mode (who_asks task operator.caller) lun source c.rt_name (store_of_volume v) (store_of_volume w) (disk (volume_device rt)) (disk (volume_device rt'))))
       → IfErr result (λ e. is_lethal e ≡ true → EndsToRt c.mode of_volume disk (who_asks task operator.caller) lun source c.rt_name 0 e v w rt rt')
-      → Answers disk ToRt c.rt_name result (OfSource disk c v w rt rt' source result) v w rt rt'
+      → FaresAsAnswered disk ToRt c.rt_name result (OfSource disk c v w rt rt' source result) v w rt rt'
   copied-to-rt task lun task-is lun-is source result v w rt rt' = subst (λ t. By t lun) (sym task-is) (subst (λ l. By 0 l) (sym lun-is) (answers-to-rt disk c v w rt rt' source result))
     where
       By : ℕ → ℕ → Type 0
@@ -322,33 +322,33 @@ module _ {D E : Type 0} {met : Ghosts D} {met' : Ghosts E} (disk : E → Disk) (
           → IfErr result (λ e. is_whole result ≡ true → WhereSound disk v rt
           (RefusesCopyToRt e c.mode (who_asks t operator.caller) l source c.rt_name (store_of_volume v) (store_of_volume w) (disk (volume_device rt)) (disk (volume_device rt'))))
           → IfErr result (λ e. is_lethal e ≡ true → EndsToRt c.mode of_volume disk (who_asks t operator.caller) l source c.rt_name 0 e v w rt rt')
-          → Answers disk ToRt c.rt_name result (OfSource disk c v w rt rt' source result) v w rt rt'
+          → FaresAsAnswered disk ToRt c.rt_name result (OfSource disk c v w rt rt' source result) v w rt rt'
 
   -- and one from it
   pub copied-from-rt : (task lun : ℕ) → task ≡ 0 → lun ≡ 0 → (dir : FileId) (result : Result ℕ FlxRefusal) (v w : Volume D met) (rt rt' : RtAccepted E met')
-      → ReadsRt disk result rt rt' → MakesFile result (who_asks task operator.caller) v w
+      → ReadsRt disk result rt rt' → MayMakeFile result (who_asks task operator.caller) v w
       → IfOk result (λ blocks. WhereSound disk v rt (CopiesFromRt c.mode c.rt_name (who_asks task operator.caller) lun dir c.name 0 blocks
       (rt_store_of (disk (volume_device rt)).image) (store_of_volume v) (store_of_volume w)))
       → IfErr result (λ e. is_whole result ≡ true → WhereSound disk v rt
       (FailsToCopyFromRt e c.mode c.rt_name (who_asks task operator.caller) lun dir c.name 0 (disk (volume_device rt)) (store_of_volume v) (store_of_volume w)))
       → IfErr result (λ e. is_lethal e ≡ true → Ends of_volume (who_asks task operator.caller) e v w)
-      → Answers disk FromRt c.rt_name result (WithinDirectory FromRt c dir result) v w rt rt'
+      → FaresAsAnswered disk FromRt c.rt_name result (WithinDirectory FromRt c dir result) v w rt rt'
   copied-from-rt task lun task-is lun-is dir result v w rt rt' = subst (λ t. By t lun) (sym task-is) (subst (λ l. By 0 l) (sym lun-is) (answers-from-rt disk c v w rt rt' dir result))
     where
       By : ℕ → ℕ → Type 0
       By t l =
-          ReadsRt disk result rt rt' → MakesFile result (who_asks t operator.caller) v w
+          ReadsRt disk result rt rt' → MayMakeFile result (who_asks t operator.caller) v w
           → IfOk result (λ blocks. WhereSound disk v rt (CopiesFromRt c.mode c.rt_name (who_asks t operator.caller) l dir c.name 0 blocks
           (rt_store_of (disk (volume_device rt)).image) (store_of_volume v) (store_of_volume w)))
           → IfErr result (λ e. is_whole result ≡ true → WhereSound disk v rt
           (FailsToCopyFromRt e c.mode c.rt_name (who_asks t operator.caller) l dir c.name 0 (disk (volume_device rt)) (store_of_volume v) (store_of_volume w)))
           → IfErr result (λ e. is_lethal e ≡ true → Ends of_volume (who_asks t operator.caller) e v w)
-          → Answers disk FromRt c.rt_name result (WithinDirectory FromRt c dir result) v w rt rt'
+          → FaresAsAnswered disk FromRt c.rt_name result (WithinDirectory FromRt c dir result) v w rt rt'
 
   -- the file is found, and then it is copied
   pub found-source : (dir source : FileId) (result : Result ℕ FlxRefusal) (v u w : Volume D met) (rt rt' : RtAccepted E met')
-      → Grants of_volume operator (told (request.Find dir c.name) (reply.Found source)) v u → Answers disk ToRt c.rt_name result (OfSource disk c u w rt rt' source result) u w rt rt'
-      → Answers disk ToRt c.rt_name result (WithinDirectory ToRt c dir result) v w rt rt'
+      → Grants of_volume operator (told (request.Find dir c.name) (reply.Found source)) v u → FaresAsAnswered disk ToRt c.rt_name result (OfSource disk c u w rt rt' source result) u w rt rt'
+      → FaresAsAnswered disk ToRt c.rt_name result (WithinDirectory ToRt c dir result) v w rt rt'
   found-source dir source result v u w rt rt' grants answers =
       answers-behind disk ToRt c.rt_name result (OfSource disk c u w rt rt' source result) (WithinDirectory ToRt c dir result) (told (request.Find dir c.name) (reply.Found source))
       v u w rt rt' refl grants answers (by_result result)
@@ -360,7 +360,7 @@ module _ {D E : Type 0} {met : Ghosts D} {met' : Ghosts E} (disk : E → Disk) (
       by_result (Err e) granted holds = (inr (record { source = source; found = store_of_volume u; finds = (store_of_volume u, granted, refl); refused = holds.0 }), holds.1)
 
   pub lacks-source : (dir : FileId) (e : Refusal) (v w : Volume D met) (rt : RtAccepted E met') → Fails of_volume operator is_found (request.Find dir c.name) e v w
-      → Answers disk ToRt c.rt_name (Err (Files e)) (WithinDirectory ToRt c dir (Err (Files e))) v w rt rt
+      → FaresAsAnswered disk ToRt c.rt_name (Err (Files e)) (WithinDirectory ToRt c dir (Err (Files e))) v w rt rt
   lacks-source dir e v w rt fails =
       answers-not-found disk ToRt c.rt_name (WithinDirectory ToRt c dir (Err (Files e))) dir c.name e v w rt fails
       (λ denies. (inl (record { refusal = e; is = refl; not_found = denies }), refl))
@@ -368,10 +368,10 @@ module _ {D E : Type 0} {met : Ghosts D} {met' : Ghosts E} (disk : E → Disk) (
   -- the user's directory is found, and then a file is copied from it, or to it
   pub found-directory : (direction : Direction) → c.direction ≡ direction → (name : List ℕ) → name ≡ directory_name c.directory → (dir : FileId) (result : Result ℕ FlxRefusal)
       (v u w : Volume D met) (rt rt' : RtAccepted E met')
-      → Grants of_volume operator (told (request.Find master_directory name) (reply.Found dir)) v u → Answers disk direction c.rt_name result (WithinDirectory direction c dir result) u w rt rt'
-      → Answers disk c.direction c.rt_name result (OutcomeIs c result) v w rt rt'
+      → Grants of_volume operator (told (request.Find master_directory name) (reply.Found dir)) v u → FaresAsAnswered disk direction c.rt_name result (WithinDirectory direction c dir result) u w rt rt'
+      → FaresAsAnswered disk c.direction c.rt_name result (OutcomeIs c result) v w rt rt'
   found-directory direction is name name-is dir result v u w rt rt' grants answers =
-      subst (λ x. Answers disk x c.rt_name result (OutcomeIs c result) v w rt rt') (sym is)
+      subst (λ x. FaresAsAnswered disk x c.rt_name result (OutcomeIs c result) v w rt rt') (sym is)
       (answers-behind disk direction c.rt_name result (WithinDirectory direction c dir result) (OutcomeIs c result) (told (request.Find master_directory (directory_name c.directory)) (reply.Found dir))
       v u w rt rt' refl (subst (λ n. Grants of_volume operator (told (request.Find master_directory n) (reply.Found dir)) v u) name-is grants) answers
       (λ granted holds. record {
@@ -385,7 +385,7 @@ module _ {D E : Type 0} {met : Ghosts D} {met' : Ghosts E} (disk : E → Disk) (
       }))
 
   pub lacks-directory : (name : List ℕ) → name ≡ directory_name c.directory → (e : Refusal) (v w : Volume D met) (rt : RtAccepted E met')
-      → Fails of_volume operator is_found (request.Find master_directory name) e v w → Answers disk c.direction c.rt_name (Err (Files e)) (OutcomeIs c (Err (Files e))) v w rt rt
+      → Fails of_volume operator is_found (request.Find master_directory name) e v w → FaresAsAnswered disk c.direction c.rt_name (Err (Files e)) (OutcomeIs c (Err (Files e))) v w rt rt
   lacks-directory name name-is e v w rt fails =
       answers-not-found disk c.direction c.rt_name (OutcomeIs c (Err (Files e))) master_directory (directory_name c.directory) e v w rt
       (subst (λ n. Fails of_volume operator is_found (request.Find master_directory n) e v w) name-is fails)

@@ -5,7 +5,7 @@ use Rattle.f11_dev.specs.Image.{Image}
 use Rattle.f11_dev.specs.Looked.{Looked}
 use Rattle.f11_dev.specs.declared.device.Device.{Ghosts}
 use Rattle.f11_home.specs.Home.{HomeFields, IsHomeOf}
-use Rattle.f11_fcp.specs.Accesses.{Table, held_in, no_entries}
+use Rattle.f11_fcp.specs.Accesses.{AccessTable, held_in, no_entries}
 use Rattle.f11_fcp.specs.Lists.{ServesCall, failures_of, is_sound, store_of_volume}
 use Rattle.f11_fcp.specs.Mounting.{Mounts}
 use Rattle.f11_fcp.specs.Serving.{StaysAccepted, is_spent, state_in}
@@ -40,7 +40,7 @@ module _ {D W : Type 0} {met : Ghosts D} (disk : Disk) (first last : Volume D me
 
     first-is : store_of_volume first ≡ held_in no_entries (store_of disk.image (state_in first).home)
     first-is =
-        ap (λ (t : Table). held_in t (store_of (state_in first).disk.image (state_in first).home)) mounts.none
+        ap (λ (t : AccessTable). held_in t (store_of (state_in first).disk.image (state_in first).home)) mounts.none
         ∙ ap (λ (i : Image). held_in no_entries (store_of i (state_in first).home)) mounts.looked.image
 
     last-is : store_of_volume last ≡ held_in (state_in last).table (store_of (state_in last).disk.image (state_in first).home)

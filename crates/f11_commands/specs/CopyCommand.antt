@@ -4,7 +4,7 @@ use Rattle.std.specs.Prelude.{Option, Some, None, Result, Ok, Err, codes}
 use Rattle.std.specs.Fmt.{decimal}
 use Rattle.std.specs.Io.KnownBytes.{Keeps}
 use Rattle.f11_dev.specs.Disk.{Disk}
-use Rattle.f11_fcp.specs.Accesses.{Table, held_in, no_entries}
+use Rattle.f11_fcp.specs.Accesses.{AccessTable, held_in, no_entries}
 use Rattle.f11_files.specs.Answers.{is_fatal, is_fault as is_files_fault}
 use Rattle.f11_findings.specs.declared.finding.Finding.{Finding}
 use Rattle.f11_flx.specs.Copying.{is_whole, of_files, of_rt}
@@ -24,7 +24,7 @@ use Rattle.rt11_volume.specs.Verifying.Verdict.{IsRtAccepted}
 use Rattle.rt11_volume.specs.declared.refusal.RtRefusal.{RtRefusal}
 use Rattle.rt11_volume.specs.declared.refusal.RtRefusal.TheVariants as rt_refusal
 use Rattle.f11_commands.specs.Copying.{LeavesBegun, OutcomeIs, ReadsSource, StandsAsIs}
-use Rattle.f11_commands.specs.Output.{Takes}
+use Rattle.f11_commands.specs.Output.{WriterTakes}
 use Rattle.f11_commands.specs.RtVolume.{FailsToPrintRt, PrintsFaulty}
 use Rattle.f11_commands.specs.RunCommand.{HasFaults, WritesNothing}
 use Rattle.f11_commands.specs.VfyCommand.{FailsToPrintReport, PrintsReport}
@@ -65,13 +65,13 @@ failure_of_refusal LineTooLong = None
 abbrev pub TellsRefusal : {W : Type 0} → FlxRefusal → Option Failure → Result CopyAnswer Failure → (W → Option (List ℕ)) → W → W → Type 0
 TellsRefusal e (Some failure) told contents before after = (told ≡ Err failure) × Keeps (contents before) (contents after)
 TellsRefusal e None told contents before after =
-    ((told ≡ Ok Refused) × Takes contents before after (refused_line e)) ⊎ (told ≡ Err CannotWrite)
+    ((told ≡ Ok Refused) × WriterTakes contents before after (refused_line e)) ⊎ (told ≡ Err CannotWrite)
 
 -- how the answer of a copy is told
-abbrev pub Tells : {W : Type 0} → Result ℕ FlxRefusal → Result CopyAnswer Failure → (W → Option (List ℕ)) → W → W → Type 0
-Tells (Ok blocks) told contents before after =
-    ((told ≡ Ok Copied) × Takes contents before after (copied_line blocks)) ⊎ (told ≡ Err CannotWrite)
-Tells (Err e) told contents before after = TellsRefusal e (failure_of_refusal e) told contents before after
+abbrev pub TellsCopy : {W : Type 0} → Result ℕ FlxRefusal → Result CopyAnswer Failure → (W → Option (List ℕ)) → W → W → Type 0
+TellsCopy (Ok blocks) told contents before after =
+    ((told ≡ Ok Copied) × WriterTakes contents before after (copied_line blocks)) ⊎ (told ≡ Err CannotWrite)
+TellsCopy (Err e) told contents before after = TellsRefusal e (failure_of_refusal e) told contents before after
 
 -- What an answer tells of both disks: a transfer of one failed exactly where that is the answer, and no other of it followed. Neither
 -- volume had failed before.
@@ -88,7 +88,7 @@ pub record FaresBoth (result : Result ℕ FlxRefusal) (files files' rt rt' : Dis
 -- volume unless a transfer of it failed. Where one of either failed nothing is undone on the other; an RT-11 source is only read.
 pub record CopiesImages (c : Copying) (result : Result ℕ FlxRefusal) (files files' rt rt' : Disk) : Type 0 where
   pub home : HomeFields
-  pub held : Table
+  pub held : AccessTable
   pub home_is : IsTrue files.honest → IsHomeOf files.image home
   pub outcome : IsTrue files.honest → IsTrue rt.honest → is_whole result ≡ true →
       OutcomeIs c result (held_in no_entries (store_of files.image home)) (held_in held (store_of files'.image home)) rt rt'
@@ -107,7 +107,7 @@ pub record AnswersCopy {W : Type 0} (c : Copying) (told : Result CopyAnswer Fail
     (contents : W → Option (List ℕ)) (before after : W) : Type 0 where
   pub result : Result ℕ FlxRefusal
   pub copies : CopiesImages c result files files' rt rt'
-  pub tells : Tells result told contents before after
+  pub tells : TellsCopy result told contents before after
 
 -- An image was verified and has no fault: of a Files-11 volume, and of an RT-11 one.
 abbrev pub VerifiesFiles : Disk → Disk → Type 0
@@ -152,7 +152,7 @@ EndsBetween c told files files' rt rt' contents before after =
     (AnswersCopy c told files files' rt rt' contents before after) ⊎ ((FailsToMount told files files' contents before after) × (rt' ≡ rt))
 
 -- Both images were verified, none has a fault, and then it ended so.
-pub record GoesOn {W : Type 0} (c : Copying) (told : Result CopyAnswer Failure) (files files' rt rt' : Disk)
+pub record EndsVerified {W : Type 0} (c : Copying) (told : Result CopyAnswer Failure) (files files' rt rt' : Disk)
     (contents : W → Option (List ℕ)) (before after : W) : Type 0 where
   pub files_read : Disk
   pub rt_read : Disk
@@ -174,4 +174,4 @@ EndsVerifying FromRt told files files' rt rt' contents before after =
 abbrev pub EndsCopy : {W : Type 0} → Direction → Copying → Result CopyAnswer Failure → Disk → Disk → Disk → Disk →
     (W → Option (List ℕ)) → W → W → Type 0
 EndsCopy direction c told files files' rt rt' contents before after =
-    (EndsVerifying direction told files files' rt rt' contents before after) ⊎ (GoesOn c told files files' rt rt' contents before after)
+    (EndsVerifying direction told files files' rt rt' contents before after) ⊎ (EndsVerified c told files files' rt rt' contents before after)

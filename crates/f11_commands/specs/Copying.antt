@@ -39,31 +39,31 @@ abbrev pub directory_name : Uic → List ℕ
 directory_name uic = words_of (three_octal uic.group ++ three_octal uic.member) (codes "DIR") 1
 
 -- a directory was asked for a name, and it has this identification under it
-abbrev pub Finds : FileId → List ℕ → FileId → Store → Store → Type 0
-Finds dir name id s s' = Granted plain operator (told (request.Find dir name) (reply.Found id) ∷ []) s s'
+abbrev pub FindsName : FileId → List ℕ → FileId → Store → Store → Type 0
+FindsName dir name id s s' = Granted plain operator (told (request.Find dir name) (reply.Found id) ∷ []) s s'
 
 -- or the request was refused
-abbrev pub FindsNot : FileId → List ℕ → Refusal → Store → Store → Type 0
-FindsNot dir name e s s' = Denies plain operator (asks (request.Find dir name)) e s s'
+abbrev pub FindsNoName : FileId → List ℕ → Refusal → Store → Store → Type 0
+FindsNoName dir name e s s' = Denies plain operator (asks (request.Find dir name)) e s s'
 
 -- The file of a name was found in a directory, and copied to the RT-11 volume.
 pub record CopiesSource (c : Copying) (dir : FileId) (blocks : ℕ) (s s' : Store) (t t' : RtStore) : Type 0 where
   pub source : FileId
   pub found : Store
-  pub finds : Finds dir c.name source s found
+  pub finds : FindsName dir c.name source s found
   pub copies : CopiesToRt c.mode operator 0 source c.rt_name 0 blocks found s' t t'
 
 -- The directory has no such file.
 pub record LacksSource (c : Copying) (dir : FileId) (e : FlxRefusal) (s s' : Store) : Type 0 where
   pub refusal : Refusal
   pub is : e ≡ Files refusal
-  pub not_found : FindsNot dir c.name refusal s s'
+  pub not_found : FindsNoName dir c.name refusal s s'
 
 -- It has, and the copy is refused.
 pub record KeepsSource (c : Copying) (dir : FileId) (e : FlxRefusal) (s s' : Store) (disk : Disk) : Type 0 where
   pub source : FileId
   pub found : Store
-  pub finds : Finds dir c.name source s found
+  pub finds : FindsName dir c.name source s found
   pub refused : FailsToCopyToRt e c.mode operator 0 source c.rt_name found s' disk
 
 -- No copy was entered into a directory.
@@ -83,14 +83,14 @@ CopiesWithin FromRt c dir (Err e) s s' disk disk' = LeavesDirectory c dir e s s'
 pub record HasDirectory (c : Copying) (result : Result ℕ FlxRefusal) (s s' : Store) (disk disk' : Disk) : Type 0 where
   pub dir : FileId
   pub found : Store
-  pub finds : Finds master_directory (directory_name c.directory) dir s found
+  pub finds : FindsName master_directory (directory_name c.directory) dir s found
   pub within : CopiesWithin c.direction c dir result found s' disk disk'
 
 -- It isn't there.
 pub record LacksDirectory (c : Copying) (result : Result ℕ FlxRefusal) (s s' : Store) : Type 0 where
   pub refusal : Refusal
   pub is : result ≡ Err (Files refusal)
-  pub not_found : FindsNot master_directory (directory_name c.directory) refusal s s'
+  pub not_found : FindsNoName master_directory (directory_name c.directory) refusal s s'
 
 -- what becomes of the RT-11 volume: one that is copied from stays, and so does one to which a copy is refused
 abbrev pub KeepsRt : Direction → Result ℕ FlxRefusal → RtStore → RtStore → Type 0

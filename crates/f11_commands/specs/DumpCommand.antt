@@ -12,7 +12,7 @@ use Rattle.f11_index.specs.Kept.{IsIndexFor}
 use Rattle.f11_index.specs.Sound.{IsIndexFile}
 use Rattle.f11_index.specs.Table.{Table, table_in, table_of}
 use Rattle.f11_commands.specs.Dump.{IsDump}
-use Rattle.f11_commands.specs.Output.{Takes, TakesText}
+use Rattle.f11_commands.specs.Output.{WriterTakes, TakesText}
 use Rattle.f11_commands.specs.Lines.{report_fault_line}
 use Rattle.f11_commands.specs.Report.{fault_text}
 use Rattle.f11_commands.specs.declared.outcome.Failure.{Failure}
@@ -85,7 +85,7 @@ pub record PrintsHeader {D W : Type 0} (disk : D → Disk) (n : ℕ) (old new : 
 pub record PrintsFault {D W : Type 0} (disk : D → Disk) (old new : D) (contents : W → Option (List ℕ)) (before after : W) : Type 0 where
   pub fault : VolumeFault
   pub finds : FindsFault fault (disk old) (disk new)
-  pub takes : Takes contents before after (fault_line fault)
+  pub takes : WriterTakes contents before after (fault_line fault)
 
 -- what a command that couldn't be done leaves: a device fault is a failed transfer, and nothing is written at it nor for want of memory
 abbrev pub Leaves : {D W : Type 0} → Failure → ℕ → (D → Disk) → D → D → (W → Option (List ℕ)) → W → W → Type 0

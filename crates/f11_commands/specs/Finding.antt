@@ -32,7 +32,7 @@ is_found _ = false
 
 -- A copy was asked for, of two volumes: each fared as its answer says, and where both are sound this holds of their stores. Where a
 -- device fault of one broke it off nothing is undone on the other.
-pub record Answers {D E : Type 0} {met : Ghosts D} {met' : Ghosts E} (disk : E → Disk) (direction : Direction) (name : List ℕ)
+pub record FaresAsAnswered {D E : Type 0} {met : Ghosts D} {met' : Ghosts E} (disk : E → Disk) (direction : Direction) (name : List ℕ)
     (result : Result ℕ FlxRefusal) (Holds : Store → Store → Disk → Disk → Type 0) (old new : Volume D met)
     (rt rt' : RtAccepted E met') : Type 0 where
   pub fares : FaresFiles result old new

@@ -6,7 +6,7 @@ use Rattle.f11_dev.specs.Disk.{Disk}
 use Rattle.f11_home.specs.Home.{FailsToFind, FindsHome, FindsNoHome, HomeFields}
 use Rattle.f11_commands.specs.DumpCommand.{fault_line}
 use Rattle.f11_commands.specs.Label.{label_text}
-use Rattle.f11_commands.specs.Output.{Takes}
+use Rattle.f11_commands.specs.Output.{WriterTakes}
 use Rattle.f11_commands.specs.declared.volume.VolumeFault.TheVariants.{NoHome}
 
 -- The line of a home block: its LBN, the label, the LBN and the number of blocks of the index file's bitmap, and the
@@ -24,12 +24,12 @@ no_home_line = fault_line NoHome
 pub record PrintsHome {D W : Type 0} (disk : D → Disk) (old new : D) (contents : W → Option (List ℕ)) (before after : W) : Type 0 where
   pub home : HomeFields
   pub finds : FindsHome (disk old) (disk new) home
-  pub takes : Takes contents before after (home_line home)
+  pub takes : WriterTakes contents before after (home_line home)
 
 -- There is none, and that was written.
 pub record PrintsNoHome {D W : Type 0} (disk : D → Disk) (old new : D) (contents : W → Option (List ℕ)) (before after : W) : Type 0 where
   pub finds : FindsNoHome (disk old) (disk new)
-  pub takes : Takes contents before after no_home_line
+  pub takes : WriterTakes contents before after no_home_line
 
 -- A transfer failed, and nothing was written.
 pub record FailsToPrintHome {D W : Type 0} (disk : D → Disk) (old new : D) (contents : W → Option (List ℕ))

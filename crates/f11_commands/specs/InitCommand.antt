@@ -2,7 +2,7 @@
 use Rattle.std.specs.Prelude.{◌⊎◌, ℕ, List, [], ◌∷◌, ◌++◌, Option, codes}
 use Rattle.std.specs.Io.KnownBytes.{Keeps}
 use Rattle.f11_dev.specs.Disk.{Disk}
-use Rattle.f11_commands.specs.Output.{Takes}
+use Rattle.f11_commands.specs.Output.{WriterTakes}
 use Rattle.f11_commands.specs.declared.outcome.Failure.{Failure}
 use Rattle.f11_commands.specs.declared.outcome.Failure.TheVariants.{DeviceFault, NoMemory, CannotWrite}
 use Rattle.f11_layout.specs.declared.params.InitParams.{InitParams}
@@ -19,12 +19,12 @@ refusal_line = codes "no BadParameter" ++ 10 ∷ []
 -- A fresh volume was made, and that was written.
 pub record PrintsInit {W : Type 0} (p : InitParams) (old new : Disk) (contents : W → Option (List ℕ)) (before after : W) : Type 0 where
   pub inits : Inits p old new
-  pub takes : Takes contents before after done_line
+  pub takes : WriterTakes contents before after done_line
 
 -- None can be made, and that was written.
 pub record PrintsRefusal {W : Type 0} (p : InitParams) (old new : Disk) (contents : W → Option (List ℕ)) (before after : W) : Type 0 where
   pub refuses : RefusesToInit p old new
-  pub takes : Takes contents before after refusal_line
+  pub takes : WriterTakes contents before after refusal_line
 
 -- The command couldn't be done: a transfer failed, and nothing was written; or the writer takes no more, and the device is as after the
 -- one or the other. Memory is never wanting.

@@ -11,7 +11,7 @@ use Rattle.rt11_volume.specs.Verifying.Verdict.{IsRtAccepted}
 use Rattle.rt11_volume.specs.declared.area.RtArea.{RtArea}
 use Rattle.rt11_volume.specs.declared.area.RtKind.{RtKind}
 use Rattle.rt11_volume.specs.declared.area.RtKind.TheVariants.{Tentative, Empty, Permanent}
-use Rattle.f11_commands.specs.Output.{Takes}
+use Rattle.f11_commands.specs.Output.{WriterTakes}
 
 -- the name of a file, or `?`
 abbrev pub name_shown : Option (List ℕ) → List ℕ
@@ -48,4 +48,4 @@ pub record PrintsList {W : Type 0} (old new : Disk) (contents : W → Option (Li
   pub areas : List RtArea
   pub areas_are : IsTrue old.honest → ListsAreas (rt_store_of old.image) areas
   pub looked : Looked old new list_transfers 0
-  pub takes : Takes contents before after (area_lines areas)
+  pub takes : WriterTakes contents before after (area_lines areas)

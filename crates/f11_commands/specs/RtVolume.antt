@@ -9,7 +9,7 @@ use Rattle.f11_findings.specs.declared.finding.Finding.{Finding}
 use Rattle.rt11_volume.specs.Verifying.Verdict.{IsRtAccepted}
 use Rattle.f11_commands.specs.InitCommand.{done_line, refusal_line}
 use Rattle.f11_commands.specs.Lines.{report_lines}
-use Rattle.f11_commands.specs.Output.{Takes}
+use Rattle.f11_commands.specs.Output.{WriterTakes}
 use Rattle.f11_commands.specs.declared.outcome.Failure.{Failure}
 use Rattle.f11_commands.specs.declared.outcome.Failure.TheVariants.{DeviceFault, NoMemory, CannotWrite}
 use Rattle.f11_commands.specs.declared.report.System.TheVariants.{Rt11}
@@ -18,14 +18,14 @@ use Rattle.f11_commands.specs.declared.report.System.TheVariants.{Rt11}
 pub record PrintsAccepted {W : Type 0} (old new : Disk) (contents : W → Option (List ℕ)) (before after : W) : Type 0 where
   pub notes : List Finding
   pub accepts : Accepts notes old new
-  pub takes : Takes contents before after (report_lines Rt11 true [] notes)
+  pub takes : WriterTakes contents before after (report_lines Rt11 true [] notes)
 
 -- It has faults, which were written, then its notes and `faulty`.
 pub record PrintsFaulty {W : Type 0} (old new : Disk) (contents : W → Option (List ℕ)) (before after : W) : Type 0 where
   pub faults : List Finding
   pub notes : List Finding
   pub rejects : Rejects faults notes old new
-  pub takes : Takes contents before after (report_lines Rt11 false faults notes)
+  pub takes : WriterTakes contents before after (report_lines Rt11 false faults notes)
 
 -- The command, which makes so many transfers at most, couldn't be done: a transfer failed or there was no memory, and nothing was written;
 -- or the writer takes no more.
@@ -52,11 +52,11 @@ pub record FailsToMakeVolume (segments : ℕ) (old new : Disk) : Type 0 where
 
 -- A fresh volume was made, and that was written.
 abbrev pub PrintsMade : {W : Type 0} → ℕ → Disk → Disk → (W → Option (List ℕ)) → W → W → Type 0
-PrintsMade segments old new contents before after = MakesVolume segments old new × Takes contents before after done_line
+PrintsMade segments old new contents before after = MakesVolume segments old new × WriterTakes contents before after done_line
 
 -- None can be made, and that was written.
 abbrev pub PrintsRefused : {W : Type 0} → ℕ → Disk → Disk → (W → Option (List ℕ)) → W → W → Type 0
-PrintsRefused segments old new contents before after = RefusesVolume segments old new × Takes contents before after refusal_line
+PrintsRefused segments old new contents before after = RefusesVolume segments old new × WriterTakes contents before after refusal_line
 
 -- The command couldn't be done: a transfer failed, and nothing was written; or the writer takes no more, and the device is as after the one
 -- or the other. Memory is never wanting.

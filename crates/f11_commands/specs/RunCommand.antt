@@ -4,7 +4,7 @@ use Rattle.std.specs.Io.KnownBytes.{Keeps}
 use Rattle.f11_dev.specs.Disk.{Disk}
 use Rattle.f11_findings.specs.declared.finding.Finding.{Finding}
 use Rattle.f11_home.specs.Home.{HomeFields, IsHomeOf}
-use Rattle.f11_fcp.specs.Accesses.{Table, held_in, no_entries}
+use Rattle.f11_fcp.specs.Accesses.{AccessTable, held_in, no_entries}
 use Rattle.f11_image_store.specs.StoreOf.{store_of}
 use Rattle.f11_runs.specs.Each.{Steps}
 use Rattle.f11_script.specs.declared.errors.ScriptError.{ScriptError}
@@ -24,7 +24,7 @@ use Rattle.f11_vfy.specs.Verify.{Examines}
 pub record ServesImage {W : Type 0} (result : Result ℕ ScriptError) (remaining : Option (List ℕ)) (old new : Disk)
     (contents : W → Option (List ℕ)) (before after : W) : Type 0 where
   pub home : HomeFields
-  pub held : Table
+  pub held : AccessTable
   pub home_is : IsTrue old.honest → IsHomeOf old.image home
   pub accepted : IsTrue old.honest → IsAccepted new.image
   pub run : IsTrue old.honest → new.failures ≡ old.failures →

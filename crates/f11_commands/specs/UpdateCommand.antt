@@ -2,7 +2,7 @@
 use Rattle.std.specs.Prelude.{◌≡◌, ◌⊎◌, ℕ, true, false, List, [], ◌∷◌, ◌++◌, Option, Result, Ok, Err, codes}
 use Rattle.std.specs.Io.KnownBytes.{Keeps}
 use Rattle.f11_dev.specs.Disk.{Disk}
-use Rattle.f11_commands.specs.Output.{Takes}
+use Rattle.f11_commands.specs.Output.{WriterTakes}
 use Rattle.f11_commands.specs.VfyCommand.{PrintsReport, FailsToPrintReport}
 use Rattle.f11_commands.specs.declared.outcome.Answer.{Answer}
 use Rattle.f11_commands.specs.declared.outcome.Answer.TheVariants.{Done, Fault}
@@ -24,7 +24,7 @@ EndsReport (Err failure) old new contents before after = FailsToPrintReport fail
 pub record PrintsAgain {W : Type 0} (told : Result Answer Failure) (old new : Disk) (contents : W → Option (List ℕ))
     (before after : W) : Type 0 where
   pub line : W
-  pub takes : Takes contents before line updated_line
+  pub takes : WriterTakes contents before line updated_line
   pub report : EndsReport told old new contents line after
 
 -- or the writer didn't take that line

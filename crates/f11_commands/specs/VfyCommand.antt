@@ -3,7 +3,7 @@ use Rattle.std.specs.Prelude.{◌≡◌, ◌≢◌, ℕ, Bool, true, false, List
 use Rattle.std.specs.Io.KnownBytes.{Keeps}
 use Rattle.f11_dev.specs.Disk.{Disk}
 use Rattle.f11_findings.specs.declared.finding.Finding.{Finding}
-use Rattle.f11_commands.specs.Output.{Takes}
+use Rattle.f11_commands.specs.Output.{WriterTakes}
 use Rattle.f11_commands.specs.Lines.{report_lines}
 use Rattle.f11_commands.specs.declared.outcome.Failure.{Failure}
 use Rattle.f11_commands.specs.declared.outcome.Failure.TheVariants.{DeviceFault, NoMemory, CannotWrite}
@@ -21,7 +21,7 @@ pub record PrintsReport {W : Type 0} (accepted : Bool) (old new : Disk) (content
   pub notes : List Finding
   pub examines : Examines faults notes old new
   pub verdict : IsVerdict accepted faults
-  pub takes : Takes contents before after (report_lines Files11 accepted faults notes)
+  pub takes : WriterTakes contents before after (report_lines Files11 accepted faults notes)
 
 -- The command couldn't be done: a transfer failed or there was no memory, and nothing was written; or the writer takes no more.
 abbrev pub FailsToPrintReport : {W : Type 0} → Failure → Disk → Disk → (W → Option (List ℕ)) → W → W → Type 0

@@ -4,7 +4,7 @@ ghost use Rattle.f11_header.specs.Fields.{file_number};
 ghost use Rattle.f11_header.specs.Header.{IsHeader};
 ghost use Rattle.f11_map.specs.Map.{area_of};
 ghost use Rattle.f11_commands.specs.Dump.{IsDump, IsHeaderText, IsNamePart, fields_line, map_lines, name_line};
-ghost use Rattle.f11_commands.specs.Output.{Takes, TakesText};
+ghost use Rattle.f11_commands.specs.Output.{WriterTakes, TakesText};
 
 use crate::outcome::{Answer, Failure};
 use f11_bytes::Block;
@@ -88,7 +88,7 @@ fn write_header<W: Write>(writer: &mut W, block: &Block, n: u16) -> io::Result<(
 
 /// Writes the line of the fields of a valid header.
 fn write_fields<W: Write>(writer: &mut W, n: u16, fields: &Fields) -> io::Result<()>
-    ensures { OnOk result (Takes W.contents writer.old writer.new (fields_line n fields.now)) }
+    ensures { OnOk result (WriterTakes W.contents writer.old writer.new (fields_line n fields.now)) }
 {
     let Fields {
         id,
@@ -124,14 +124,14 @@ fn write_name<W: Write>(writer: &mut W, block: &Block) -> io::Result<()>
 
 /// Writes the line of a name.
 fn write_name_line<W: Write>(writer: &mut W, name: &Name) -> io::Result<()>
-    ensures { OnOk result (Takes W.contents writer.old writer.new (name_line name.now)) }
+    ensures { OnOk result (WriterTakes W.contents writer.old writer.new (name_line name.now)) }
 {
     writeln!(writer, "name {name}")
 }
 
 /// Writes the lines of the retrieval pointers.
 fn write_runs<W: Write>(writer: &mut W, map: &Map<'_>) -> io::Result<()>
-    ensures { OnOk result (Takes W.contents writer.old writer.new (map_lines (area_of map.now))) }
+    ensures { OnOk result (WriterTakes W.contents writer.old writer.new (map_lines (area_of map.now))) }
 {
     for i in 0..map.runs() {
         let (lbn, count) = map.run(i);

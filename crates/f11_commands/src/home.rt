@@ -1,7 +1,7 @@
 //! The command `home`.
 ghost use Rattle.std.specs.Prelude.{◌≡◌, ◌⊎◌, IfErr, OnOk};
 ghost use Rattle.f11_commands.specs.Home.{home_line, FailsToPrintHome, FindsHomeOrNone, PrintsHome, PrintsNoHome};
-ghost use Rattle.f11_commands.specs.Output.{Takes};
+ghost use Rattle.f11_commands.specs.Output.{WriterTakes};
 
 use crate::label::Label;
 use crate::outcome::{Answer, Failure};
@@ -46,7 +46,7 @@ pub fn print_home<D: Device, W: Write>(device: &mut D, writer: &mut W) -> Result
 
 /// Writes the line of a home block.
 fn write_home<W: Write>(home: &Home, writer: &mut W) -> io::Result<()>
-    ensures { OnOk result (Takes W.contents writer.old writer.new (home_line home.now)) }
+    ensures { OnOk result (WriterTakes W.contents writer.old writer.new (home_line home.now)) }
 {
     writeln!(
         writer,

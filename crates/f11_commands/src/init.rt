@@ -1,7 +1,7 @@
 //! The command `init`.
 ghost use Rattle.std.specs.Prelude.{◌≡◌, IfOk, IfErr, OnOk};
 ghost use Rattle.f11_commands.specs.InitCommand.{done_line, refusal_line, PrintsInit, PrintsRefusal, FailsToPrintInit};
-ghost use Rattle.f11_commands.specs.Output.{Takes};
+ghost use Rattle.f11_commands.specs.Output.{WriterTakes};
 
 use crate::outcome::{Answer, Failure};
 use f11_dev::Device;
@@ -38,7 +38,7 @@ pub fn print_init<D: Device, W: Write>(
 
 /// Writes that it is done.
 pub(crate) fn write_done<W: Write>(writer: &mut W) -> Result<Answer, Failure>
-    ensures done { OnOk result (Takes W.contents writer.old writer.new done_line) }
+    ensures done { OnOk result (WriterTakes W.contents writer.old writer.new done_line) }
     ensures answer { IfOk result (λ answer. answer ≡ Answer.Done) }
     ensures failed { IfErr result (λ failure. failure ≡ Failure.CannotWrite) }
 {
@@ -52,7 +52,7 @@ pub(crate) fn write_done<W: Write>(writer: &mut W) -> Result<Answer, Failure>
 ///
 /// [`Failure::CannotWrite`] where the writer takes no more.
 pub fn refuse_init<W: Write>(writer: &mut W) -> Result<Answer, Failure>
-    ensures done { OnOk result (Takes W.contents writer.old writer.new refusal_line) }
+    ensures done { OnOk result (WriterTakes W.contents writer.old writer.new refusal_line) }
     ensures answer { IfOk result (λ answer. answer ≡ Answer.Fault) }
     ensures failed { IfErr result (λ failure. failure ≡ Failure.CannotWrite) }
 {

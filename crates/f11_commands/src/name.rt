@@ -2,7 +2,7 @@
 ghost use Rattle.std.specs.Prelude.{◌≡◌, ℕ, List, IfErr, IfOk, OnOk};
 ghost use Rattle.f11_rad50.specs.Name.{Spells};
 ghost use Rattle.f11_commands.specs.Name.{PrintsBadName, PrintsName, PrintsWords, words_line};
-ghost use Rattle.f11_commands.specs.Output.{Takes};
+ghost use Rattle.f11_commands.specs.Output.{WriterTakes};
 
 use crate::outcome::{Answer, Failure};
 use f11_rad50::{BadName, Name};
@@ -38,7 +38,7 @@ pub fn print_name<W: Write>(text: &str, writer: &mut W) -> Result<Answer, Failur
 
 /// Writes the line of a name's five words.
 fn write_words<W: Write>(words: [u16; 5], writer: &mut W) -> io::Result<()>
-    ensures { OnOk result (Takes W.contents writer.old writer.new (words_line words)) }
+    ensures { OnOk result (WriterTakes W.contents writer.old writer.new (words_line words)) }
 {
     let [first, second, third, kind, version] = words;
     writeln!(writer, "words {first} {second} {third} {kind} {version}")

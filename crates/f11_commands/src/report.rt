@@ -1,6 +1,6 @@
 //! The lines of a verifier's report.
 ghost use Rattle.std.specs.Prelude.{◌≡◌, true, false, [], IfOk, IfErr, OnOk};
-ghost use Rattle.f11_commands.specs.Output.{Takes};
+ghost use Rattle.f11_commands.specs.Output.{WriterTakes};
 ghost use Rattle.f11_commands.specs.Lines.{fault_lines, note_lines, verdict_line, report_lines};
 
 pub(crate) mod files11;
@@ -70,7 +70,7 @@ pub(crate) fn write_accepted<W: Write>(
     system: System,
     notes: &Findings,
 ) -> Result<Answer, Failure>
-    ensures lines { OnOk result (Takes W.contents writer.old writer.new
+    ensures lines { OnOk result (WriterTakes W.contents writer.old writer.new
         (report_lines system true [] notes.now)) }
     ensures answer { IfOk result (λ answer. answer ≡ Answer.Done) }
     ensures failed { IfErr result (λ failure. failure ≡ Failure.CannotWrite) }
@@ -86,7 +86,7 @@ pub(crate) fn write_faulty<W: Write>(
     faults: &Findings,
     notes: &Findings,
 ) -> Result<Answer, Failure>
-    ensures lines { OnOk result (Takes W.contents writer.old writer.new
+    ensures lines { OnOk result (WriterTakes W.contents writer.old writer.new
         (report_lines system false faults.now notes.now)) }
     ensures answer { IfOk result (λ answer. answer ≡ Answer.Fault) }
     ensures failed { IfErr result (λ failure. failure ≡ Failure.CannotWrite) }
@@ -103,7 +103,7 @@ fn write_report<W: Write>(
     faults: &Findings,
     notes: &Findings,
 ) -> io::Result<()>
-    ensures { OnOk result (Takes W.contents writer.old writer.new
+    ensures { OnOk result (WriterTakes W.contents writer.old writer.new
         (report_lines system accepted faults.now notes.now)) }
 {
     write_faults(writer, system, faults)?;
@@ -113,7 +113,7 @@ fn write_report<W: Write>(
 
 /// Writes the line of each fault.
 fn write_faults<W: Write>(writer: &mut W, system: System, faults: &Findings) -> io::Result<()>
-    ensures { OnOk result (Takes W.contents writer.old writer.new (fault_lines system faults.now)) }
+    ensures { OnOk result (WriterTakes W.contents writer.old writer.new (fault_lines system faults.now)) }
 {
     for i in 0..faults.len() {
         if let Some(finding) = faults.get(i) {
@@ -125,7 +125,7 @@ fn write_faults<W: Write>(writer: &mut W, system: System, faults: &Findings) -> 
 
 /// Writes the line of each note.
 fn write_notes<W: Write>(writer: &mut W, system: System, notes: &Findings) -> io::Result<()>
-    ensures { OnOk result (Takes W.contents writer.old writer.new (note_lines system notes.now)) }
+    ensures { OnOk result (WriterTakes W.contents writer.old writer.new (note_lines system notes.now)) }
 {
     for i in 0..notes.len() {
         if let Some(finding) = notes.get(i) {
@@ -137,7 +137,7 @@ fn write_notes<W: Write>(writer: &mut W, system: System, notes: &Findings) -> io
 
 /// Writes the verdict's line.
 fn write_verdict<W: Write>(writer: &mut W, accepted: bool) -> io::Result<()>
-    ensures { OnOk result (Takes W.contents writer.old writer.new (verdict_line accepted)) }
+    ensures { OnOk result (WriterTakes W.contents writer.old writer.new (verdict_line accepted)) }
 {
     if accepted {
         writeln!(writer, "accepted")

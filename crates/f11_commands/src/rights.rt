@@ -2,7 +2,7 @@
 ghost use Rattle.std.specs.Prelude.{◌≡◌, IfErr, IfOk, OnOk};
 ghost use Rattle.f11_store.specs.Rights.{may};
 ghost use Rattle.f11_commands.specs.Rights.{letter_or_hyphen, rights_line};
-ghost use Rattle.f11_commands.specs.Output.{Takes};
+ghost use Rattle.f11_commands.specs.Output.{WriterTakes};
 
 use crate::outcome::{Answer, Failure};
 use f11_store::{Right, Uic, may};
@@ -22,7 +22,7 @@ pub fn print_rights<W: Write>(
     writer: &mut W,
 ) -> Result<Answer, Failure>
     ensures done { IfOk result (λ answer. answer ≡ Answer.Done) }
-    ensures line { OnOk result (Takes W.contents writer.old writer.new
+    ensures line { OnOk result (WriterTakes W.contents writer.old writer.new
         (rights_line caller owner protection)) }
     ensures failures { IfErr result (λ failure. failure ≡ Failure.CannotWrite) }
 {

@@ -1,6 +1,6 @@
 //! The command `rt-list`.
 ghost use Rattle.std.specs.Prelude.{◌≡◌, IfOk, IfErr, OnOk};
-ghost use Rattle.f11_commands.specs.Output.{Takes};
+ghost use Rattle.f11_commands.specs.Output.{WriterTakes};
 ghost use Rattle.f11_commands.specs.RtList.{area_line, area_lines, list_transfers, PrintsList};
 ghost use Rattle.f11_commands.specs.RtVolume.{PrintsFaulty, FailsToPrintRt};
 
@@ -84,7 +84,7 @@ pub fn print_rt_list<D: Device, W: Write>(
 
 /// Writes the lines of areas, and that it is done.
 fn write_list<W: Write>(writer: &mut W, areas: &[RtArea]) -> Result<Answer, Failure>
-    ensures lines { OnOk result (Takes W.contents writer.old writer.new (area_lines areas.now)) }
+    ensures lines { OnOk result (WriterTakes W.contents writer.old writer.new (area_lines areas.now)) }
     ensures answer { IfOk result (λ answer. answer ≡ Answer.Done) }
     ensures failed { IfErr result (λ failure. failure ≡ Failure.CannotWrite) }
 {
@@ -94,7 +94,7 @@ fn write_list<W: Write>(writer: &mut W, areas: &[RtArea]) -> Result<Answer, Fail
 
 /// Writes the lines of areas.
 fn write_areas<W: Write>(writer: &mut W, areas: &[RtArea]) -> io::Result<()>
-    ensures { OnOk result (Takes W.contents writer.old writer.new (area_lines areas.now)) }
+    ensures { OnOk result (WriterTakes W.contents writer.old writer.new (area_lines areas.now)) }
 {
     for area in areas {
         write_area(writer, area)?;
@@ -104,7 +104,7 @@ fn write_areas<W: Write>(writer: &mut W, areas: &[RtArea]) -> io::Result<()>
 
 /// Writes the line of an area.
 fn write_area<W: Write>(writer: &mut W, area: &RtArea) -> io::Result<()>
-    ensures { OnOk result (Takes W.contents writer.old writer.new (area_line area.now)) }
+    ensures { OnOk result (WriterTakes W.contents writer.old writer.new (area_line area.now)) }
 {
     let RtArea { start, length, .. } = *area;
     match area.kind {

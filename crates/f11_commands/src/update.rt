@@ -1,6 +1,6 @@
 //! The command `vfy --update`.
 ghost use Rattle.std.specs.Prelude.{OnOk};
-ghost use Rattle.f11_commands.specs.Output.{Takes};
+ghost use Rattle.f11_commands.specs.Output.{WriterTakes};
 ghost use Rattle.f11_commands.specs.UpdateCommand.{EndsUpdate, EndsReclaiming, EndsAgain, updated_line};
 ghost use Rattle.f11_vfy.specs.Accepted.{device_of};
 
@@ -84,7 +84,7 @@ fn print_again<D: Device, W: Write>(
 
 /// Writes the line `updated`.
 fn write_updated<W: Write>(writer: &mut W) -> io::Result<()>
-    ensures { OnOk result (Takes W.contents writer.old writer.new updated_line) }
+    ensures { OnOk result (WriterTakes W.contents writer.old writer.new updated_line) }
 {
     writeln!(writer, "updated")
 }

@@ -22,7 +22,7 @@ use Rattle.f11_store.specs.declared.requests.Request.TheVariants as request
 use Rattle.f11_files.specs.Answers.{ReadsAtMost, FailsToRead}
 use Rattle.f11_files.specs.Operations.{attr_of, file_causes}
 use Rattle.f11_image_store.specs.StoreOf.{store_of}
-use Rattle.f11_fcp.specs.Accesses.{Table, Entry, access_of, with_entry, held_in, is_held_in, mark_there, mark_kept, HasAccessed}
+use Rattle.f11_fcp.specs.Accesses.{AccessTable, Entry, access_of, with_entry, held_in, is_held_in, mark_there, mark_kept, HasAccessed}
 use Rattle.f11_fcp.specs.Handles.{State, store_at, Handles}
 use Rattle.f11_fcp.specs.Rights.{lacks_by}
 use Rattle.f11_fcp.proofs.HandleLemmas.{handled-clean, handled-served}
@@ -30,7 +30,7 @@ use Rattle.f11_fcp.proofs.AccessedLemmas.{drop-false, take-true, refused-early, 
 use Rattle.f11_fcp.proofs.NamedLemmas.{found, marks-read, unread}
 
 -- who holds an access to the file is told by the table
-pub barred-same : (m : Mode) (t : Table) (s : Store) (id : FileId) → is_held_in (bars m) t id ≡ is_held (bars m) (held_in t s) id
+pub barred-same : (m : Mode) (t : AccessTable) (s : Store) (id : FileId) → is_held_in (bars m) t id ≡ is_held (bars m) (held_in t s) id
 unfolding is_held_in is_held
 barred-same m t s id = refl
 
@@ -117,7 +117,7 @@ module _ (task lun : ℕ) (caller : Uic) (id : FileId) (m : Mode) (old : State) 
                     handled-served task caller r [] old reply.Done mid []
                     (λ honest. last honest ∙ drop-false (is_held (bars m) s id) _ _ (sym (clear ∙ barred-same m old.table s0 id))) (λ _. refl)
                     (λ honest. ap (λ (i : Image). held_in mid.table (store_of i mid.home)) reads.looked.image ∙ ap (λ (h : HomeFields). held_in mid.table (store_of old.disk.image h)) home
-                    ∙ ap (λ (t : Table). held_in t s0) table ∙ entered) (λ _. refl) (writes-looked task caller r [] old mid.disk reads (omega arith)) home
+                    ∙ ap (λ (t : AccessTable). held_in t s0) table ∙ entered) (λ _. refl) (writes-looked task caller r [] old mid.disk reads (omega arith)) home
                   where
                     by_test : (b : Bool) (o : Option Entry) → option_map access_of (if b then Some (record { file = id; mode = m; marked = false; window = w }) else o) ≡ (if b then Some (record { file = id; mode = m }) else option_map access_of o)
                     by_test true o = refl
@@ -126,11 +126,11 @@ module _ (task lun : ℕ) (caller : Uic) (id : FileId) (m : Mode) (old : State) 
                     entered : held_in (with_entry old.table task lun (Some (record { file = id; mode = m; marked = false; window = w }))) s0 ≡ with_access s task lun (Some (record { file = id; mode = m }))
                     entered = λ i. record s0 { access = λ k l. by_test ((k == task) && (l == lun)) (old.table k l) i }
 
-                pub access-kept : (t : Table) (s' : Store) → s' ≡ s0 → (w : Window) → t ≡ with_entry old.table task lun (Some (record { file = id; mode = m; marked = false; window = w })) → IsTrue old.disk.honest → HasAccessed old.table s0
+                pub access-kept : (t : AccessTable) (s' : Store) → s' ≡ s0 → (w : Window) → t ≡ with_entry old.table task lun (Some (record { file = id; mode = m; marked = false; window = w })) → IsTrue old.disk.honest → HasAccessed old.table s0
                     → HasAccessed t s'
                 access-kept t s' same w is_t honest kept k l low small =
                     subst (λ (x : Store). mark_there x (t k l) ≡ mark_kept (t k l)) (sym same)
-                    (subst (λ (u : Table). mark_there s0 (u k l) ≡ mark_kept (u k l)) (sym is_t) (by_test ((k == task) && (l == lun))))
+                    (subst (λ (u : AccessTable). mark_there s0 (u k l) ≡ mark_kept (u k l)) (sym is_t) (by_test ((k == task) && (l == lun))))
                   where
                     seen : (o : Option File) → is_none o ≡ false → is_marked (unwrap_or o no_file) ≡ false → option_map is_marked o ≡ Some false
                     seen None h f = absurd (cc)

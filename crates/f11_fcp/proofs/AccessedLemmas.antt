@@ -34,7 +34,7 @@ use Rattle.f11_files.specs.Extending.Runs.{headers_for, IsLengthAfter, ExtendsFi
 use Rattle.f11_files.proofs.Overall.{extends-is}
 use Rattle.f11_image_store.specs.StoreOf.{store_of}
 use Rattle.f11_fcp.proofs.RequestLemmas.{still}
-use Rattle.f11_fcp.specs.Accesses.{Table, Entry, access_of, accesses, held_in, mark_there, mark_kept, HasAccessed}
+use Rattle.f11_fcp.specs.Accesses.{AccessTable, Entry, access_of, accesses, held_in, mark_there, mark_kept, HasAccessed}
 use Rattle.f11_store.specs.Accesses.{mark_of}
 use Rattle.f11_fcp.specs.Handles.{State, store_at, own_causes, Meanwhile, Handles, of_accessed}
 use Rattle.f11_store.proofs.HeldLaws.{extend-causes-held, lengthen-work-held, lengthens-held}
@@ -80,11 +80,11 @@ there-marked s id m is = by_file (file_of s id) is
     by_file None h = absurd (cc)
     by_file (Some f) h = refl
 
-pub mark-held : (t : Table) (s : Store) (task lun : ℕ) (e : Entry) → HasAccessed t s → task < 8 → lun < 4 → t task lun ≡ Some e → mark_of s e.file ≡ Some e.marked
+pub mark-held : (t : AccessTable) (s : Store) (task lun : ℕ) (e : Entry) → HasAccessed t s → task < 8 → lun < 4 → t task lun ≡ Some e → mark_of s e.file ≡ Some e.marked
 mark-held t s task lun e kept low small held = subst (λ (o : Option Entry). mark_there s o ≡ mark_kept o) held (kept task lun low small)
 
 -- so a file that is accessed is there
-pub there-held : (t : Table) (s : Store) (task lun : ℕ) (e : Entry) → HasAccessed t s → task < 8 → lun < 4 → t task lun ≡ Some e → is_missing s e.file ≡ false
+pub there-held : (t : AccessTable) (s : Store) (task lun : ℕ) (e : Entry) → HasAccessed t s → task < 8 → lun < 4 → t task lun ≡ Some e → is_missing s e.file ≡ false
 there-held t s task lun e kept low small held = there-marked s e.file e.marked (subst (λ (o : Option Entry). mark_there s o ≡ mark_kept o) held (kept task lun low small))
 
 -- what a call on a file that is accessed is refused for is one of the request's own causes
@@ -317,7 +317,7 @@ module _ (task lun : ℕ) (caller : Uic) (old : State) (e : Entry) (held : old.t
             store-then : Lengthens sm e.file n (store_of new.disk.image mid.home) → Lengthens s (id_held s task lun) n (store_at new)
             store-then makes =
                 subst (λ (id : FileId). Lengthens s id n (store_at new)) (sym held-id)
-                (subst (λ (x : Store). Lengthens s e.file n x) (sym (ap (λ (h : HomeFields). held_in new.table (store_of new.disk.image h)) home' ∙ ap (λ (t : Table). held_in t (store_of new.disk.image mid.home)) table))
+                (subst (λ (x : Store). Lengthens s e.file n x) (sym (ap (λ (h : HomeFields). held_in new.table (store_of new.disk.image h)) home' ∙ ap (λ (t : AccessTable). held_in t (store_of new.disk.image mid.home)) table))
                 (lengthens-held (accesses old.table) s0 (store_of new.disk.image mid.home) e.file n (subst (λ (x : Store). Lengthens x e.file n (store_of new.disk.image mid.home)) same makes)))
 
         wants-is : gets_slots (slots_first sm (headers_for mid.home e.file n mid.disk)) ≡ may_want_memory s task r
@@ -416,7 +416,7 @@ module _ (task lun : ℕ) (caller : Uic) (old : State) (e : Entry) (held : old.t
       wrote new does home table =
           handled-does task caller (request.WriteBlock lun vbn) block old reply.Done (length_causes sb e.file vbn) (block_work e.file vbn block) old new block (reads-none old.disk) refl does
           (λ _. omega (arith, few)) (λ honest. drop-false (is_missing sb e.file) (Some NoSuchFile) (first_of rest) (there honest) ∙ write-first) (λ _. write-work) (λ _. refl)
-          (λ _ makes. ap (λ (h : HomeFields). held_in new.table (store_of new.disk.image h)) home ∙ ap (λ (t : Table). held_in t (store_of new.disk.image old.home)) table ∙ ap (held_in old.table) makes
+          (λ _ makes. ap (λ (h : HomeFields). held_in new.table (store_of new.disk.image h)) home ∙ ap (λ (t : AccessTable). held_in t (store_of new.disk.image old.home)) table ∙ ap (held_in old.table) makes
           ∙ sym (ap (λ (id : FileId). with_change st id.number (with_block vbn block)) (held-id task lun caller old e held)))
           (λ _. refl) home
 

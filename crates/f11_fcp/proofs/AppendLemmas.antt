@@ -37,7 +37,7 @@ use Rattle.f11_files.proofs.Overall.{extends-is}
 use Rattle.f11_files.specs.Operations.{extend_causes}
 use Rattle.f11_image_store.specs.StoreOf.{store_of}
 use Rattle.f11_dev.proofs.WentLemmas.{went_looked, went_weaker}
-use Rattle.f11_fcp.specs.Entries.{HasBlocks, put_work, ReplacesEntry, BreaksReplacing, IsTailOf, IsAppending, putting, moving, Appending, Appends, cause_if, entry_causes, entry_wants, entry_work, IsEndOf, IsFull, HasEmpty, PutsEntry, FailsToPut}
+use Rattle.f11_fcp.specs.Entries.{HasBlocks, put_work, ReplacesEntry, BreaksReplacing, IsDirectoryTail, IsAppending, putting, moving, Appending, Appends, cause_if, entry_causes, entry_wants, entry_work, IsDirectoryEnd, IsFull, HasEmpty, PutsEntry, FailsToPut}
 use Rattle.f11_fcp.specs.Handles.{of_known}
 use Rattle.f11_fcp.specs.declared.search.Search.{Search}
 use Rattle.f11_fcp.specs.declared.tail.Tail.{Tail}
@@ -70,14 +70,14 @@ breaks-at-home d tail r {e = e} old {new = new} same breaks =
     subst (λ (x : HomeFields). Breaks (Appending x d tail r old) (append_cost (file_named (store_of old.image x) d)) e old new) same breaks
 
 -- the block in which the next record goes is there
-pub end-there : (found : Search) (s : Store) (d : FileId) → found.count < 32 * found.length → IsEndOf found s d → HasBlocks s d (found.count / 32 + 1)
+pub end-there : (found : Search) (s : Store) (d : FileId) → found.count < 32 * found.length → IsDirectoryEnd found s d → HasBlocks s d (found.count / 32 + 1)
 end-there found s d room end = record {
   there = end.there;
   more = let long = end.length_is in omega (arith, room, long);
 }
 
 -- where the records don't end with a block it is the last one that was read
-pub end-in-hand : (found : Search) (s : Store) (d : FileId) → found.count % 32 ≢ 0 → IsEndOf found s d → slice_get (file_named s d).blocks (found.count / 32) ≡ Some found.last
+pub end-in-hand : (found : Search) (s : Store) (d : FileId) → found.count % 32 ≢ 0 → IsDirectoryEnd found s d → slice_get (file_named s d).blocks (found.count / 32) ≡ Some found.last
 end-in-hand found s d inside end =
     let counted = end.count_is in
     let some : 0 < entry_count (file_named s d) = omega (arith, inside, counted) in
@@ -105,10 +105,10 @@ full-of found s d needs empty is has full =
     record { end = at.end; none = at.first; needs_is = ap (λ (o : Option ℕ). is_none o && nat_le (512 * length_of (file_named s d)) (16 * entry_count (file_named s d))) at.first ∙ full }
 
 -- by what is kept of the directory
-pub room-left : (found : Search) (s : Store) (d : FileId) → IsEndOf found s d → found.count < 32 * found.length → nat_le (512 * length_of (file_named s d)) (16 * entry_count (file_named s d)) ≡ false
+pub room-left : (found : Search) (s : Store) (d : FileId) → IsDirectoryEnd found s d → found.count < 32 * found.length → nat_le (512 * length_of (file_named s d)) (16 * entry_count (file_named s d)) ≡ false
 room-left found s d end room = let counted = end.count_is in let long = end.length_is in grind (arith, nat_tests)
 
-pub none-left : (found : Search) (s : Store) (d : FileId) → IsEndOf found s d → 32 * found.length ≤ found.count → nat_le (512 * length_of (file_named s d)) (16 * entry_count (file_named s d)) ≡ true
+pub none-left : (found : Search) (s : Store) (d : FileId) → IsDirectoryEnd found s d → 32 * found.length ≤ found.count → nat_le (512 * length_of (file_named s d)) (16 * entry_count (file_named s d)) ≡ true
 none-left found s d end full = let counted = end.count_is in let long = end.length_is in grind (arith, nat_tests)
 
 module _ (home : HomeFields) (d : FileId) (r : List ℕ) (old : Disk) where
@@ -219,11 +219,11 @@ module _ (home : HomeFields) (d : FileId) (r : List ℕ) (old : Disk) where
         same : store_of mid.image home ≡ s
         same = ap (λ i. store_of i home) reads.looked.image
 
-        pub end-tail : IsTrue mid.honest → IsTailOf tail (store_of mid.image home) d
+        pub end-tail : IsTrue mid.honest → IsDirectoryTail tail (store_of mid.image home) d
         end-tail sure =
             let honest : IsTrue old.honest = sym reads.looked.honest ∙ sure in
             let end = (full honest).end in
-            subst (λ (x : Store). IsTailOf tail x d) (sym same)
+            subst (λ (x : Store). IsDirectoryTail tail x d) (sym same)
             (record {
               holds = record { there = end.there; in_hand = ap (slice_get f.blocks) number-is ∙ there honest ∙ ap (λ (b : List ℕ). Some b) (sym block-is) };
               attr_is = attr-is ∙ end.attr_is;
@@ -270,7 +270,7 @@ module _ (home : HomeFields) (d : FileId) (r : List ℕ) (old : Disk) where
         in-hand : IsTrue old.honest → slice_get (file_named grown d).blocks tail.spot.number ≡ Some tail.spot.block
         in-hand honest = ap (slice_get (file_named grown d).blocks) (number-is ∙ (full honest).end.length_is) ∙ (new-block honest).1.block ∙ ap (λ (b : List ℕ). Some b) (sym block-is)
 
-        pub new-tail : IsTrue mid.honest → IsTailOf tail grown d
+        pub new-tail : IsTrue mid.honest → IsDirectoryTail tail grown d
         new-tail sure =
             let honest : IsTrue old.honest = sym whole.writes.went.honest ∙ sure in
             let end = (full honest).end in

@@ -23,7 +23,7 @@ use Rattle.f11_files.specs.Changing.Fields.{Alters, FailsToAlter}
 use Rattle.f11_files.specs.Operations.{attr_of, file_causes}
 use Rattle.f11_image_store.specs.StoreOf.{store_of}
 use Rattle.f11_files.proofs.AnswerLemmas.{reads-within}
-use Rattle.f11_fcp.specs.Accesses.{Table, held_in}
+use Rattle.f11_fcp.specs.Accesses.{AccessTable, held_in}
 use Rattle.f11_fcp.specs.Handles.{State, store_at, own_causes, Handles}
 use Rattle.f11_fcp.specs.Rights.{lacks_change_by}
 use Rattle.f11_fcp.proofs.AccessedLemmas.{drop-false, take-true, refused-early, writes-looked}
@@ -137,7 +137,7 @@ module _ (task : ℕ) (caller : Uic) (id : FileId) (c : Change) (old : State) wh
               changed does =
                   handled-does task caller r [] old reply.Done (file_causes um id) (one_part id.number (file_changes id.number (with_replacement c))) mid new [] reads home does
                   (λ _. omega arith) first (λ _. refl) (λ _. refl)
-                  (λ _ makes. ap (λ (h : HomeFields). held_in new.table (store_of new.disk.image h)) home' ∙ ap (λ (t : Table). held_in t (store_of new.disk.image mid.home)) table'
+                  (λ _ makes. ap (λ (h : HomeFields). held_in new.table (store_of new.disk.image h)) home' ∙ ap (λ (t : AccessTable). held_in t (store_of new.disk.image mid.home)) table'
                   ∙ ap (held_in old.table) (makes ∙ ap (λ (x : Store). with_change x id.number (with_replacement c)) same))
                   (λ _. refl) home'
 

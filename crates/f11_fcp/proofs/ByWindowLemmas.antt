@@ -6,7 +6,7 @@ use Rattle.f11_chain.specs.Windows.{HoldsBlock}
 use Rattle.f11_store.specs.Store.{is_same}
 use Rattle.f11_store.specs.declared.files.FileId.{FileId}
 use Rattle.f11_store.specs.declared.requests.Request.{Request}
-use Rattle.f11_fcp.specs.Accesses.{Entry, Table, marked_if, with_entry, with_marks}
+use Rattle.f11_fcp.specs.Accesses.{Entry, AccessTable, marked_if, with_entry, with_marks}
 use Rattle.f11_fcp.specs.ByWindow.{KeepsWindows, TakesOneTransfer, WasHeld, block_of}
 use Rattle.f11_fcp.specs.Handles.{State}
 
@@ -16,18 +16,18 @@ on-ok (Ok x) a = a
 on-ok (Err e) a = tt
 
 -- windows are kept by what leaves the table
-pub keeps-same : (t : Table) → KeepsWindows t t
+pub keeps-same : (t : AccessTable) → KeepsWindows t t
 keeps-same t task lun e held = record { was = e; held = held; file_is = refl; window_is = refl }
 
-pub keeps-then : (t u v : Table) → KeepsWindows t u → KeepsWindows u v → KeepsWindows t v
+pub keeps-then : (t u v : AccessTable) → KeepsWindows t u → KeepsWindows u v → KeepsWindows t v
 keeps-then t u v one two task lun e held =
     let here = two task lun e held in
     let before = one task lun here.was here.held in
     record { was = before.was; held = before.held; file_is = here.file_is ∙ before.file_is; window_is = here.window_is ∙ before.window_is }
 
 -- by marks
-pub keeps-marked : (f : FileId) (t t' : Table) → t' ≡ with_marks f t → KeepsWindows t t'
-keeps-marked f t t' is task lun e held = by_entry (t task lun) refl (ap (λ (u : Table). u task lun) (sym is) ∙ held)
+pub keeps-marked : (f : FileId) (t t' : AccessTable) → t' ≡ with_marks f t → KeepsWindows t t'
+keeps-marked f t t' is task lun e held = by_entry (t task lun) refl (ap (λ (u : AccessTable). u task lun) (sym is) ∙ held)
   where
     by_test : (was : Entry) → t task lun ≡ Some was → (b : Bool) → (if b then record was { marked = true } else was) ≡ e → WasHeld t task lun e
     by_test was at true to = record { was = was; held = at; file_is = ap (λ (x : Entry). x.file) (sym to); window_is = ap (λ (x : Entry). x.window) (sym to) }
@@ -38,8 +38,8 @@ keeps-marked f t t' is task lun e held = by_entry (t task lun) refl (ap (λ (u :
     by_entry (Some was) at some = by_test was at (is_same was.file f) (same_Some _ _ some)
 
 -- and where an access is given up
-pub keeps-given : (t t' : Table) (k l : ℕ) → t' ≡ with_entry t k l None → KeepsWindows t t'
-keeps-given t t' k l is task lun e held = go ((task == k) && (lun == l)) (ap (λ (u : Table). u task lun) (sym is) ∙ held)
+pub keeps-given : (t t' : AccessTable) (k l : ℕ) → t' ≡ with_entry t k l None → KeepsWindows t t'
+keeps-given t t' k l is task lun e held = go ((task == k) && (lun == l)) (ap (λ (u : AccessTable). u task lun) (sym is) ∙ held)
   where
     go : (b : Bool) → (if b then None else t task lun) ≡ Some e → WasHeld t task lun e
     go true none = absurd (cc)

@@ -28,7 +28,7 @@ use Rattle.f11_files.specs.Operations.{attr_of, contiguous_causes}
 use Rattle.f11_files.proofs.AnswerLemmas.{reads-within}
 use Rattle.f11_image_store.specs.StoreOf.{store_of}
 use Rattle.f11_store.proofs.HeldLaws.{contiguous-causes-held, laid-out-held}
-use Rattle.f11_fcp.specs.Accesses.{Table, Entry, accesses, held_in}
+use Rattle.f11_fcp.specs.Accesses.{AccessTable, Entry, accesses, held_in}
 use Rattle.f11_fcp.specs.Handles.{State, store_at, own_causes, Handles, of_accessed}
 use Rattle.f11_fcp.proofs.AccessedLemmas.{accessed-refused, drop-false, held-file, held-id, held-writes, refused-early, take-true}
 use Rattle.f11_fcp.proofs.HandleLemmas.{handled-clean, handled-does, handled-lacking, run-cases}
@@ -163,7 +163,7 @@ module _ (task lun : ℕ) (caller : Uic) (old : State) (e : Entry) (held : old.t
           store-then : LaysOut sm e.file.number n (store_of new.disk.image mid.home) → LaysOut s (id_held s task lun).number n (store_at new)
           store-then makes =
               subst (λ (id : FileId). LaysOut s id.number n (store_at new)) (sym (held-id task lun caller old e held))
-              (subst (λ (x : Store). LaysOut s e.file.number n x) (sym (ap (λ (h : HomeFields). held_in new.table (store_of new.disk.image h)) home' ∙ ap (λ (t : Table). held_in t (store_of new.disk.image mid.home)) table))
+              (subst (λ (x : Store). LaysOut s e.file.number n x) (sym (ap (λ (h : HomeFields). held_in new.table (store_of new.disk.image h)) home' ∙ ap (λ (t : AccessTable). held_in t (store_of new.disk.image mid.home)) table))
               (laid-out-held (accesses old.table) s0 (store_of new.disk.image mid.home) e.file.number n (subst (λ (x : Store). LaysOut x e.file.number n (store_of new.disk.image mid.home)) same makes)))
 
       pub not-laid : {failed : Bool} (er res : Refusal) → failed ≡ false → FailsToLayOut failed mid.home e.file n er mid.disk new.disk → mid.counts ≡ old.counts → (is_clean er ≡ true → new.counts ≡ mid.counts)

@@ -20,7 +20,7 @@ use Rattle.f11_dev.specs.Disk.{Disk}
 use Rattle.f11_files.specs.Answers.{WritesAtMost, is_fatal}
 use Rattle.f11_files.specs.Removing.Delete.{Deletes, FailsToDelete}
 use Rattle.f11_image_store.specs.StoreOf.{store_of}
-use Rattle.f11_fcp.specs.Accesses.{Table, Entry, access_of, with_entry, held_in, is_held_in, any_mode, mark_there, mark_kept, HasAccessed}
+use Rattle.f11_fcp.specs.Accesses.{AccessTable, Entry, access_of, with_entry, held_in, is_held_in, any_mode, mark_there, mark_kept, HasAccessed}
 use Rattle.f11_store.specs.Accesses.{mark_of}
 use Rattle.f11_fcp.specs.Handles.{State, store_at, Meanwhile, Handles, of_accessed}
 use Rattle.f11_fcp.proofs.HandleLemmas.{clean-cause, handled-served, handled-does, reads-none, writes-none}
@@ -28,7 +28,7 @@ use Rattle.f11_fcp.proofs.AccessedLemmas.{among-file, drop-false, take-true, ref
 use Rattle.f11_store.proofs.FateLaws.{mark-stays, held-at, fate-gone}
 use Rattle.f11_fcp.proofs.OpenLemmas.{same-self}
 
-pub accessed-same : (t : Table) (s : Store) (id : FileId) → is_held_in any_mode t id ≡ is_accessed (held_in t s) id
+pub accessed-same : (t : AccessTable) (s : Store) (id : FileId) → is_held_in any_mode t id ≡ is_accessed (held_in t s) id
 unfolding is_held_in is_held
 accessed-same t s id = refl
 
@@ -58,7 +58,7 @@ module _ (task lun : ℕ) (caller : Uic) (old : State) where
   s0 = store_of old.disk.image old.home
 
   -- the table without the access
-  abbrev given : Table
+  abbrev given : AccessTable
   given = with_entry old.table task lun None
 
   pub deaccess-none : old.table task lun ≡ None → Handles task caller r (Err NoSuchAccess) old [] old []
@@ -100,7 +100,7 @@ module _ (task lun : ℕ) (caller : Uic) (old : State) where
     deaccess-plain mid disk home table stays =
         handled-served task caller r [] old reply.Done mid [] (λ _. none-held) (λ _. refl)
         (λ honest. ap (λ (i : Image). held_in mid.table (store_of i mid.home)) (ap (λ (d : Disk). d.image) disk) ∙ ap (λ (h : HomeFields). held_in mid.table (store_of old.disk.image h)) home
-        ∙ ap (λ (t : Table). held_in t s0) table ∙ given-is s0 ∙ sym (after-is ∙ drop-false (is_due u e.file) _ _ (not-due honest stays)))
+        ∙ ap (λ (t : AccessTable). held_in t s0) table ∙ given-is s0 ∙ sym (after-is ∙ drop-false (is_due u e.file) _ _ (not-due honest stays)))
         (λ _. refl)
         (subst (λ (d : Disk). WritesAtMost (Meanwhile task caller r [] old) (cost s task r) old.disk d 0) (sym disk) (writes-none (Meanwhile task caller r [] old) old.disk (cost s task r))) home
       where
@@ -131,7 +131,7 @@ module _ (task lun : ℕ) (caller : Uic) (old : State) where
       deaccess-deletes new does home table =
           handled-does task caller r [] old reply.Done ((NoSuchFile ⇐ is_missing s0 e.file) ∷ []) (go_work e.file.number) old new [] (reads-none old.disk) refl does fewer
           (λ honest. drop-false (is_missing s0 e.file) _ _ (there honest) ∙ sym none-held) works (λ _. refl)
-          (λ honest makes. ap (λ (h : HomeFields). held_in new.table (store_of new.disk.image h)) home ∙ ap (λ (t : Table). held_in t (store_of new.disk.image old.home)) table ∙ ap (held_in given) makes
+          (λ honest makes. ap (λ (h : HomeFields). held_in new.table (store_of new.disk.image h)) home ∙ ap (λ (t : AccessTable). held_in t (store_of new.disk.image old.home)) table ∙ ap (held_in given) makes
           ∙ ap (λ (x : Store). without_file_at x e.file.number) (given-is s0) ∙ sym (after-is ∙ take-true (is_due u e.file) _ _ (due honest)))
           (λ _. refl) home
 
@@ -140,10 +140,10 @@ module _ (task lun : ℕ) (caller : Uic) (old : State) where
       deaccess-fails new er res alive fails home res_is =
           accessed-broke task caller r [] old er res (is_missing s0 e.file) (go_work e.file.number) new [] alive fails fewer there (λ _. none-held) works home res_is
 
-      pub deleted-kept : (t : Table) (s' : Store) → s' ≡ without_file_at s0 e.file.number → t ≡ given → IsTrue old.disk.honest → HasAccessed old.table s0 → HasAccessed t s'
+      pub deleted-kept : (t : AccessTable) (s' : Store) → s' ≡ without_file_at s0 e.file.number → t ≡ given → IsTrue old.disk.honest → HasAccessed old.table s0 → HasAccessed t s'
       deleted-kept t s' same is_t honest all k l low small =
           subst (λ (x : Store). mark_there x (t k l) ≡ mark_kept (t k l)) (sym same)
-          (subst (λ (v : Table). mark_there (without_file_at s0 e.file.number) (v k l) ≡ mark_kept (v k l)) (sym is_t) (by_test ((k == task) && (l == lun)) refl))
+          (subst (λ (v : AccessTable). mark_there (without_file_at s0 e.file.number) (v k l) ≡ mark_kept (v k l)) (sym is_t) (by_test ((k == task) && (l == lun)) refl))
         where
           by_old : (o : Option Entry) → old.table k l ≡ o → given k l ≡ o → mark_there s0 o ≡ mark_kept o → mark_there (without_file_at s0 e.file.number) o ≡ mark_kept o
           by_old None is now h = refl
@@ -156,10 +156,10 @@ module _ (task lun : ℕ) (caller : Uic) (old : State) where
           by_test false is = by_old (old.table k l) refl (ap (λ (b : Bool). if b then None else old.table k l) is) (all k l low small)
 
   -- the others are to files that are there, as before
-  pub given-kept : (t : Table) (s' : Store) → s' ≡ s0 → t ≡ given → HasAccessed old.table s0 → HasAccessed t s'
+  pub given-kept : (t : AccessTable) (s' : Store) → s' ≡ s0 → t ≡ given → HasAccessed old.table s0 → HasAccessed t s'
   given-kept t s' same is_t all k l low small =
       subst (λ (x : Store). mark_there x (t k l) ≡ mark_kept (t k l)) (sym same)
-      (subst (λ (v : Table). mark_there s0 (v k l) ≡ mark_kept (v k l)) (sym is_t) (by_test ((k == task) && (l == lun))))
+      (subst (λ (v : AccessTable). mark_there s0 (v k l) ≡ mark_kept (v k l)) (sym is_t) (by_test ((k == task) && (l == lun))))
     where
       by_test : (b : Bool) → mark_there s0 (if b then None else old.table k l) ≡ mark_kept (if b then None else old.table k l)
       by_test true = refl

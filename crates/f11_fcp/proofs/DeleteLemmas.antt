@@ -25,7 +25,7 @@ use Rattle.f11_files.specs.Changing.Fields.{Alters, FailsToAlter}
 use Rattle.f11_files.specs.Operations.{attr_of, file_causes}
 use Rattle.f11_image_store.specs.StoreOf.{store_of}
 use Rattle.f11_files.proofs.AnswerLemmas.{reads-within}
-use Rattle.f11_fcp.specs.Accesses.{Table, held_in, is_held_in, any_mode, with_marks}
+use Rattle.f11_fcp.specs.Accesses.{AccessTable, held_in, is_held_in, any_mode, with_marks}
 use Rattle.f11_fcp.specs.Handles.{State, store_at, own_causes, Handles}
 use Rattle.f11_fcp.proofs.AccessedLemmas.{drop-false, take-true, refused-early}
 use Rattle.f11_fcp.proofs.DeaccessLemmas.{accessed-same}
@@ -122,7 +122,7 @@ module _ (task : ℕ) (caller : Uic) (id : FileId) (old : State) where
                 pub deleted : Deletes mid.home id mid.disk new.disk → Handles task caller r (Ok reply.Done) old [] new []
                 deleted does =
                     handled-does task caller r [] old reply.Done (file_causes sm id) (go_work id.number) mid new [] reads home does (λ _. few) first (λ _. work-is) (λ _. refl)
-                    (λ _ makes. ap (λ (h : HomeFields). held_in new.table (store_of new.disk.image h)) home' ∙ ap (λ (t : Table). held_in t (store_of new.disk.image mid.home)) table'
+                    (λ _ makes. ap (λ (h : HomeFields). held_in new.table (store_of new.disk.image h)) home' ∙ ap (λ (t : AccessTable). held_in t (store_of new.disk.image mid.home)) table'
                     ∙ ap (held_in old.table) (makes ∙ ap (λ (x : Store). without_file_at x id.number) same) ∙ sym after-is)
                     (λ _. refl) home'
 
@@ -146,7 +146,7 @@ module _ (task : ℕ) (caller : Uic) (id : FileId) (old : State) where
                 pub marked : new.table ≡ with_marks id old.table → Alters with_delete_mark mid.home id mid.disk new.disk → Handles task caller r (Ok reply.Done) old [] new []
                 marked table' does =
                     handled-does task caller r [] old reply.Done (file_causes sm id) (mark_work id.number) mid new [] reads home does (λ _. omega arith) first (λ _. mark-is) (λ _. refl)
-                    (λ _ makes. ap (λ (h : HomeFields). held_in new.table (store_of new.disk.image h)) home' ∙ ap (λ (t : Table). held_in t (store_of new.disk.image mid.home)) table'
+                    (λ _ makes. ap (λ (h : HomeFields). held_in new.table (store_of new.disk.image h)) home' ∙ ap (λ (t : AccessTable). held_in t (store_of new.disk.image mid.home)) table'
                     ∙ ap (held_in (with_marks id old.table)) (makes ∙ ap (λ (x : Store). with_marked_file x id.number) same) ∙ marks-leave id old.table (with_marked_file s0 id.number) ∙ sym marked-is)
                     (λ _. refl) home'
 

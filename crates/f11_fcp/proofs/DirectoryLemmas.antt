@@ -25,8 +25,8 @@ use Rattle.f11_files.specs.Finding.Length.{CountsBlocks}
 use Rattle.f11_files.specs.Operations.{attr_of, file_causes}
 use Rattle.f11_image_store.specs.StoreOf.{store_of}
 use Rattle.f11_files.proofs.AnswerLemmas.{fails-more, reads-more, reads-within, right-cause}
-use Rattle.f11_fcp.specs.Accesses.{Table, is_held_in}
-use Rattle.f11_fcp.specs.Directories.{right_for, lacks_for_purpose, is_barred_to, conflict_causes, opening_causes, Opens, LooksThrough, Searches, IsDirectoryOf}
+use Rattle.f11_fcp.specs.Accesses.{AccessTable, is_held_in}
+use Rattle.f11_fcp.specs.Directories.{right_for, lacks_for_purpose, is_barred_to, conflict_causes, opening_causes, OpensDirectory, LooksThroughDirectory, Searches, IsDirectoryOf}
 use Rattle.f11_fcp.specs.declared.purpose.Purpose.{Purpose}
 use Rattle.f11_fcp.specs.declared.purpose.Purpose.TheVariants as purpose
 use Rattle.f11_fcp.specs.declared.search.Search.{Search}
@@ -44,7 +44,7 @@ so-not true h = absurd (cc)
 so-not false h = refl
 
 -- the causes against a change of a directory, whatever is held of it
-abbrev pub opening_barred : Bool → Table → Store → Uic → FileId → List Cause
+abbrev pub opening_barred : Bool → AccessTable → Store → Uic → FileId → List Cause
 opening_barred barred t s caller d =
     (SystemFile ⇐ nat_lt d.number 4)
     ∷ (NoSuchFile ⇐ is_missing s d)
@@ -55,7 +55,7 @@ opening_barred barred t s caller d =
     ∷ []
 
 -- a directory that was opened is there
-pub opened-there : (p : Purpose) (t : Table) (s : Store) (caller : Uic) (d : FileId) → 4 ≤ d.number → first_of (opening_causes p t s caller d) ≡ None → is_missing s d ≡ false
+pub opened-there : (p : Purpose) (t : AccessTable) (s : Store) (caller : Uic) (d : FileId) → 4 ≤ d.number → first_of (opening_causes p t s caller d) ≡ None → is_missing s d ≡ false
 opened-there p t s caller d own none = by_test (is_missing s d) refl
   where
     by_test : (b : Bool) → is_missing s d ≡ b → b ≡ false
@@ -66,19 +66,19 @@ opened-there p t s caller d own none = by_test (is_missing s d) refl
         absurd (cc)
 
 -- an access stands against it, or none does
-conflict-among : (p : Purpose) (t : Table) (s : Store) (caller : Uic) (d : FileId) → is_barred_to p t d ≡ true → is_among (opening_causes p t s caller d) Conflict ≡ true
+conflict-among : (p : Purpose) (t : AccessTable) (s : Store) (caller : Uic) (d : FileId) → is_barred_to p t d ≡ true → is_among (opening_causes p t s caller d) Conflict ≡ true
 conflict-among purpose.Look t s caller d h = absurd (cc)
 conflict-among purpose.Change t s caller d h = refl
 
-directory-among : (p : Purpose) (t : Table) (s : Store) (caller : Uic) (d : FileId) → is_among (opening_causes p t s caller d) NotDirectory ≡ true
+directory-among : (p : Purpose) (t : AccessTable) (s : Store) (caller : Uic) (d : FileId) → is_among (opening_causes p t s caller d) NotDirectory ≡ true
 directory-among purpose.Look t s caller d = refl
 directory-among purpose.Change t s caller d = refl
 
-conflict-first : (p : Purpose) (t : Table) (d : FileId) (rest : List Cause) → is_barred_to p t d ≡ true → first_of (conflict_causes p t d ++ rest) ≡ Some Conflict
+conflict-first : (p : Purpose) (t : AccessTable) (d : FileId) (rest : List Cause) → is_barred_to p t d ≡ true → first_of (conflict_causes p t d ++ rest) ≡ Some Conflict
 conflict-first purpose.Look t d rest h = absurd (cc)
 conflict-first purpose.Change t d rest h = take-true (is_held_in (bars mode.Write) t d) _ _ h
 
-conflict-passed : (p : Purpose) (t : Table) (d : FileId) (rest : List Cause) → is_barred_to p t d ≡ false → first_of (conflict_causes p t d ++ rest) ≡ first_of rest
+conflict-passed : (p : Purpose) (t : AccessTable) (d : FileId) (rest : List Cause) → is_barred_to p t d ≡ false → first_of (conflict_causes p t d ++ rest) ≡ first_of rest
 conflict-passed purpose.Look t d rest h = refl
 conflict-passed purpose.Change t d rest h = drop-false (is_held_in (bars mode.Write) t d) _ _ h
 
@@ -89,7 +89,7 @@ same-attr f attr is = ap (λ (a : Attr). a.attr) (sym is)
 pub same-ident : (f : File) (attr : Attr) → attr ≡ attr_of f → f.ident ≡ attr.ident
 same-ident f attr is = ap (λ (a : Attr). a.ident) (sym is)
 
-module _ (p : Purpose) (t : Table) (caller : Uic) (d : FileId) (home : HomeFields) (old : Disk) where
+module _ (p : Purpose) (t : AccessTable) (caller : Uic) (d : FileId) (home : HomeFields) (old : Disk) where
   abbrev s0 : Store
   s0 = store_of old.image home
 
@@ -165,7 +165,7 @@ module _ (p : Purpose) (t : Table) (caller : Uic) (d : FileId) (home : HomeField
             open-other b other is =
                 clean NotDirectory (λ no. absurd (omega (arith, no))) (λ no. absurd (omega (arith, no))) refl (directory-among p t s0 caller d) (λ honest. past-access false honest (sym other ∙ judged-as is honest))
 
-            pub opened : (b : Bool) → b ≡ true → ((h : File) → h.ident ≡ attr.ident → h.attr ≡ attr.attr → b ≡ is_directory h) → Opens p t caller d attr home old new
+            pub opened : (b : Bool) → b ≡ true → ((h : File) → h.ident ≡ attr.ident → h.attr ≡ attr.attr → b ≡ is_directory h) → OpensDirectory p t caller d attr home old new
             opened b one is = record { no_cause = λ honest. past-access true honest (sym one ∙ judged-as is honest); attr_is = read.attr_is; own = late; reads = read.reads }
 
 -- a header is read at least
@@ -188,7 +188,7 @@ fails-behind {old = old} {mid = mid} {e = e} causes reads fails = record {
 pub fails-within : {old new : Disk} {m n : ℕ} {e : Refusal} {causes : List Cause} → m ≤ n → FailsToRead false causes m e old new → FailsToRead false causes n e old new
 fails-within fewer fails = record { right = fails.right; reads = reads-within fewer fails.reads }
 
-module _ (p : Purpose) (t : Table) (caller : Uic) (d : FileId) (name : List ℕ) (home : HomeFields) {old mid : Disk} (attr : Attr) (opens : Opens p t caller d attr home old mid) where
+module _ (p : Purpose) (t : AccessTable) (caller : Uic) (d : FileId) (name : List ℕ) (home : HomeFields) {old mid : Disk} (attr : Attr) (opens : OpensDirectory p t caller d attr home old mid) where
   abbrev g : File
   g = file_named (store_of old.image home) d
 
@@ -247,7 +247,7 @@ module _ (p : Purpose) (t : Table) (caller : Uic) (d : FileId) (name : List ℕ)
           record { right = behind.right; reads = within-when enough behind.reads }
 
       pub searched : {next : Disk} (found : Search) → found.attr ≡ attr → found.length ≡ length → found.count ≡ count
-          → LooksThrough home d name found.looked found.last (reading_cost (file_named (store_of after.image home) d) count) after next → Searches p t caller d name found home old next
+          → LooksThroughDirectory home d name found.looked found.last (reading_cost (file_named (store_of after.image home) d) count) after next → Searches p t caller d name found home old next
       searched {next = next} found attr-is length-is count-was looks = record {
         no_cause = opens.no_cause;
         attr_is = λ honest. attr-is ∙ opens.attr_is honest;

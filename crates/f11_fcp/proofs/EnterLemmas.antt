@@ -33,7 +33,7 @@ use Rattle.f11_files.specs.Answers.{FailsToRead, is_among, is_fatal, is_clean, i
 use Rattle.f11_files.specs.Open.{disk_in, has_failed, home_in}
 use Rattle.f11_image_store.specs.StoreOf.{store_of}
 use Rattle.f11_files.specs.declared.files.Files.{Files}
-use Rattle.f11_fcp.specs.Accesses.{Table, accesses, held_in}
+use Rattle.f11_fcp.specs.Accesses.{AccessTable, accesses, held_in}
 use Rattle.f11_fcp.specs.Directories.{opening_causes, Searches}
 use Rattle.f11_fcp.specs.Entries.{cause_if, entry_causes, entry_wants, entry_work, HasEmpty, PutsEntry, FailsToPut}
 use Rattle.f11_fcp.specs.Handles.{State, state_of, store_at, memory_cause, own_causes, Handles, IsOpen, StaysOpen}
@@ -186,7 +186,7 @@ module _ (task : ℕ) (caller : Uic) (d : FileId) (name : List ℕ) (id : FileId
           entered does =
               handled-does task caller r [] old reply.Done (entry_causes sm d) (entry_work sm d (record_bytes id name)) mid new [] searches.reads home does enough first work-is (λ _. refl)
               (λ _ makes.
-              subst (λ (x : Store). Enters s d (record_bytes id name) x) (sym (ap (λ (h : HomeFields). held_in new.table (store_of new.disk.image h)) home' ∙ ap (λ (t : Table). held_in t (store_of new.disk.image mid.home)) table'))
+              subst (λ (x : Store). Enters s d (record_bytes id name) x) (sym (ap (λ (h : HomeFields). held_in new.table (store_of new.disk.image h)) home' ∙ ap (λ (t : AccessTable). held_in t (store_of new.disk.image mid.home)) table'))
               (enters-held (accesses old.table) s0 (store_of new.disk.image mid.home) d (record_bytes id name) (subst (λ (x : Store). Enters x d (record_bytes id name) (store_of new.disk.image mid.home)) same makes)))
               (λ _. refl) home'
 
@@ -201,7 +201,7 @@ entered-fate s task caller d name id (Ok reply) s' h n = fate-enter s s' d n (re
 entered-fate s task caller d name id (Err e) s' h n = fate-none s s' n h.store_stays
 
 -- so all stays open
-pub stays-open-entered : {D : Type 0} {met : Ghosts D} (t : Table) (old new : Files D met) (task : ℕ) (caller : Uic) (d : FileId) (name : List ℕ) (id : FileId) (result : Result Reply Refusal) → IsOpen t old
+pub stays-open-entered : {D : Type 0} {met : Ghosts D} (t : AccessTable) (old new : Files D met) (task : ℕ) (caller : Uic) (d : FileId) (name : List ℕ) (id : FileId) (result : Result Reply Refusal) → IsOpen t old
     → Handles task caller (request.Enter d name id) result (state_of t old) [] (state_of t new) [] → (is_refused is_fatal result ≡ false → has_failed new ≡ false)
     → OnOk result (HasWindows t new) → StaysOpen result t new
 stays-open-entered t old new task caller d name id result is handles alive windows clean = record {

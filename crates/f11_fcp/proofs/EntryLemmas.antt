@@ -26,7 +26,7 @@ use Rattle.f11_files.specs.Finding.Blocks.{StoresBlock, block_work}
 use Rattle.f11_files.specs.Changing.Fields.{Alters}
 use Rattle.f11_files.specs.Operations.{file_causes, length_causes}
 use Rattle.f11_image_store.specs.StoreOf.{store_of}
-use Rattle.f11_fcp.specs.Entries.{HoldsSpot, HasBlocks, put_at, put_work, ReplacesEntry, BreaksReplacing, IsTailOf, move_at, putting, moving, Appending, Appends}
+use Rattle.f11_fcp.specs.Entries.{HoldsSpot, HasBlocks, put_at, put_work, ReplacesEntry, BreaksReplacing, IsDirectoryTail, move_at, putting, moving, Appending, Appends}
 use Rattle.f11_fcp.specs.declared.tail.Tail.{Tail}
 use Rattle.f11_fcp.proofs.AccessedLemmas.{drop-false}
 
@@ -85,7 +85,7 @@ put-there s d spot r there = ap is_none (file_of-with_change s d (put_at spot r)
     by_file (Some f) h = refl
 
 -- a record that is put behind the last one of a directory
-module _ (home : HomeFields) (d : FileId) (tail : Tail) (r : List ℕ) (old mid : Disk) (is : IsTrue old.honest → IsTailOf tail (store_of old.image home) d)
+module _ (home : HomeFields) (d : FileId) (tail : Tail) (r : List ℕ) (old mid : Disk) (is : IsTrue old.honest → IsDirectoryTail tail (store_of old.image home) d)
   where
     abbrev u : Store
     u = store_of old.image home

@@ -19,7 +19,7 @@ use Rattle.f11_files.specs.Answers.{is_among, is_clean}
 use Rattle.f11_files.specs.GrowingIndex.Runs.{GrowsIndexFile, IsSlotsAfter, FailsToGrow}
 use Rattle.f11_files.specs.Operations.{grow_causes}
 use Rattle.f11_image_store.specs.StoreOf.{store_of}
-use Rattle.f11_fcp.specs.Accesses.{Table, accesses, held_in}
+use Rattle.f11_fcp.specs.Accesses.{AccessTable, accesses, held_in}
 use Rattle.f11_fcp.specs.Handles.{State, store_at, own_causes, Handles}
 use Rattle.f11_fcp.proofs.AccessedLemmas.{drop-false, take-true, refused-early}
 use Rattle.f11_fcp.proofs.HandleLemmas.{handled-does, handled-wants, reads-none, wants-still}
@@ -63,7 +63,7 @@ module _ (task n : ℕ) (caller : Uic) (old : State) where
         where
           store-then : GrowsIndex s0 n (store_of new.disk.image old.home) → GrowsIndex s n (store_at new)
           store-then makes =
-              subst (λ (x : Store). GrowsIndex s n x) (sym (ap (λ (h : HomeFields). held_in new.table (store_of new.disk.image h)) home ∙ ap (λ (t : Table). held_in t (store_of new.disk.image old.home)) table))
+              subst (λ (x : Store). GrowsIndex s n x) (sym (ap (λ (h : HomeFields). held_in new.table (store_of new.disk.image h)) home ∙ ap (λ (t : AccessTable). held_in t (store_of new.disk.image old.home)) table))
               (index-grows-held (accesses old.table) s0 (store_of new.disk.image old.home) n makes)
 
       pub not-grown : {failed : Bool} (e : Refusal) (new : State) → failed ≡ false → FailsToGrow failed old.home n e old.disk new.disk → new.home ≡ old.home → new.table ≡ old.table

@@ -21,7 +21,7 @@ use Rattle.f11_image_store.specs.StoreOf.{store_of}
 use Rattle.f11_files.proofs.AnswerLemmas.{reads-more, reads-looked}
 use Rattle.f11_dev.proofs.LookedLemmas.{looked_none}
 use Rattle.f11_volume.specs.Volume.{Volume}
-use Rattle.f11_fcp.specs.Accesses.{Table, held_in, accesses}
+use Rattle.f11_fcp.specs.Accesses.{AccessTable, held_in, accesses}
 use Rattle.f11_fcp.specs.Handles.{State, store_at, Meanwhile, is_failed, is_damage, own_causes, Handles}
 use Rattle.f11_store.proofs.HeldLaws.{lags-held}
 
@@ -95,7 +95,7 @@ wants-none {causes = causes} {e = e} other fails = record {
 pub same-store : (old new : State) → new.disk.image ≡ old.disk.image → new.home ≡ old.home → new.table ≡ old.table → store_at new ≡ store_at old
 same-store old new image home table =
     ap (λ (i : Image). held_in new.table (store_of i new.home)) image ∙ ap (λ (h : HomeFields). held_in new.table (store_of old.disk.image h)) home
-    ∙ ap (λ (t : Table). held_in t (store_of old.disk.image old.home)) table
+    ∙ ap (λ (t : AccessTable). held_in t (store_of old.disk.image old.home)) table
 
 -- fewer than may be on an honest disk
 pub within-when : {old new : Disk} {m n faults : ℕ} → (IsTrue old.honest → m ≤ n) → ReadsAtMost m old new faults → ReadsAtMost n old new faults

@@ -15,7 +15,7 @@ use Rattle.f11_files.specs.Open.{disk_in, has_failed, home_in}
 use Rattle.f11_files.specs.Operations.{file_causes}
 use Rattle.f11_files.specs.declared.files.Files.{Files}
 use Rattle.f11_image_store.specs.StoreOf.{store_of}
-use Rattle.f11_fcp.specs.Accesses.{Entry, HasAccessed, Table, access_of}
+use Rattle.f11_fcp.specs.Accesses.{Entry, HasAccessed, AccessTable, access_of}
 use Rattle.f11_fcp.specs.Handles.{IsOpen, State, of_accessed, store_at}
 use Rattle.f11_fcp.specs.Lengths.{Measures, length_causes, length_cost}
 use Rattle.f11_fcp.proofs.AccessedLemmas.{among-file, drop-false, take-true}
@@ -101,7 +101,7 @@ module _ (task lun : ℕ) (old : State) (e : Entry) (held : old.table task lun �
           }
 
 -- and all stays open, unless the volume failed
-pub measured-open : {D : Type 0} {met : Ghosts D} (t : Table) (old new : Files D met) {m faults : ℕ} → IsOpen t old → ReadsAtMost m (disk_in old) (disk_in new) faults → home_in new ≡ home_in old
+pub measured-open : {D : Type 0} {met : Ghosts D} (t : AccessTable) (old new : Files D met) {m faults : ℕ} → IsOpen t old → ReadsAtMost m (disk_in old) (disk_in new) faults → home_in new ≡ home_in old
     → has_failed new ≡ false → IsOpen t new
 measured-open t old new is reads home alive = record {
   alive = alive;

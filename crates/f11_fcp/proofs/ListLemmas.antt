@@ -15,10 +15,10 @@ use Rattle.f11_store.specs.declared.requests.Reply.{Reply}
 use Rattle.f11_files.specs.Answers.{is_fatal, is_refused}
 use Rattle.f11_files.specs.Open.{store_in}
 use Rattle.f11_image_store.proofs.StoreLemmas.{unused-is-empty}
-use Rattle.f11_fcp.specs.Accesses.{Entry, HasAccessed, Table, access_of, held_in, mark_kept, mark_there}
+use Rattle.f11_fcp.specs.Accesses.{Entry, HasAccessed, AccessTable, access_of, held_in, mark_kept, mark_there}
 use Rattle.f11_fcp.specs.Handles.{State, faults_in, is_damage}
 use Rattle.f11_fcp.specs.Lists.{AreAnswered, IsServed, KeepsCosts, KeepsLocks, ServesCall, ServesRun, answer_and, answers_in, asked_in, asked_of, cost_of, failures_of, is_sound, store_of_volume, transfers_of}
-use Rattle.f11_fcp.specs.Places.{table_of}
+use Rattle.f11_fcp.specs.Places.{access_table_of}
 use Rattle.f11_fcp.specs.Serving.{is_spent, state_in}
 use Rattle.f11_fcp.specs.declared.call.Call.{Call as Listed}
 use Rattle.f11_fcp.specs.declared.volume.Volume.{Volume}
@@ -104,7 +104,7 @@ not-fatal (Err Damaged) none undamaged = absurd (cc)
 not-fatal (Err _) none undamaged = refl
 
 -- what is held is an access to a file that is there
-accessed : (t : Table) (s : Store) → HasAccessed t s → AccessesStand (held_in t s)
+accessed : (t : AccessTable) (s : Store) → HasAccessed t s → AccessesStand (held_in t s)
 accessed t s kept task lun low small = by_entry (t task lun) (kept task lun low small)
   where
     by_entry : (o : Option Entry) → mark_there s o ≡ mark_kept o → is_lost (held_in t s) (option_map access_of o) ≡ false
@@ -152,7 +152,7 @@ module _ {D : Type 0} {met : Ghosts D} where
   pub keeps-locks : (v w : Volume D met) (cs : List Call) (bs : List Answer) → All IsTasks cs → Each ServesCall v cs bs w → KeepsLocks v cs bs w
   keeps-locks v w cs bs tasks each sound none =
       let parts = sound-parts (state_in v).disk.honest (is_spent v) sound in
-      tidy-locks-hold (store_of_volume v) (store_of_volume w) cs bs tasks (accessed (table_of v.accesses) (store_in v.files) (v.kept parts.1 parts.0)) (tidy v w cs bs each sound none)
+      tidy-locks-hold (store_of_volume v) (store_of_volume w) cs bs tasks (accessed (access_table_of v.accesses) (store_in v.files) (v.kept parts.1 parts.0)) (tidy v w cs bs each sound none)
 
   -- and its transfers are within its costs
   pub grows : (v w : Volume D met) (c : Call) (a : Answer) → IsTrue (state_in v).disk.honest → ServesCall v c a w

@@ -25,7 +25,7 @@ use Rattle.f11_entries.specs.declared.spot.Spot.{Spot}
 use Rattle.f11_entries.specs.declared.spot.Looked.TheVariants as looked
 use Rattle.f11_entries.proofs.SeenLemmas.{looking_begins, looking_goes_on, looking_ends, name_is_found, block_is_there}
 use Rattle.f11_entries.proofs.LookLemmas.{spot_known}
-use Rattle.f11_fcp.specs.Directories.{IsDirectoryOf, LooksThrough}
+use Rattle.f11_fcp.specs.Directories.{IsDirectoryOf, LooksThroughDirectory}
 use Rattle.f11_fcp.specs.Handles.{of_known}
 use Rattle.f11_fcp.proofs.EntryLemmas.{blocks-first}
 use Rattle.f11_fcp.proofs.KnownLemmas.{known-fails, known-length}
@@ -114,7 +114,7 @@ module _ {home : HomeFields} {d : FileId} {name : List ℕ} {count number : ℕ}
       }
 
       pub through-finds : {spot : Spot} {id : FileId} → spot.number ≡ number → spot.block ≡ block → Some spot.place ≡ place_of_name name block upto
-          → id ≡ record_id (record_in block spot.place) → LooksThrough home d name (looked.Found spot id) block (reading_cost f count) old next
+          → id ≡ record_id (record_in block spot.place) → LooksThroughDirectory home d name (looked.Found spot id) block (reading_cost f count) old next
       through-finds {spot = spot} {id = id} number-is block-is found says = record {
         tells = λ sure.
             let counted = (there sure).count_is in
@@ -130,7 +130,7 @@ module _ {home : HomeFields} {d : FileId} {name : List ℕ} {count number : ℕ}
 
 pub through-ends : {home : HomeFields} {d : FileId} {name : List ℕ} {count number : ℕ} {empty : Option Spot} {block : List ℕ} {old now : Disk}
     → (IsTrue old.honest → IsDirectoryOf count (store_of old.image home) d) → count ≤ 32 * number → number ≤ (count + 31) / 32 → IsThrough home d name number empty block old now
-    → LooksThrough home d name (looked.Absent empty) block (reading_cost (directory_in home d old) count) old now
+    → LooksThroughDirectory home d name (looked.Absent empty) block (reading_cost (directory_in home d old) count) old now
 through-ends {home = home} {d = d} {name = name} {count = count} {number = number} {empty = empty} {block = block} {old = old} there past few through = record {
   tells = λ sure. let counted = (there sure).count_is in (looking_ends name (directory_in home d old) number (option_map place_of empty) (through.known sure).0 (omega (arith, past, counted)), (through.known sure).1);
   last_is = λ sure some.

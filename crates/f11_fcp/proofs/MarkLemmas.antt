@@ -11,7 +11,7 @@ use Rattle.f11_store.specs.File.{File, is_marked, with_mark}
 use Rattle.f11_store.specs.Store.{Store, of_sequence, is_same}
 use Rattle.f11_store.specs.declared.files.FileId.{FileId}
 use Rattle.f11_store.proofs.FateLaws.{seen-some}
-use Rattle.f11_fcp.specs.Accesses.{Table, Entry, access_of, held_in, marked_if, mark_there, mark_kept, with_marks, HasAccessed}
+use Rattle.f11_fcp.specs.Accesses.{AccessTable, Entry, access_of, held_in, marked_if, mark_there, mark_kept, with_marks, HasAccessed}
 
 -- a mark says nothing of the access
 access-same : (id : FileId) (o : Option Entry) → option_map access_of (option_map (marked_if id) o) ≡ option_map access_of o
@@ -22,7 +22,7 @@ access-same id (Some e) = by_test (is_same e.file id)
     by_test true = refl
     by_test false = refl
 
-pub marks-leave : (id : FileId) (t : Table) (s : Store) → held_in (with_marks id t) s ≡ held_in t s
+pub marks-leave : (id : FileId) (t : AccessTable) (s : Store) → held_in (with_marks id t) s ≡ held_in t s
 marks-leave id t s = λ i. record s { access = λ task lun. access-same id (t task lun) i }
 
 -- a file that is marked is marked
@@ -30,7 +30,7 @@ mark-set : (f : File) → is_marked (with_delete_mark f) ≡ true
 mark-set f = eq-eqb (bit_at (with_mark f.characteristics) 15) 1 (bit_at_or f.characteristics 32768 15 ∙ omega arith)
 
 -- what is kept of accesses is right where a file was marked, and the accesses to it are
-pub marks-kept : (id : FileId) (t : Table) (s : Store) → is_missing s id ≡ false → HasAccessed t s → HasAccessed (with_marks id t) (with_marked_file s id.number)
+pub marks-kept : (id : FileId) (t : AccessTable) (s : Store) → is_missing s id ≡ false → HasAccessed t s → HasAccessed (with_marks id t) (with_marked_file s id.number)
 marks-kept id t s there kept task lun low small = by_entry (t task lun) (kept task lun low small)
   where
     s' : Store

@@ -13,7 +13,7 @@ use Rattle.f11_files.specs.Open.{has_failed, disk_in, home_in, is_honest, store_
 use Rattle.f11_image_store.proofs.StoreLemmas.{unused-is-empty}
 use Rattle.f11_image_store.specs.StoreOf.{store_of}
 use Rattle.f11_files.specs.declared.files.Files.{Files}
-use Rattle.f11_fcp.specs.Accesses.{Table, Entry, held_in, mark_there, mark_kept, HasAccessed, access_of}
+use Rattle.f11_fcp.specs.Accesses.{AccessTable, Entry, held_in, mark_there, mark_kept, HasAccessed, access_of}
 use Rattle.f11_dev.proofs.WentLemmas.{went_weaker}
 use Rattle.f11_store.specs.Causes.{first_refusal}
 use Rattle.f11_store.specs.Changes.{Changes}
@@ -21,7 +21,7 @@ use Rattle.f11_store.specs.Lags.{Work, LagsBy, work_if, served_work}
 use Rattle.f11_store.specs.declared.requests.Request.TheVariants as request
 use Rattle.f11_store.specs.Accesses.{is_blockless}
 use Rattle.f11_fcp.specs.Handles.{State, Meanwhile, state_of, store_at, Handles, IsOpen, StaysOpen}
-use Rattle.f11_fcp.specs.Places.{table_of}
+use Rattle.f11_fcp.specs.Places.{access_table_of}
 use Rattle.f11_fcp.specs.Serving.{is_spent}
 use Rattle.f11_fcp.specs.Windows.{HasWindows}
 use Rattle.f11_fcp.specs.declared.volume.Volume.{Volume}
@@ -36,7 +36,7 @@ pub same-self : (id : FileId) → is_same id id ≡ true
 same-self id = and_from _ _ (eq-eqb id.number id.number refl) (eq-eqb id.sequence id.sequence refl)
 
 -- what is kept of accesses is right after a step that leaves the table
-pub kept-by-step : (t : Table) (s s' : Store) → ((n : ℕ) → Fate (held_in t s) (held_in t s') n) → HasAccessed t s → HasAccessed t s'
+pub kept-by-step : (t : AccessTable) (s s' : Store) → ((n : ℕ) → Fate (held_in t s) (held_in t s') n) → HasAccessed t s → HasAccessed t s'
 kept-by-step t s s' fate kept task lun low small = by_entry (t task lun) refl (kept task lun low small)
   where
     by_entry : (o : Option Entry) → t task lun ≡ o → mark_there s o ≡ mark_kept o → mark_there s' o ≡ mark_kept o
@@ -46,7 +46,7 @@ kept-by-step t s s' fate kept task lun low small = by_entry (t task lun) refl (k
         (held-at (λ _. true) (held_in t s') task lun (access_of e) e.file low small (ap (option_map access_of) is) (same-self e.file) refl)
 
 -- so after a request that left the table as it was
-pub kept-after : {D : Type 0} {met : Ghosts D} (t : Table) (old new : Files D met) (task : ℕ) (caller : Uic) (r : Request) (result : Result Reply Refusal) (block block' : List ℕ)
+pub kept-after : {D : Type 0} {met : Ghosts D} (t : AccessTable) (old new : Files D met) (task : ℕ) (caller : Uic) (r : Request) (result : Result Reply Refusal) (block block' : List ℕ)
     → IsOpen t old → (IsTrue (disk_in old).honest → SimpleIf result (store_at (state_of t old)) r) → Handles task caller r result (state_of t old) block (state_of t new) block' → is_refused is_fatal result ≡ false
     → is_honest new → HasAccessed t (store_in new)
 kept-after t old new task caller r result block block' is simple handles clean honest =
@@ -55,14 +55,14 @@ kept-after t old new task caller r result block block' is simple handles clean h
     (fate-step (store_at (state_of t old)) task caller r block result (store_at (state_of t new)) block' (unused-is-empty (disk_in old).image (home_in old)) (simple was) (handles.step was clean)) (is.kept was)
 
 -- windows are kept where they are by a request that was served, and by one that was refused
-pub windows-after : {D : Type 0} {met : Ghosts D} (t : Table) (old new : Files D met) (task : ℕ) (caller : Uic) (r : Request) (result : Result Reply Refusal) (block block' : List ℕ)
+pub windows-after : {D : Type 0} {met : Ghosts D} (t : AccessTable) (old new : Files D met) (task : ℕ) (caller : Uic) (r : Request) (result : Result Reply Refusal) (block block' : List ℕ)
     → IsOpen t old → Handles task caller r result (state_of t old) block (state_of t new) block' → is_refused is_fatal result ≡ false → OnOk result (HasWindows t new) → HasWindows t new
 windows-after t old new task caller r (Ok reply) block block' is handles clean windows = windows
 windows-after t old new task caller r (Err e) block block' is handles clean windows =
     windows-on t old new is handles.writes handles.home (λ _. rows-same (home_in old) (disk_in old).image (disk_in new).image (handles.left (clean-of e clean)).image)
 
 -- so all stays open where a request left the table as it was
-pub stays-open : {D : Type 0} {met : Ghosts D} (t : Table) (old new : Files D met) (task : ℕ) (caller : Uic) (r : Request) (result : Result Reply Refusal) (block block' : List ℕ)
+pub stays-open : {D : Type 0} {met : Ghosts D} (t : AccessTable) (old new : Files D met) (task : ℕ) (caller : Uic) (r : Request) (result : Result Reply Refusal) (block block' : List ℕ)
     → IsOpen t old → (IsTrue (disk_in old).honest → SimpleIf result (store_at (state_of t old)) r) → Handles task caller r result (state_of t old) block (state_of t new) block' → (is_refused is_fatal result ≡ false → has_failed new ≡ false)
     → OnOk result (HasWindows t new) → StaysOpen result t new
 stays-open t old new task caller r result block block' is simple handles alive windows clean = record {
@@ -114,5 +114,5 @@ handles-block task caller r result old new block is h = record {
 }
 
 -- a volume that no request has failed is open
-pub volume-open : {D : Type 0} {met : Ghosts D} (v : Volume D met) → is_spent v ≡ false → IsOpen (table_of v.accesses) v.files
+pub volume-open : {D : Type 0} {met : Ghosts D} (v : Volume D met) → is_spent v ≡ false → IsOpen (access_table_of v.accesses) v.files
 volume-open v fresh = record { alive = v.alive fresh; kept = v.kept fresh; windows = v.windows fresh }

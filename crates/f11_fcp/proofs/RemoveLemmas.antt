@@ -26,7 +26,7 @@ use Rattle.f11_entries.proofs.CostLemmas.{remove_fits}
 use Rattle.f11_entries.proofs.WritingLemmas.{removing_is_one_write}
 use Rattle.f11_files.specs.Answers.{FailsToRead, Meanwhile, is_among}
 use Rattle.f11_image_store.specs.StoreOf.{store_of}
-use Rattle.f11_fcp.specs.Accesses.{Table, held_in}
+use Rattle.f11_fcp.specs.Accesses.{AccessTable, held_in}
 use Rattle.f11_fcp.specs.Directories.{opening_causes, Searches}
 use Rattle.f11_fcp.specs.Entries.{HoldsSpot, put_at, put_work, ReplacesEntry, BreaksReplacing}
 use Rattle.f11_fcp.specs.Handles.{State, store_at, own_causes, Handles, Meanwhile as Standing}
@@ -119,7 +119,7 @@ module _ (task : ℕ) (caller : Uic) (d : FileId) (name : List ℕ) (old : State
           pub removed : (new : State) → ReplacesEntry mid.home d spot empty_record mid.disk new.disk → new.home ≡ mid.home → new.table ≡ old.table → Handles task caller r (Ok reply.Done) old [] new []
           removed new does home' table' =
               handled-served task caller r [] old reply.Done new [] none (λ _. refl)
-              (λ honest. ap (λ (h : HomeFields). held_in new.table (store_of new.disk.image h)) home' ∙ ap (λ (t : Table). held_in t (store_of new.disk.image mid.home)) table'
+              (λ honest. ap (λ (h : HomeFields). held_in new.table (store_of new.disk.image h)) home' ∙ ap (λ (t : AccessTable). held_in t (store_of new.disk.image mid.home)) table'
               ∙ ap (held_in old.table) (does.makes (sure honest) ∙ ap (λ (x : Store). with_change x d.number (put_at spot empty_record)) same) ∙ (by honest below).removes)
               (λ _. refl) (behind-by task caller r [] old (Meanwhile (put_work d spot empty_record) mid.home mid.disk) mid new searches.reads weaker does.writes enough) (home' ∙ home)
 

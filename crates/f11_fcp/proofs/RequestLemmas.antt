@@ -20,7 +20,7 @@ use Rattle.f11_files.specs.Create.{Creates, FailsToCreate}
 use Rattle.f11_files.specs.Operations.{IsSpaceOf}
 use Rattle.f11_files.proofs.Overall.{creates-is}
 use Rattle.f11_image_store.specs.StoreOf.{store_of}
-use Rattle.f11_fcp.specs.Accesses.{Table, held_in, accesses}
+use Rattle.f11_fcp.specs.Accesses.{AccessTable, held_in, accesses}
 use Rattle.f11_fcp.specs.Handles.{State, store_at, own_causes, Meanwhile, Handles}
 use Rattle.f11_store.proofs.HeldLaws.{create-causes-held, free-held, make-work-held, makes-held}
 use Rattle.f11_fcp.proofs.HandleLemmas.{handled-served, handled-does, handled-wants, reads-none, wants-still, writes-none}
@@ -43,13 +43,13 @@ space-told task caller old free headers slots is =
 
 -- Create
 module _ (task : ℕ) (caller : Uic) (word : ℕ) (ident attr : List ℕ) where
-  create-first : (t : Table) (s : Store) → first_of (create_causes s) ≡ first_refusal (held_in t s) task caller (request.Create word ident attr)
+  create-first : (t : AccessTable) (s : Store) → first_of (create_causes s) ≡ first_refusal (held_in t s) task caller (request.Create word ident attr)
   create-first t s = ap first_of (sym (create-causes-held (accesses t) s))
 
-  create-work : (t : Table) (s : Store) → make_work s caller word ident attr ≡ served_work (held_in t s) task caller (request.Create word ident attr) []
+  create-work : (t : AccessTable) (s : Store) → make_work s caller word ident attr ≡ served_work (held_in t s) task caller (request.Create word ident attr) []
   create-work t s = sym (make-work-held (accesses t) s caller word ident attr)
 
-  create-fits : (t : Table) (s : Store) → 0 + (slots_cost s 1 + 3) ≤ cost (held_in t s) task (request.Create word ident attr)
+  create-fits : (t : AccessTable) (s : Store) → 0 + (slots_cost s 1 + 3) ≤ cost (held_in t s) task (request.Create word ident attr)
   create-fits t s = let same = slots-cost-held (accesses t) s 1 in omega (arith, same)
 
   -- what is refused is for one of these causes
@@ -68,7 +68,7 @@ module _ (task : ℕ) (caller : Uic) (word : ℕ) (ident attr : List ℕ) where
       (λ honest. ap (λ (i : FileId). reply.Created i) (overall.id honest ∙ sym (next-held (accesses old.table) s0)))
       (λ honest makes.
       subst (λ (x : Store). MakesFile (store_at old) caller word ident attr x)
-      (sym (ap (λ (h : HomeFields). held_in new.table (store_of new.disk.image h)) home ∙ ap (λ (t : Table). held_in t (store_of new.disk.image old.home)) table))
+      (sym (ap (λ (h : HomeFields). held_in new.table (store_of new.disk.image h)) home ∙ ap (λ (t : AccessTable). held_in t (store_of new.disk.image old.home)) table))
       (makes-held (accesses old.table) s0 (store_of new.disk.image old.home) caller word ident attr makes))
       (λ _. refl) home
 

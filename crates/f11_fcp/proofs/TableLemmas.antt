@@ -11,7 +11,7 @@ use Rattle.f11_store.specs.declared.files.Mode.{Mode}
 use Rattle.f11_store.specs.Store.{is_to}
 use Rattle.f11_fcp.specs.declared.table.Held.{Held}
 use Rattle.f11_fcp.specs.Accesses.{access_of, accesses, is_held_in, with_entry}
-use Rattle.f11_fcp.specs.Places.{entry_of, table_in}
+use Rattle.f11_fcp.specs.Places.{entry_of, access_table_in}
 use Rattle.f11_store.proofs.FateLaws.{any-range}
 
 -- nothing stands anywhere in an empty table
@@ -32,20 +32,20 @@ none-range p n never = list_any_none p (range_with_len 0 n)
     let at : 0 + i ≡ i = omega arith in
     ap p (get_or-range_with_len 0 n i d low ∙ at) ∙ never i low)
 
-pub found-at : (test : Mode → Bool) (id : FileId) (places : List (Option Held)) (k : ℕ) → k < 32 → stands test id places k ≡ true → is_held_in test (table_in places) id ≡ true
+pub found-at : (test : Mode → Bool) (id : FileId) (places : List (Option Held)) (k : ℕ) → k < 32 → stands test id places k ≡ true → is_held_in test (access_table_in places) id ≡ true
 unfolding is_held_in
 found-at test id places k low is =
     let task : k / 4 < 8 = omega arith in
     let lun : k % 4 < 4 = omega arith in
     let at : 4 * (k / 4) + k % 4 ≡ k = omega arith in
-    any-range (λ t. list_any (λ l. is_to test id (accesses (table_in places) t l)) (range_with_len 0 4)) 8 (k / 4) task
-    (any-range (λ l. is_to test id (accesses (table_in places) (k / 4) l)) 4 (k % 4) lun (rw (lt-ltb (k % 4) 4 lun) (ap (stands test id places) at ∙ is)))
+    any-range (λ t. list_any (λ l. is_to test id (accesses (access_table_in places) t l)) (range_with_len 0 4)) 8 (k / 4) task
+    (any-range (λ l. is_to test id (accesses (access_table_in places) (k / 4) l)) 4 (k % 4) lun (rw (lt-ltb (k % 4) 4 lun) (ap (stands test id places) at ∙ is)))
 
-pub found-none : (test : Mode → Bool) (id : FileId) (places : List (Option Held)) → ((k : ℕ) → k < 32 → stands test id places k ≡ false) → is_held_in test (table_in places) id ≡ false
+pub found-none : (test : Mode → Bool) (id : FileId) (places : List (Option Held)) → ((k : ℕ) → k < 32 → stands test id places k ≡ false) → is_held_in test (access_table_in places) id ≡ false
 unfolding is_held_in
 found-none test id places never =
-    none-range (λ t. list_any (λ l. is_to test id (accesses (table_in places) t l)) (range_with_len 0 4)) 8
-    (λ t early. none-range (λ l. is_to test id (accesses (table_in places) t l)) 4 (λ l small. rw (lt-ltb l 4 small) (never (4 * t + l) (omega arith))))
+    none-range (λ t. list_any (λ l. is_to test id (accesses (access_table_in places) t l)) (range_with_len 0 4)) 8
+    (λ t early. none-range (λ l. is_to test id (accesses (access_table_in places) t l)) 4 (λ l small. rw (lt-ltb l 4 small) (never (4 * t + l) (omega arith))))
 
 pub stands-at : (test : Mode → Bool) (id : FileId) (places : List (Option Held)) (k : ℕ) (h : Held) → slice_index_or places k None ≡ Some h → h.file.number ≡ id.number
     → h.file.sequence ≡ id.sequence → test h.mode ≡ true → stands test id places k ≡ true
@@ -54,7 +54,7 @@ stands-at test id places k h is number sequence passes =
 
 -- what is put at a place stands there
 pub set-at : (places : List (Option Held)) (k task lun : ℕ) (o : Option Held) → length places ≡ 32 → k ≡ 4 * task + lun → task < 8 → lun < 4
-    → table_in (slice_set places k o) ≡ with_entry (table_in places) task lun (option_map entry_of o)
+    → access_table_in (slice_set places k o) ≡ with_entry (access_table_in places) task lun (option_map entry_of o)
 set-at places k task lun o all is low small = λ i t l. by_test t l ((t == task) && (l == lun)) refl i
   where
     within : k < length places
@@ -71,7 +71,7 @@ set-at places k task lun o all is low small = λ i t l. by_test t l ((t == task)
     by_lun t l other true lower = ap (option_map entry_of) (get_or-set_other places k (4 * t + l) o None (elsewhere t l other (ltb-true l 4 lower)))
     by_lun t l other false past = refl
 
-    by_test : (t l : ℕ) (b : Bool) → ((t == task) && (l == lun)) ≡ b → table_in (slice_set places k o) t l ≡ (if b then option_map entry_of o else table_in places t l)
+    by_test : (t l : ℕ) (b : Bool) → ((t == task) && (l == lun)) ≡ b → access_table_in (slice_set places k o) t l ≡ (if b then option_map entry_of o else access_table_in places t l)
     by_test t l true here =
         let parts = and_parts (t == task) (l == lun) here in
         let first = eqb-true t task parts.0 in

@@ -19,7 +19,7 @@ use Rattle.f11_files.specs.Answers.{is_among, is_clean}
 use Rattle.f11_files.specs.Removing.Truncate.{Cuts, FailsToCut, cut_work}
 use Rattle.f11_files.specs.Operations.{length_causes}
 use Rattle.f11_image_store.specs.StoreOf.{store_of}
-use Rattle.f11_fcp.specs.Accesses.{Table, Entry, accesses, held_in}
+use Rattle.f11_fcp.specs.Accesses.{AccessTable, Entry, accesses, held_in}
 use Rattle.f11_fcp.specs.Handles.{State, store_at, own_causes, Handles, of_accessed}
 use Rattle.f11_fcp.proofs.AccessedLemmas.{drop-false, take-true, refused-early, accessed-refused, held-id, held-file, held-writes, end-never}
 use Rattle.f11_fcp.proofs.HandleLemmas.{handled-does, reads-none}
@@ -75,7 +75,7 @@ module _ (task lun : ℕ) (caller : Uic) (old : State) (e : Entry) (held : old.t
         store-then : Truncates s0 e.file.number to (store_of new.disk.image old.home) → Truncates s (id_held s task lun).number to (store_at new)
         store-then makes =
             subst (λ (id : FileId). Truncates s id.number to (store_at new)) (sym (held-id task lun caller old e held))
-            (subst (λ (x : Store). Truncates s e.file.number to x) (sym (ap (λ (h : HomeFields). held_in new.table (store_of new.disk.image h)) home ∙ ap (λ (t : Table). held_in t (store_of new.disk.image old.home)) table))
+            (subst (λ (x : Store). Truncates s e.file.number to x) (sym (ap (λ (h : HomeFields). held_in new.table (store_of new.disk.image h)) home ∙ ap (λ (t : AccessTable). held_in t (store_of new.disk.image old.home)) table))
             (cut-held (accesses old.table) s0 (store_of new.disk.image old.home) e.file.number to makes))
 
     pub not-cut : {failed : Bool} (new : State) (er res : Refusal) → failed ≡ false → FailsToCut failed old.home e.file to er old.disk new.disk

@@ -31,7 +31,7 @@ use Rattle.f11_files.proofs.Finding.Windows.{is-there}
 use Rattle.f11_files.proofs.Opening.Kept.{accepted-opened}
 use Rattle.f11_image_store.specs.Allocation.{BeginsWith}
 use Rattle.f11_image_store.specs.StoreOf.{store_of}
-use Rattle.f11_fcp.specs.Accesses.{Entry, HasAccessed, Table, access_of, accesses, any_mode, emptied_if, held_in, is_held_in, mark_kept, mark_there, marked_if, with_empty_windows, with_entry, with_marks, with_window}
+use Rattle.f11_fcp.specs.Accesses.{Entry, HasAccessed, AccessTable, access_of, accesses, any_mode, emptied_if, held_in, is_held_in, mark_kept, mark_there, marked_if, with_empty_windows, with_entry, with_marks, with_window}
 use Rattle.f11_fcp.specs.Handles.{Handles, IsOpen, State, store_at}
 use Rattle.f11_fcp.specs.Windows.{HasWindows, IsSliceOf, KeepsWindow, LeavesRows}
 use Rattle.f11_fcp.proofs.AccessedLemmas.{there-held}
@@ -91,7 +91,7 @@ begins-at old new f home begins =
     subst (λ (h : HomeFields). BeginsWith (file_blocks (table_of (disk_in new).image h) f) (file_blocks (table_of (disk_in old).image (home_in old)) f)) (sym home) begins
 
 -- a file that is accessed is there
-pub file-held : (t : Table) (image : Image) (home : HomeFields) → HasAccessed t (store_of image home) → (task lun : ℕ) (e : Entry) → task < 8 → lun < 4 → t task lun ≡ Some e → IsFile (table_of image home) e.file.number
+pub file-held : (t : AccessTable) (image : Image) (home : HomeFields) → HasAccessed t (store_of image home) → (task lun : ℕ) (e : Entry) → task < 8 → lun < 4 → t task lun ≡ Some e → IsFile (table_of image home) e.file.number
 file-held t image home kept task lun e low small held = (is-there image home e.file (there-held t (store_of image home) task lun e kept low small held)).0
 
 -- what lies on a device lies on a longer one
@@ -106,7 +106,7 @@ empty-kept e files is = record {
 }
 
 -- those of all accesses are kept
-pub windows-kept : {D : Type 0} {met : Ghosts D} (t : Table) (old new : Files D met) → length (disk_in new).image ≡ length (disk_in old).image → (is_honest new → is_honest old) → home_in new ≡ home_in old
+pub windows-kept : {D : Type 0} {met : Ghosts D} (t : AccessTable) (old new : Files D met) → length (disk_in new).image ≡ length (disk_in old).image → (is_honest new → is_honest old) → home_in new ≡ home_in old
     → (is_honest old → HasAccessed t (store_in old)) → (is_honest new → KeepsRows no_number (home_in old) (disk_in old).image (disk_in new).image) → HasWindows t old → HasWindows t new
 windows-kept t old new size back home kept rows has task lun e low small held =
     window-kept e old new size back
@@ -114,13 +114,13 @@ windows-kept t old new size back home kept rows has task lun e low small held =
     (has task lun e low small held)
 
 -- so by a call that wrote
-pub windows-on : {D : Type 0} {met : Ghosts D} {P : Image → Type 0} {most faults : ℕ} (t : Table) (old new : Files D met) → IsOpen t old → WritesAtMost P most (disk_in old) (disk_in new) faults → home_in new ≡ home_in old
+pub windows-on : {D : Type 0} {met : Ghosts D} {P : Image → Type 0} {most faults : ℕ} (t : AccessTable) (old new : Files D met) → IsOpen t old → WritesAtMost P most (disk_in old) (disk_in new) faults → home_in new ≡ home_in old
     → LeavesRows old new → HasWindows t new
 windows-on t old new is writes home rows =
     windows-kept t old new writes.went.size (λ honest. sym writes.went.honest ∙ honest) home is.kept (λ honest. rows (sym writes.went.honest ∙ honest)) is.windows
 
 -- and by one that read
-pub windows-read : {D : Type 0} {met : Ghosts D} {most faults : ℕ} (t : Table) (old new : Files D met) → IsOpen t old → ReadsAtMost most (disk_in old) (disk_in new) faults → home_in new ≡ home_in old → HasWindows t new
+pub windows-read : {D : Type 0} {met : Ghosts D} {most faults : ℕ} (t : AccessTable) (old new : Files D met) → IsOpen t old → ReadsAtMost most (disk_in old) (disk_in new) faults → home_in new ≡ home_in old → HasWindows t new
 windows-read t old new is reads home =
     windows-kept t old new (ap (λ (i : Image). length i) reads.looked.image) (λ honest. sym reads.looked.honest ∙ honest) home is.kept
     (λ _. rows-same (home_in old) (disk_in old).image (disk_in new).image reads.looked.image) is.windows
@@ -140,7 +140,7 @@ apart image home a b there there' other = go (a.number == b.number) refl
     go false is = is
 
 -- an access to a file, if nobody has one to it, is to another
-other-file : (t : Table) (s : Store) (f : FileId) → is_held_in any_mode t f ≡ false → (task lun : ℕ) (e : Entry) → task < 8 → lun < 4 → t task lun ≡ Some e → is_same e.file f ≡ false
+other-file : (t : AccessTable) (s : Store) (f : FileId) → is_held_in any_mode t f ≡ false → (task lun : ℕ) (e : Entry) → task < 8 → lun < 4 → t task lun ≡ Some e → is_same e.file f ≡ false
 unfolding is_held_in is_held
 other-file t s f nobody task lun e low small held = go (is_same e.file f) refl
   where
@@ -149,7 +149,7 @@ other-file t s f nobody task lun e low small held = go (is_same e.file f) refl
     go false is = is
 
 -- a file's blocks were cut, or it went: windows of accesses to others are kept
-module _ {D : Type 0} {met : Ghosts D} (t : Table) (old new : Files D met) (f : FileId) (size : length (disk_in new).image ≡ length (disk_in old).image) (back : is_honest new → is_honest old) (home : home_in new ≡ home_in old)
+module _ {D : Type 0} {met : Ghosts D} (t : AccessTable) (old new : Files D met) (f : FileId) (size : length (disk_in new).image ≡ length (disk_in old).image) (back : is_honest new → is_honest old) (home : home_in new ≡ home_in old)
     (kept : is_honest old → HasAccessed t (store_in old)) (there : is_honest old → is_missing (store_in old) f ≡ false)
     (rows : is_honest old → KeepsRows (this_number f.number) (home_in old) (disk_in old).image (disk_in new).image)
   where
@@ -177,20 +177,20 @@ module _ {D : Type 0} {met : Ghosts D} (t : Table) (old new : Files D met) (f : 
         by_entry (Some was) is some = by_test was is (is_same was.file f) refl (same_Some _ _ some)
 
 -- a table with another entry
-pub windows-with : {D : Type 0} {met : Ghosts D} (t t' : Table) (files : Files D met) (k l : ℕ) (o : Option Entry) → t' ≡ with_entry t k l o → ((e : Entry) → o ≡ Some e → KeepsWindow e files) → HasWindows t files
+pub windows-with : {D : Type 0} {met : Ghosts D} (t t' : AccessTable) (files : Files D met) (k l : ℕ) (o : Option Entry) → t' ≡ with_entry t k l o → ((e : Entry) → o ≡ Some e → KeepsWindow e files) → HasWindows t files
     → HasWindows t' files
 windows-with t t' files k l o is new has task lun e low small held = go ((task == k) && (lun == l)) refl
   where
     held' : with_entry t k l o task lun ≡ Some e
-    held' = ap (λ (u : Table). u task lun) (sym is) ∙ held
+    held' = ap (λ (u : AccessTable). u task lun) (sym is) ∙ held
 
     go : (b : Bool) → ((task == k) && (lun == l)) ≡ b → KeepsWindow e files
     go true here = new e (sym (ap (λ (b : Bool). if b then o else t task lun) here) ∙ held')
     go false other = has task lun e low small (sym (ap (λ (b : Bool). if b then o else t task lun) other) ∙ held')
 
 -- or with other marks
-pub windows-marked : {D : Type 0} {met : Ghosts D} (t t' : Table) (files : Files D met) (f : FileId) → t' ≡ with_marks f t → HasWindows t files → HasWindows t' files
-windows-marked t t' files f is has task lun e low small held = by_entry (t task lun) refl (ap (λ (u : Table). u task lun) (sym is) ∙ held)
+pub windows-marked : {D : Type 0} {met : Ghosts D} (t t' : AccessTable) (files : Files D met) (f : FileId) → t' ≡ with_marks f t → HasWindows t files → HasWindows t' files
+windows-marked t t' files f is has task lun e low small held = by_entry (t task lun) refl (ap (λ (u : AccessTable). u task lun) (sym is) ∙ held)
   where
     by_test : (was : Entry) → KeepsWindow was files → (b : Bool) → (if b then record was { marked = true } else was) ≡ e → KeepsWindow e files
     by_test was keeps true to = subst (λ (x : Entry). KeepsWindow x files) to record { on = keeps.on; of_file = keeps.of_file }
@@ -200,19 +200,19 @@ windows-marked t t' files f is has task lun e low small held = by_entry (t task 
     by_entry None at none = absurd (cc)
     by_entry (Some was) at some = by_test was (has task lun was low small at) (is_same was.file f) (same_Some _ _ some)
 
-at-place : (t : Table) (task lun k l : ℕ) → ((task == k) && (lun == l)) ≡ true → t task lun ≡ t k l
+at-place : (t : AccessTable) (task lun k l : ℕ) → ((task == k) && (lun == l)) ≡ true → t task lun ≡ t k l
 at-place t task lun k l here =
     let parts = and_parts (task == k) (lun == l) here in ap (λ (n : ℕ). t n lun) (eqb-true task k parts.0) ∙ ap (λ (n : ℕ). t k n) (eqb-true lun l parts.1)
 
 -- accesses are what they were where one has another window
-pub accesses-with : (t : Table) (k l : ℕ) (e : Entry) (w : Window) → t k l ≡ Some e → accesses (with_entry t k l (Some (with_window w e))) ≡ accesses t
+pub accesses-with : (t : AccessTable) (k l : ℕ) (e : Entry) (w : Window) → t k l ≡ Some e → accesses (with_entry t k l (Some (with_window w e))) ≡ accesses t
 accesses-with t k l e w held = λ i task lun. go task lun ((task == k) && (lun == l)) refl i
   where
     go : (task lun : ℕ) (b : Bool) → ((task == k) && (lun == l)) ≡ b → option_map access_of (if b then Some (with_window w e) else t task lun) ≡ option_map access_of (t task lun)
     go task lun true here = ap (option_map access_of) (sym (at-place t task lun k l here ∙ held))
     go task lun false other = refl
 
-pub kept-with : (t : Table) (s : Store) (k l : ℕ) (e : Entry) (w : Window) → t k l ≡ Some e → HasAccessed t s → HasAccessed (with_entry t k l (Some (with_window w e))) s
+pub kept-with : (t : AccessTable) (s : Store) (k l : ℕ) (e : Entry) (w : Window) → t k l ≡ Some e → HasAccessed t s → HasAccessed (with_entry t k l (Some (with_window w e))) s
 kept-with t s k l e w held kept task lun low small = go ((task == k) && (lun == l)) refl
   where
     go : (b : Bool) → ((task == k) && (lun == l)) ≡ b → mark_there s (if b then Some (with_window w e) else t task lun) ≡ mark_kept (if b then Some (with_window w e) else t task lun)
@@ -222,7 +222,7 @@ kept-with t s k l e w held kept task lun low small = go ((task == k) && (lun == 
     go false other = kept task lun low small
 
 -- or where those to a file have windows that hold no run
-pub accesses-emptied : (f : FileId) (t : Table) → accesses (with_empty_windows f t) ≡ accesses t
+pub accesses-emptied : (f : FileId) (t : AccessTable) → accesses (with_empty_windows f t) ≡ accesses t
 accesses-emptied f t = λ i task lun. go (t task lun) i
   where
     by_test : (e : Entry) (b : Bool) → Some (access_of (if b then with_window empty_window e else e)) ≡ Some (access_of e)
@@ -233,7 +233,7 @@ accesses-emptied f t = λ i task lun. go (t task lun) i
     go None = refl
     go (Some e) = by_test e (is_same e.file f)
 
-pub kept-emptied : (f : FileId) (t : Table) (s : Store) → HasAccessed t s → HasAccessed (with_empty_windows f t) s
+pub kept-emptied : (f : FileId) (t : AccessTable) (s : Store) → HasAccessed t s → HasAccessed (with_empty_windows f t) s
 kept-emptied f t s kept task lun low small = go (t task lun) (kept task lun low small)
   where
     by_test : (e : Entry) (b : Bool) → mark_of s e.file ≡ Some e.marked
@@ -246,7 +246,7 @@ kept-emptied f t s kept task lun low small = go (t task lun) (kept task lun low 
     go (Some e) h = by_test e (is_same e.file f) h
 
 -- a request that was served is where the table that stands then has the same accesses
-pub handled-on : {task : ℕ} {caller : Uic} {r : Request} {reply : Reply} {old new : State} {block block' : List ℕ} (t : Table) → accesses t ≡ accesses new.table → Handles task caller r (Ok reply) old block new block'
+pub handled-on : {task : ℕ} {caller : Uic} {r : Request} {reply : Reply} {old new : State} {block block' : List ℕ} (t : AccessTable) → accesses t ≡ accesses new.table → Handles task caller r (Ok reply) old block new block'
     → Handles task caller r (Ok reply) old block (record new { table = t }) block'
 handled-on {task} {caller} {r} {reply} {old} {new} {block} {block'} t same h = record {
   step = λ honest clean.

@@ -7,7 +7,7 @@ use Rattle.f11_store.specs.declared.refusals.Refusal.{Refusal}
 use Rattle.f11_store.specs.declared.requests.Reply.{Reply}
 use Rattle.f11_store.specs.declared.requests.Request.{Request}
 use Rattle.f11_store.specs.declared.requests.Request.TheVariants as request
-use Rattle.f11_fcp.specs.Accesses.{Entry, Table, with_empty_windows, with_entry, with_window}
+use Rattle.f11_fcp.specs.Accesses.{Entry, AccessTable, with_empty_windows, with_entry, with_window}
 use Rattle.f11_fcp.specs.Handles.{State}
 use Rattle.f11_fcp.specs.Serving.{state_in}
 use Rattle.f11_fcp.specs.Windows.{IsNextWindow}
@@ -20,7 +20,7 @@ block_of (request.WriteBlock lun vbn) = Some (lun, vbn)
 block_of _ = None
 
 -- Block `vbn` stands in the window of what a lun holds.
-pub record StandsInWindow (t : Table) (task lun vbn : ℕ) : Type 0 where
+pub record StandsInWindow (t : AccessTable) (task lun vbn : ℕ) : Type 0 where
   pub entry : Entry
   pub held : t task lun ≡ Some entry
   pub holds : HoldsBlock entry.window vbn
@@ -45,14 +45,14 @@ pub record EmptiesWindows (task lun : ℕ) (old new : State) : Type 0 where
   pub table_is : new.table ≡ with_empty_windows entry.file old.table
 
 -- An access was held before, to this file and with this window.
-pub record WasHeld (t : Table) (task lun : ℕ) (e : Entry) : Type 0 where
+pub record WasHeld (t : AccessTable) (task lun : ℕ) (e : Entry) : Type 0 where
   pub was : Entry
   pub held : t task lun ≡ Some was
   pub file_is : e.file ≡ was.file
   pub window_is : e.window ≡ was.window
 
 -- so was each
-abbrev pub KeepsWindows : Table → Table → Type 0
+abbrev pub KeepsWindows : AccessTable → AccessTable → Type 0
 KeepsWindows old new = (task lun : ℕ) (e : Entry) → new task lun ≡ Some e → WasHeld old task lun e
 
 -- What windows are after a request that was served: that of a new access holds no run, nor do those of the file's accesses where it was

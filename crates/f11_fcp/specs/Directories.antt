@@ -20,7 +20,7 @@ use Rattle.f11_entries.specs.declared.spot.Looked.{Looked}
 use Rattle.f11_files.specs.Answers.{ReadsAtMost}
 use Rattle.f11_files.specs.Operations.{attr_of}
 use Rattle.f11_image_store.specs.StoreOf.{store_of}
-use Rattle.f11_fcp.specs.Accesses.{Table, is_held_in}
+use Rattle.f11_fcp.specs.Accesses.{AccessTable, is_held_in}
 use Rattle.f11_fcp.specs.declared.purpose.Purpose.{Purpose}
 use Rattle.f11_fcp.specs.declared.purpose.Purpose.TheVariants as purpose
 use Rattle.f11_fcp.specs.declared.search.Search.{Search}
@@ -35,17 +35,17 @@ abbrev pub lacks_for_purpose : Purpose → Uic → Uic → ℕ → Bool
 lacks_for_purpose p caller owner word = not (may caller owner word (right_for p))
 
 -- an access to the directory stands against it
-abbrev pub is_barred_to : Purpose → Table → FileId → Bool
+abbrev pub is_barred_to : Purpose → AccessTable → FileId → Bool
 is_barred_to purpose.Look t d = false
 is_barred_to purpose.Change t d = is_held_in (bars mode.Write) t d
 
 -- against a change one that locks or writes
-abbrev pub conflict_causes : Purpose → Table → FileId → List Cause
+abbrev pub conflict_causes : Purpose → AccessTable → FileId → List Cause
 conflict_causes purpose.Look t d = []
 conflict_causes purpose.Change t d = (Conflict ⇐ is_held_in (bars mode.Write) t d) ∷ []
 
 -- the causes against it before the records are looked at, in order
-abbrev pub opening_causes : Purpose → Table → Store → Uic → FileId → List Cause
+abbrev pub opening_causes : Purpose → AccessTable → Store → Uic → FileId → List Cause
 opening_causes p t s caller d =
     (SystemFile ⇐ nat_lt d.number 4)
     ∷ (NoSuchFile ⇐ is_missing s d)
@@ -54,21 +54,21 @@ opening_causes p t s caller d =
     ∷ (conflict_causes p t d ++ ((NotDirectory ⇐ not (is_directory (file_named s d))) ∷ []))
 
 -- A directory was opened: what its header says was read.
-pub record Opens (p : Purpose) (t : Table) (caller : Uic) (d : FileId) (attr : Attr) (home : HomeFields) (old new : Disk) : Type 0 where
+pub record OpensDirectory (p : Purpose) (t : AccessTable) (caller : Uic) (d : FileId) (attr : Attr) (home : HomeFields) (old new : Disk) : Type 0 where
   pub no_cause : IsTrue old.honest → first_of (opening_causes p t (store_of old.image home) caller d) ≡ None
   pub attr_is : IsTrue old.honest → attr ≡ attr_of (file_named (store_of old.image home) d)
   pub own : 4 ≤ d.number
   pub reads : ReadsAtMost 1 old new 0
 
 -- Records of a directory were looked through for a name, and a block of it is in hand.
-pub record LooksThrough (home : HomeFields) (d : FileId) (name : List ℕ) (told : Looked) (last : List ℕ) (most : ℕ)
+pub record LooksThroughDirectory (home : HomeFields) (d : FileId) (name : List ℕ) (told : Looked) (last : List ℕ) (most : ℕ)
     (old new : Disk) : Type 0 where
   pub tells : IsTrue old.honest → Tells name (file_named (store_of old.image home) d) told
   pub last_is : IsTrue old.honest → IsLastBlock (file_named (store_of old.image home) d) told last
   pub reads : ReadsAtMost most old new 0
 
 -- A directory was opened, and looked through for a name.
-pub record Searches (p : Purpose) (t : Table) (caller : Uic) (d : FileId) (name : List ℕ) (found : Search)
+pub record Searches (p : Purpose) (t : AccessTable) (caller : Uic) (d : FileId) (name : List ℕ) (found : Search)
     (home : HomeFields) (old new : Disk) : Type 0 where
   pub no_cause : IsTrue old.honest → first_of (opening_causes p t (store_of old.image home) caller d) ≡ None
   pub attr_is : IsTrue old.honest → found.attr ≡ attr_of (file_named (store_of old.image home) d)

@@ -82,7 +82,7 @@ BreaksReplacing home d spot r refusal old new =
     Breaks (Meanwhile (put_work d spot r) home old) (header_count (file_named s d) + 1) refusal old new
 
 -- where the next record of a directory goes, with its attributes and its length
-pub record IsTailOf (tail : Tail) (s : Store) (d : FileId) : Type 0 where
+pub record IsDirectoryTail (tail : Tail) (s : Store) (d : FileId) : Type 0 where
   pub holds : HoldsSpot s d tail.spot
   pub attr_is : tail.attr ≡ (file_named s d).attr
   pub length_is : tail.length ≡ length_of (file_named s d)
@@ -113,7 +113,7 @@ pub record Appends (home : HomeFields) (d : FileId) (tail : Tail) (r : List ℕ)
   pub writes : WritesAtMost (Appending home d tail r old) (append_cost (file_named (store_of old.image home) d)) old new 0
 
 -- A directory was looked through to its end: what is kept of it is so, and the last block with records is in hand.
-pub record IsEndOf (found : Search) (s : Store) (d : FileId) : Type 0 where
+pub record IsDirectoryEnd (found : Search) (s : Store) (d : FileId) : Type 0 where
   pub there : is_missing s d ≡ false
   pub attr_is : found.attr.attr ≡ (file_named s d).attr
   pub length_is : found.length ≡ length_of (file_named s d)
@@ -123,13 +123,13 @@ pub record IsEndOf (found : Search) (s : Store) (d : FileId) : Type 0 where
 
 -- none of its records is empty, and one more needs one more block or doesn't
 pub record IsFull (needs : Bool) (found : Search) (s : Store) (d : FileId) : Type 0 where
-  pub end : IsEndOf found s d
+  pub end : IsDirectoryEnd found s d
   pub none : index_of_empty (file_named s d) ≡ None
   pub needs_is : needs_block (file_named s d) ≡ needs
 
 -- this is its first empty record, or it has none
 pub record HasEmpty (empty : Option Spot) (found : Search) (s : Store) (d : FileId) : Type 0 where
-  pub end : IsEndOf found s d
+  pub end : IsDirectoryEnd found s d
   pub first : index_of_empty (file_named s d) ≡ option_map place_of empty
   pub in_hand : IfSome empty (IsInHand (file_named s d))
 

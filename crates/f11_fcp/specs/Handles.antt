@@ -22,14 +22,14 @@ use Rattle.f11_files.specs.Answers.{WritesAtMost, is_among, is_cause, is_fatal, 
 use Rattle.f11_files.specs.Open.{disk_in, home_in, counts_in, has_failed, is_honest, store_in}
 use Rattle.f11_image_store.specs.StoreOf.{store_of}
 use Rattle.f11_files.specs.declared.files.Files.{Files}
-use Rattle.f11_fcp.specs.Accesses.{Table, held_in, HasAccessed}
+use Rattle.f11_fcp.specs.Accesses.{AccessTable, held_in, HasAccessed}
 use Rattle.f11_fcp.specs.Windows.{HasWindows}
 
 -- what contracts know of an open volume: its disk, its home block, what tasks hold, and the counts that are told
 pub record State : Type 0 where
   pub disk : Disk
   pub home : HomeFields
-  pub table : Table
+  pub table : AccessTable
   pub counts : ℕ × ℕ × ℕ
 
 -- its store
@@ -37,7 +37,7 @@ abbrev pub store_at : State → Store
 store_at v = held_in v.table (store_of v.disk.image v.home)
 
 -- the state of files that are open, and of what tasks hold
-abbrev pub state_of : {D : Type 0} {met : Ghosts D} → Table → Files D met → State
+abbrev pub state_of : {D : Type 0} {met : Ghosts D} → AccessTable → Files D met → State
 state_of t files = record { disk = disk_in files; home = home_in files; table = t; counts = counts_in files }
 
 -- An image that stands while a request is handled: its volume is sound, and its store, without accesses, lags the one before.
@@ -103,13 +103,13 @@ pub record Handles (task : ℕ) (caller : Uic) (r : Request) (result : Result Re
   pub home : new.home ≡ old.home
 
 -- Files are open, and what is kept of accesses is right, their windows too.
-pub record IsOpen {D : Type 0} {met : Ghosts D} (t : Table) (files : Files D met) : Type 0 where
+pub record IsOpen {D : Type 0} {met : Ghosts D} (t : AccessTable) (files : Files D met) : Type 0 where
   pub alive : has_failed files ≡ false
   pub kept : is_honest files → HasAccessed t (store_in files)
   pub windows : HasWindows t files
 
 -- and so they are after a request, unless that has failed the volume
-abbrev pub StaysOpen : {D : Type 0} {met : Ghosts D} → Result Reply Refusal → Table → Files D met → Type 0
+abbrev pub StaysOpen : {D : Type 0} {met : Ghosts D} → Result Reply Refusal → AccessTable → Files D met → Type 0
 StaysOpen result t files = is_refused is_fatal result ≡ false → IsOpen t files
 
 -- what a refusal of a call on a file that is accessed is: none has lost it but a disk that isn't honest

@@ -12,7 +12,7 @@ use Rattle.f11_files.specs.Open as files
 use Rattle.f11_volume.specs.Verdict.{IsAccepted}
 use Rattle.f11_fcp.specs.Handles.{State, state_of, Handles}
 use Rattle.f11_fcp.specs.InOneRun.{InOneRun}
-use Rattle.f11_fcp.specs.Places.{table_of}
+use Rattle.f11_fcp.specs.Places.{access_table_of}
 use Rattle.f11_fcp.specs.declared.volume.Volume.{Volume}
 
 -- the request that fills the block that is lent
@@ -22,7 +22,7 @@ fills_block _ = false
 
 -- what contracts know of a volume
 abbrev pub state_in : {D : Type 0} {met : Ghosts D} → Volume D met → State
-state_in v = state_of (table_of v.accesses) v.files
+state_in v = state_of (access_table_of v.accesses) v.files
 
 -- the device
 abbrev pub device_in : {D : Type 0} {met : Ghosts D} → Volume D met → D

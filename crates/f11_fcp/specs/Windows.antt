@@ -16,7 +16,7 @@ use Rattle.f11_files.specs.Open.{disk_in, has_failed, home_in, is_honest, store_
 use Rattle.f11_files.specs.Rows.{KeepsRows, no_number}
 use Rattle.f11_files.specs.declared.files.Files.{Files}
 use Rattle.f11_image_store.specs.StoreOf.{store_of}
-use Rattle.f11_fcp.specs.Accesses.{Entry, Table, with_window}
+use Rattle.f11_fcp.specs.Accesses.{Entry, AccessTable, with_window}
 
 -- A window's blocks are a slice of a file's, from the VBN of its first one on.
 pub record IsSliceOf (blocks : List ℕ) (w : Window) : Type 0 where
@@ -29,7 +29,7 @@ pub record KeepsWindow {D : Type 0} {met : Ghosts D} (e : Entry) (files : Files 
   pub of_file : is_honest files → IsSliceOf (file_blocks (table_of (disk_in files).image (home_in files)) e.file.number) e.window
 
 -- each access keeps one
-abbrev pub HasWindows : {D : Type 0} {met : Ghosts D} → Table → Files D met → Type 0
+abbrev pub HasWindows : {D : Type 0} {met : Ghosts D} → AccessTable → Files D met → Type 0
 HasWindows t files = (task lun : ℕ) (e : Entry) → task < 8 → lun < 4 → t task lun ≡ Some e → KeepsWindow e files
 
 -- No call has failed, and an access is to a file that is there, and keeps a window.

@@ -2,7 +2,7 @@
 ghost use Rattle.std.specs.Prelude.{[], OnOk};
 ghost use Rattle.f11_fcp.specs.ByWindow.{WindowsAfter};
 ghost use Rattle.f11_fcp.specs.Handles.{Handles, IsOpen, StaysOpen, state_of};
-ghost use Rattle.f11_fcp.specs.Places.{table_of};
+ghost use Rattle.f11_fcp.specs.Places.{access_table_of};
 ghost use Rattle.f11_store.specs.declared.requests.Request.TheVariants as asked;
 
 use crate::rights::{is_bad, is_marked, lacks_for};
@@ -27,12 +27,12 @@ impl Accesses {
         mode: Mode,
         lun: Lun,
     ) -> Result<Reply, Refusal>
-        requires open { IsOpen (table_of self.old) files.old }
+        requires open { IsOpen (access_table_of self.old) files.old }
         ensures handles { Handles task caller (asked.Access file mode lun) result
-            (state_of (table_of self.old) files.old) [] (state_of (table_of self.new) files.new) [] }
-        ensures open { StaysOpen result (table_of self.new) files.new }
+            (state_of (access_table_of self.old) files.old) [] (state_of (access_table_of self.new) files.new) [] }
+        ensures open { StaysOpen result (access_table_of self.new) files.new }
         ensures windows { OnOk result (WindowsAfter task (asked.Access file mode lun)
-            (state_of (table_of self.old) files.old) (state_of (table_of self.new) files.new)) }
+            (state_of (access_table_of self.old) files.old) (state_of (access_table_of self.new) files.new)) }
     {
         if is_bad(file) {
             return Err(Refusal::BadArgument);

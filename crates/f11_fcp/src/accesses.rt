@@ -1,7 +1,7 @@
 //! What tasks hold.
 ghost use Rattle.std.specs.Prelude.{◌≡◌, ◌+◌, ◌*◌, ◌<◌, ◌≤◌, option_map, true, false, IfSome, IsNone, Some};
 ghost use Rattle.f11_fcp.specs.Accesses.{no_entries, with_entry, with_empty_windows, with_marks, emptied_if, marked_if, is_held_in, any_mode, accesses, with_window};
-ghost use Rattle.f11_fcp.specs.Places.{entry_of, table_of};
+ghost use Rattle.f11_fcp.specs.Places.{entry_of, access_table_of};
 ghost use Rattle.f11_store.specs.Causes.{is_no_write, is_no_writer};
 ghost use Rattle.f11_store.specs.Store.{bars};
 
@@ -75,14 +75,14 @@ fn emptied(held: Option<Held>, file: FileId) -> Option<Held>
 impl Accesses {
     /// No access.
     pub(crate) fn none() -> Accesses
-        ensures { table_of result ≡ no_entries }
+        ensures { access_table_of result ≡ no_entries }
     {
         Accesses { places: [None; 32] }
     }
 
     /// What the task holds by the lun.
     pub(crate) fn held(&self, task: Task, lun: Lun) -> Option<Held>
-        ensures value { option_map entry_of result ≡ table_of self.now task lun }
+        ensures value { option_map entry_of result ≡ access_table_of self.now task lun }
         ensures within { (task < 8) × (lun < 4) }
     {
         self.places[place(task, lun)]
@@ -90,10 +90,10 @@ impl Accesses {
 
     /// The access to write that the task holds by the lun.
     pub(crate) fn writer(&self, task: Task, lun: Lun) -> Option<Held>
-        ensures some { IfSome result (λ h. (table_of self.now task lun ≡ Some (entry_of h))
+        ensures some { IfSome result (λ h. (access_table_of self.now task lun ≡ Some (entry_of h))
             × (is_no_write h.mode ≡ false)) }
         ensures within { (task < 8) × (lun < 4) }
-        ensures none { IsNone result → is_no_writer (accesses (table_of self.now) task lun) ≡ true }
+        ensures none { IsNone result → is_no_writer (accesses (access_table_of self.now) task lun) ≡ true }
     {
         match self.held(task, lun) {
             Some(held) if matches!(held.mode, Mode::Write) => Some(held),
@@ -103,7 +103,7 @@ impl Accesses {
 
     /// The task holds this by the lun.
     pub(crate) fn set(&mut self, task: Task, lun: Lun, held: Option<Held>)
-        ensures value { table_of self.new ≡ with_entry (table_of self.old) task lun
+        ensures value { access_table_of self.new ≡ with_entry (access_table_of self.old) task lun
             (option_map entry_of held) }
         ensures within { (task < 8) × (lun < 4) }
     {
@@ -112,7 +112,7 @@ impl Accesses {
 
     /// What the task holds by the lun is this, with this window.
     pub(crate) fn keep(&mut self, task: Task, lun: Lun, held: Held, window: Window)
-        ensures value { table_of self.new ≡ with_entry (table_of self.old) task lun
+        ensures value { access_table_of self.new ≡ with_entry (access_table_of self.old) task lun
             (Some (with_window window (entry_of held))) }
         ensures within { (task < 8) × (lun < 4) }
     {
@@ -121,7 +121,7 @@ impl Accesses {
 
     /// Whether some access to the file stands against one in this mode.
     pub(crate) fn is_barred(&self, mode: Mode, file: FileId) -> bool
-        ensures { result ≡ is_held_in (bars mode) (table_of self.now) file }
+        ensures { result ≡ is_held_in (bars mode) (access_table_of self.now) file }
     {
         for held in &self.places {
             if let Some(held) = held {
@@ -138,7 +138,7 @@ impl Accesses {
 
     /// Whether some access to the file stands.
     pub(crate) fn is_accessed(&self, file: FileId) -> bool
-        ensures { result ≡ is_held_in any_mode (table_of self.now) file }
+        ensures { result ≡ is_held_in any_mode (access_table_of self.now) file }
     {
         for held in &self.places {
             if let Some(held) = held {
@@ -153,7 +153,7 @@ impl Accesses {
     /// Each access to the file is to one that is marked for delete.
     pub(crate) fn set_marks(&mut self, file: FileId)
         requires late { 6 ≤ file.number }
-        ensures { table_of self.new ≡ with_marks file (table_of self.old) }
+        ensures { access_table_of self.new ≡ with_marks file (access_table_of self.old) }
     {
         for i in 0..32 {
             self.places[i] = marked(self.places[i], file);
@@ -162,7 +162,7 @@ impl Accesses {
 
     /// Each access to the file has a window that holds no run.
     pub(crate) fn empty_windows(&mut self, file: FileId)
-        ensures { table_of self.new ≡ with_empty_windows file (table_of self.old) }
+        ensures { access_table_of self.new ≡ with_empty_windows file (access_table_of self.old) }
     {
         for i in 0..32 {
             self.places[i] = emptied(self.places[i], file);

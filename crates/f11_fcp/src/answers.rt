@@ -3,7 +3,7 @@ ghost use Rattle.std.specs.Prelude.{◌≡◌, false, OnOk};
 ghost use Rattle.f11_fcp.specs.ByWindow.{WindowsAfter, TakesOneTransfer};
 ghost use Rattle.f11_fcp.specs.Handles.{Handles, IsOpen, StaysOpen, state_of};
 ghost use Rattle.f11_fcp.specs.InOneRun.{InOneRun};
-ghost use Rattle.f11_fcp.specs.Places.{table_of};
+ghost use Rattle.f11_fcp.specs.Places.{access_table_of};
 ghost use Rattle.f11_fcp.specs.Serving.{fills_block};
 
 use crate::table::Accesses;
@@ -22,16 +22,16 @@ impl Accesses {
         request: &Request,
         block: &mut Block,
     ) -> Result<Reply, Refusal>
-        requires open { IsOpen (table_of self.old) files.old }
-        ensures handles { Handles task caller request.now result (state_of (table_of self.old) files.old) block.old
-            (state_of (table_of self.new) files.new) block.new }
-        ensures open { StaysOpen result (table_of self.new) files.new }
+        requires open { IsOpen (access_table_of self.old) files.old }
+        ensures handles { Handles task caller request.now result (state_of (access_table_of self.old) files.old) block.old
+            (state_of (access_table_of self.new) files.new) block.new }
+        ensures open { StaysOpen result (access_table_of self.new) files.new }
         ensures windows { OnOk result (WindowsAfter task request.now
-            (state_of (table_of self.old) files.old) (state_of (table_of self.new) files.new)) }
+            (state_of (access_table_of self.old) files.old) (state_of (access_table_of self.new) files.new)) }
         ensures once { TakesOneTransfer task request.now
-            (state_of (table_of self.old) files.old) (state_of (table_of self.new) files.new) }
+            (state_of (access_table_of self.old) files.old) (state_of (access_table_of self.new) files.new) }
         ensures run { InOneRun task caller request.now result
-            (state_of (table_of self.old) files.old) (state_of (table_of self.new) files.new) }
+            (state_of (access_table_of self.old) files.old) (state_of (access_table_of self.new) files.new) }
         ensures spared { fills_block request.now ≡ false → block.new ≡ block.old }
     {
         match request {

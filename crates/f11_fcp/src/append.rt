@@ -5,7 +5,7 @@ ghost use Rattle.f11_entries.specs.Costs.{append_cost};
 ghost use Rattle.f11_files.specs.Answers.{is_fatal, is_clean, is_refused, Breaks, FailsToRead, ReadsAtMost};
 ghost use Rattle.f11_files.specs.Finding.Length.{most_blocks};
 ghost use Rattle.f11_files.specs.Open.{counts_in, disk_in, has_failed, home_in, is_honest, store_in, IsIdFrom};
-ghost use Rattle.f11_fcp.specs.Entries.{Appending, Appends, FailsToPut, HasEmpty, IsEndOf, IsFull, IsTailOf, PutsEntry};
+ghost use Rattle.f11_fcp.specs.Entries.{Appending, Appends, FailsToPut, HasEmpty, IsDirectoryEnd, IsFull, IsDirectoryTail, PutsEntry};
 ghost use Rattle.f11_fcp.specs.Windows.{LeavesRows};
 ghost use Rattle.f11_store.specs.Cost.{header_count};
 ghost use Rattle.f11_store.specs.Directory.{record_bytes};
@@ -37,7 +37,7 @@ fn end_block<D: Device>(
     requires id { IsIdFrom 4 directory }
     requires alive { has_failed files.old ≡ false }
     requires room { found.now.count < 32 * found.now.length }
-    requires there { is_honest files.old → IsEndOf found.now (store_in files.old) directory }
+    requires there { is_honest files.old → IsDirectoryEnd found.now (store_in files.old) directory }
     ensures block { IfOk result (λ block. is_honest files.old
         → slice_get (file_named (store_in files.old) directory).blocks (found.now.count / 32)
         ≡ Some block) }
@@ -93,7 +93,7 @@ fn append_entry<D: Device>(
 ) -> Result<(), Refusal>
     requires id { IsIdFrom 4 directory }
     requires alive { has_failed files.old ≡ false }
-    requires there { is_honest files.old → IsTailOf tail.now (store_in files.old) directory }
+    requires there { is_honest files.old → IsDirectoryTail tail.now (store_in files.old) directory }
     ensures appended { OnOk result (Appends (home_in files.old) directory tail.now
         (record_bytes file name.now) (disk_in files.old) (disk_in files.new)) }
     ensures refused { IfErr result (λ refusal. Breaks

@@ -1,7 +1,7 @@
 //! What headers say of files.
 ghost use Rattle.std.specs.Prelude.{[]};
 ghost use Rattle.f11_fcp.specs.Handles.{Handles, IsOpen, StaysOpen, state_of};
-ghost use Rattle.f11_fcp.specs.Places.{table_of};
+ghost use Rattle.f11_fcp.specs.Places.{access_table_of};
 ghost use Rattle.f11_store.specs.declared.requests.Request.TheVariants as asked;
 
 use crate::rights::{is_bad, is_marked, lacks_change};
@@ -23,10 +23,10 @@ impl Accesses {
         caller: Uic,
         file: FileId,
     ) -> Result<Reply, Refusal>
-        requires open { IsOpen (table_of self.now) files.old }
+        requires open { IsOpen (access_table_of self.now) files.old }
         ensures handles { Handles task caller (asked.ReadAttr file) result
-            (state_of (table_of self.now) files.old) [] (state_of (table_of self.now) files.new) [] }
-        ensures open { StaysOpen result (table_of self.now) files.new }
+            (state_of (access_table_of self.now) files.old) [] (state_of (access_table_of self.now) files.new) [] }
+        ensures open { StaysOpen result (access_table_of self.now) files.new }
     {
         if is_bad(file) {
             return Err(Refusal::BadArgument);
@@ -50,10 +50,10 @@ impl Accesses {
         file: FileId,
         change: &Change,
     ) -> Result<Reply, Refusal>
-        requires open { IsOpen (table_of self.now) files.old }
+        requires open { IsOpen (access_table_of self.now) files.old }
         ensures handles { Handles task caller (asked.WriteAttr file change.now) result
-            (state_of (table_of self.now) files.old) [] (state_of (table_of self.now) files.new) [] }
-        ensures open { StaysOpen result (table_of self.now) files.new }
+            (state_of (access_table_of self.now) files.old) [] (state_of (access_table_of self.now) files.new) [] }
+        ensures open { StaysOpen result (access_table_of self.now) files.new }
     {
         if is_bad(file) {
             return Err(Refusal::BadArgument);

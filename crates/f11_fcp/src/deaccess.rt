@@ -2,7 +2,7 @@
 ghost use Rattle.std.specs.Prelude.{[], ◌≡◌, IfErr, Some, true, OnOk};
 ghost use Rattle.f11_fcp.specs.ByWindow.{WindowsAfter};
 ghost use Rattle.f11_fcp.specs.Handles.{Handles, IsOpen, StaysOpen, state_of};
-ghost use Rattle.f11_fcp.specs.Places.{entry_of, table_of};
+ghost use Rattle.f11_fcp.specs.Places.{entry_of, access_table_of};
 ghost use Rattle.f11_files.specs.Answers.{is_fatal};
 ghost use Rattle.f11_store.specs.declared.requests.Request.TheVariants as asked;
 
@@ -25,12 +25,12 @@ impl Accesses {
         caller: Uic,
         lun: Lun,
     ) -> Result<Reply, Refusal>
-        requires open { IsOpen (table_of self.old) files.old }
+        requires open { IsOpen (access_table_of self.old) files.old }
         ensures handles { Handles task caller (asked.Deaccess lun) result
-            (state_of (table_of self.old) files.old) [] (state_of (table_of self.new) files.new) [] }
-        ensures open { StaysOpen result (table_of self.new) files.new }
+            (state_of (access_table_of self.old) files.old) [] (state_of (access_table_of self.new) files.new) [] }
+        ensures open { StaysOpen result (access_table_of self.new) files.new }
         ensures windows { OnOk result (WindowsAfter task (asked.Deaccess lun)
-            (state_of (table_of self.old) files.old) (state_of (table_of self.new) files.new)) }
+            (state_of (access_table_of self.old) files.old) (state_of (access_table_of self.new) files.new)) }
     {
         match self.held(task, lun) {
             Some(held) => self.give_up(files, task, caller, lun, held),
@@ -48,13 +48,13 @@ impl Accesses {
         lun: Lun,
         held: Held,
     ) -> Result<Reply, Refusal>
-        requires open { IsOpen (table_of self.old) files.old }
-        requires held { table_of self.old task lun ≡ Some (entry_of held) }
+        requires open { IsOpen (access_table_of self.old) files.old }
+        requires held { access_table_of self.old task lun ≡ Some (entry_of held) }
         ensures handles { Handles task caller (asked.Deaccess lun) result
-            (state_of (table_of self.old) files.old) [] (state_of (table_of self.new) files.new) [] }
-        ensures open { StaysOpen result (table_of self.new) files.new }
+            (state_of (access_table_of self.old) files.old) [] (state_of (access_table_of self.new) files.new) [] }
+        ensures open { StaysOpen result (access_table_of self.new) files.new }
         ensures windows { OnOk result (WindowsAfter task (asked.Deaccess lun)
-            (state_of (table_of self.old) files.old) (state_of (table_of self.new) files.new)) }
+            (state_of (access_table_of self.old) files.old) (state_of (access_table_of self.new) files.new)) }
         ensures fatal { IfErr result (λ refusal. is_fatal refusal ≡ true) }
     {
         self.set(task, lun, None);

@@ -3,7 +3,7 @@ ghost use Rattle.std.specs.Prelude.{[], ◌≡◌, ◌==◌, ◌&&◌, OnOk};
 ghost use Rattle.std.specs.Int.{bit_at};
 ghost use Rattle.f11_fcp.specs.ByWindow.{WindowsAfter};
 ghost use Rattle.f11_fcp.specs.Handles.{Handles, IsOpen, StaysOpen, state_of};
-ghost use Rattle.f11_fcp.specs.Places.{table_of};
+ghost use Rattle.f11_fcp.specs.Places.{access_table_of};
 ghost use Rattle.f11_store.specs.declared.requests.Request.TheVariants as asked;
 
 use crate::rights::{is_bad, is_marked};
@@ -32,12 +32,12 @@ impl Accesses {
         caller: Uic,
         file: FileId,
     ) -> Result<Reply, Refusal>
-        requires open { IsOpen (table_of self.old) files.old }
+        requires open { IsOpen (access_table_of self.old) files.old }
         ensures handles { Handles task caller (asked.Delete file) result
-            (state_of (table_of self.old) files.old) [] (state_of (table_of self.new) files.new) [] }
-        ensures open { StaysOpen result (table_of self.new) files.new }
+            (state_of (access_table_of self.old) files.old) [] (state_of (access_table_of self.new) files.new) [] }
+        ensures open { StaysOpen result (access_table_of self.new) files.new }
         ensures windows { OnOk result (WindowsAfter task (asked.Delete file)
-            (state_of (table_of self.old) files.old) (state_of (table_of self.new) files.new)) }
+            (state_of (access_table_of self.old) files.old) (state_of (access_table_of self.new) files.new)) }
     {
         if is_bad(file) {
             return Err(Refusal::BadArgument);

@@ -3,8 +3,8 @@ ghost use Rattle.std.specs.Prelude.{◌≡◌, ◌≤◌, false, IfErr, IfOk};
 ghost use Rattle.f11_files.specs.Answers.{is_fatal, is_refused, FailsToRead};
 ghost use Rattle.f11_files.specs.Open.{counts_in, disk_in, has_failed, home_in, store_in};
 ghost use Rattle.f11_entries.specs.Costs.{look_cost};
-ghost use Rattle.f11_fcp.specs.Directories.{lacks_for_purpose, is_barred_to, opening_causes, Opens, Searches};
-ghost use Rattle.f11_fcp.specs.Places.{table_of};
+ghost use Rattle.f11_fcp.specs.Directories.{lacks_for_purpose, is_barred_to, opening_causes, OpensDirectory, Searches};
+ghost use Rattle.f11_fcp.specs.Places.{access_table_of};
 ghost use Rattle.f11_store.specs.Store.{file_named};
 
 use crate::answer::of_known;
@@ -33,7 +33,7 @@ fn lacks_for(purpose: Purpose, caller: Uic, attr: &Attr) -> bool
 impl Accesses {
     /// Whether some access to a directory stands against using it so.
     fn bars(&self, purpose: Purpose, directory: FileId) -> bool
-        ensures { result ≡ is_barred_to purpose (table_of self.now) directory }
+        ensures { result ≡ is_barred_to purpose (access_table_of self.now) directory }
     {
         match purpose {
             Purpose::Look => false,
@@ -55,10 +55,10 @@ impl Accesses {
     ) -> Result<Attr, Refusal>
         requires alive { has_failed files.old ≡ false }
         requires here { directory.volume ≡ 0 }
-        ensures opened { IfOk result (λ attr. Opens purpose (table_of self.now) caller directory attr
+        ensures opened { IfOk result (λ attr. OpensDirectory purpose (access_table_of self.now) caller directory attr
             (home_in files.old) (disk_in files.old) (disk_in files.new)) }
         ensures refused { IfErr result (λ refusal. FailsToRead false
-            (opening_causes purpose (table_of self.now) (store_in files.old) caller directory)
+            (opening_causes purpose (access_table_of self.now) (store_in files.old) caller directory)
             1 refusal (disk_in files.old) (disk_in files.new)) }
         ensures alive { is_refused is_fatal result ≡ false → has_failed files.new ≡ false }
         ensures told { counts_in files.new ≡ counts_in files.old }
@@ -102,10 +102,10 @@ impl Accesses {
     ) -> Result<Search, Refusal>
         requires alive { has_failed files.old ≡ false }
         requires here { directory.volume ≡ 0 }
-        ensures searched { IfOk result (λ found. Searches purpose (table_of self.now) caller directory
+        ensures searched { IfOk result (λ found. Searches purpose (access_table_of self.now) caller directory
             name.now found (home_in files.old) (disk_in files.old) (disk_in files.new)) }
         ensures refused { IfErr result (λ refusal. FailsToRead false
-            (opening_causes purpose (table_of self.now) (store_in files.old) caller directory)
+            (opening_causes purpose (access_table_of self.now) (store_in files.old) caller directory)
             (look_cost (file_named (store_in files.old) directory)) refusal
             (disk_in files.old) (disk_in files.new)) }
         ensures alive { is_refused is_fatal result ≡ false → has_failed files.new ≡ false }

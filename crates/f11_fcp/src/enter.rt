@@ -1,7 +1,7 @@
 //! A file that is entered into a directory.
 ghost use Rattle.std.specs.Prelude.{[]};
 ghost use Rattle.f11_fcp.specs.Handles.{Handles, IsOpen, StaysOpen, state_of};
-ghost use Rattle.f11_fcp.specs.Places.{table_of};
+ghost use Rattle.f11_fcp.specs.Places.{access_table_of};
 ghost use Rattle.f11_store.specs.declared.requests.Request.TheVariants as asked;
 
 use crate::append::put_entry;
@@ -30,10 +30,10 @@ impl Accesses {
         name: &Name,
         file: FileId,
     ) -> Result<Reply, Refusal>
-        requires open { IsOpen (table_of self.now) files.old }
+        requires open { IsOpen (access_table_of self.now) files.old }
         ensures handles { Handles task caller (asked.Enter directory name.now file) result
-            (state_of (table_of self.now) files.old) [] (state_of (table_of self.now) files.new) [] }
-        ensures open { StaysOpen result (table_of self.now) files.new }
+            (state_of (access_table_of self.now) files.old) [] (state_of (access_table_of self.now) files.new) [] }
+        ensures open { StaysOpen result (access_table_of self.now) files.new }
     {
         if is_bad(directory) {
             return Err(Refusal::BadArgument);

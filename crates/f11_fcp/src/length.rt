@@ -3,7 +3,7 @@ ghost use Rattle.std.specs.Prelude.{◌≡◌, false};
 ghost use Rattle.f11_files.specs.Answers.{is_fatal, is_refused};
 ghost use Rattle.f11_fcp.specs.Handles.{IsOpen, state_of};
 ghost use Rattle.f11_fcp.specs.Lengths.{Measures};
-ghost use Rattle.f11_fcp.specs.Places.{table_of};
+ghost use Rattle.f11_fcp.specs.Places.{access_table_of};
 
 use crate::answer::{is_fatal, of_accessed};
 use crate::table::Accesses;
@@ -24,10 +24,10 @@ impl Accesses {
         task: Task,
         lun: Lun,
     ) -> Result<u32, Refusal>
-        requires open { IsOpen (table_of self.now) files.old }
-        ensures measures { Measures task lun result (state_of (table_of self.now) files.old)
-            (state_of (table_of self.now) files.new) }
-        ensures open { is_refused is_fatal result ≡ false → IsOpen (table_of self.now) files.new }
+        requires open { IsOpen (access_table_of self.now) files.old }
+        ensures measures { Measures task lun result (state_of (access_table_of self.now) files.old)
+            (state_of (access_table_of self.now) files.new) }
+        ensures open { is_refused is_fatal result ≡ false → IsOpen (access_table_of self.now) files.new }
     {
         let held = match self.held(task, lun) {
             Some(held) => held,

@@ -3,7 +3,7 @@ ghost use Rattle.std.specs.Prelude.{◌≡◌, ◌*◌, ◌<◌, ◌≤◌, ◌^
 ghost use Rattle.f11_entries.specs.Costs.{reading_cost};
 ghost use Rattle.f11_files.specs.Answers.{FailsToRead};
 ghost use Rattle.f11_files.specs.Open.{counts_in, disk_in, has_failed, home_in, is_honest, store_in, IsIdFrom};
-ghost use Rattle.f11_fcp.specs.Directories.{IsDirectoryOf, LooksThrough};
+ghost use Rattle.f11_fcp.specs.Directories.{IsDirectoryOf, LooksThroughDirectory};
 ghost use Rattle.f11_store.specs.Store.{file_named};
 
 use crate::answer::of_known;
@@ -28,7 +28,7 @@ pub(crate) fn look_through<D: Device>(
     requires few { count < 2 ^ 28 }
     requires alive { has_failed files.old ≡ false }
     requires there { is_honest files.old → IsDirectoryOf count (store_in files.old) directory }
-    ensures looked { IfOk result (λ told. LooksThrough (home_in files.old) directory name.now told
+    ensures looked { IfOk result (λ told. LooksThroughDirectory (home_in files.old) directory name.now told
         block.new (reading_cost (file_named (store_in files.old) directory) count)
         (disk_in files.old) (disk_in files.new)) }
     ensures refused { IfErr result (λ refusal. FailsToRead false []

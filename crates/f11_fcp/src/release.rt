@@ -2,7 +2,7 @@
 ghost use Rattle.std.specs.Prelude.{[], OnOk};
 ghost use Rattle.f11_fcp.specs.ByWindow.{WindowsAfter};
 ghost use Rattle.f11_fcp.specs.Handles.{Handles, IsOpen, StaysOpen, state_of};
-ghost use Rattle.f11_fcp.specs.Places.{table_of};
+ghost use Rattle.f11_fcp.specs.Places.{access_table_of};
 ghost use Rattle.f11_store.specs.declared.requests.Request.TheVariants as asked;
 
 use crate::table::Accesses;
@@ -18,12 +18,12 @@ impl Accesses {
         task: Task,
         caller: Uic,
     ) -> Result<Reply, Refusal>
-        requires open { IsOpen (table_of self.old) files.old }
+        requires open { IsOpen (access_table_of self.old) files.old }
         ensures handles { Handles task caller (asked.Release) result
-            (state_of (table_of self.old) files.old) [] (state_of (table_of self.new) files.new) [] }
-        ensures open { StaysOpen result (table_of self.new) files.new }
+            (state_of (access_table_of self.old) files.old) [] (state_of (access_table_of self.new) files.new) [] }
+        ensures open { StaysOpen result (access_table_of self.new) files.new }
         ensures windows { OnOk result (WindowsAfter task asked.Release
-            (state_of (table_of self.old) files.old) (state_of (table_of self.new) files.new)) }
+            (state_of (access_table_of self.old) files.old) (state_of (access_table_of self.new) files.new)) }
     {
         for unit in 0..4 {
             let lun = match Lun::new(unit) {

@@ -1,7 +1,7 @@
 //! The counts of the volume.
 ghost use Rattle.std.specs.Prelude.{[]};
 ghost use Rattle.f11_fcp.specs.Handles.{Handles, IsOpen, StaysOpen, state_of};
-ghost use Rattle.f11_fcp.specs.Places.{table_of};
+ghost use Rattle.f11_fcp.specs.Places.{access_table_of};
 ghost use Rattle.f11_store.specs.declared.requests.Request.TheVariants as asked;
 
 use crate::table::Accesses;
@@ -17,10 +17,10 @@ impl Accesses {
         task: Task,
         caller: Uic,
     ) -> Result<Reply, Refusal>
-        requires open { IsOpen (table_of self.now) files.old }
-        ensures handles { Handles task caller asked.Space result (state_of (table_of self.now) files.old) []
-            (state_of (table_of self.now) files.new) [] }
-        ensures open { StaysOpen result (table_of self.now) files.new }
+        requires open { IsOpen (access_table_of self.now) files.old }
+        ensures handles { Handles task caller asked.Space result (state_of (access_table_of self.now) files.old) []
+            (state_of (access_table_of self.now) files.new) [] }
+        ensures open { StaysOpen result (access_table_of self.now) files.new }
     {
         let (free, headers, slots) = files.space();
         Ok(Reply::Space {

@@ -2,7 +2,7 @@
 ghost use Rattle.std.specs.Prelude.{[], OnOk};
 ghost use Rattle.f11_fcp.specs.ByWindow.{WindowsAfter};
 ghost use Rattle.f11_fcp.specs.Handles.{Handles, IsOpen, StaysOpen, state_of};
-ghost use Rattle.f11_fcp.specs.Places.{table_of};
+ghost use Rattle.f11_fcp.specs.Places.{access_table_of};
 ghost use Rattle.f11_store.specs.declared.requests.Request.TheVariants as asked;
 
 use crate::answer::of_accessed;
@@ -25,12 +25,12 @@ impl Accesses {
         lun: Lun,
         to: u32,
     ) -> Result<Reply, Refusal>
-        requires open { IsOpen (table_of self.old) files.old }
+        requires open { IsOpen (access_table_of self.old) files.old }
         ensures handles { Handles task caller (asked.Truncate lun to) result
-            (state_of (table_of self.old) files.old) [] (state_of (table_of self.new) files.new) [] }
-        ensures open { StaysOpen result (table_of self.new) files.new }
+            (state_of (access_table_of self.old) files.old) [] (state_of (access_table_of self.new) files.new) [] }
+        ensures open { StaysOpen result (access_table_of self.new) files.new }
         ensures windows { OnOk result (WindowsAfter task (asked.Truncate lun to)
-            (state_of (table_of self.old) files.old) (state_of (table_of self.new) files.new)) }
+            (state_of (access_table_of self.old) files.old) (state_of (access_table_of self.new) files.new)) }
     {
         let held = match self.writer(task, lun) {
             Some(held) => held,

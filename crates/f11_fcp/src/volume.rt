@@ -2,7 +2,7 @@
 ghost use Rattle.std.specs.Prelude.{◌≡◌, false};
 ghost use Rattle.f11_files.specs.Open.{has_failed, is_honest, store_in};
 ghost use Rattle.f11_fcp.specs.Accesses.{HasAccessed};
-ghost use Rattle.f11_fcp.specs.Places.{table_of};
+ghost use Rattle.f11_fcp.specs.Places.{access_table_of};
 ghost use Rattle.f11_fcp.specs.Windows.{HasWindows};
 
 use crate::answer::is_fatal;
@@ -29,9 +29,9 @@ pub struct Volume<D: Device> {
     pub ghost alive: { failed ≡ false → has_failed files ≡ false },
     /// each access is to a file that is there, marked as is kept,
     pub ghost kept: { failed ≡ false → is_honest files
-        → HasAccessed (table_of accesses) (store_in files) },
+        → HasAccessed (access_table_of accesses) (store_in files) },
     /// and keeps a window, whose blocks are the file's.
-    pub ghost windows: { failed ≡ false → HasWindows (table_of accesses) files },
+    pub ghost windows: { failed ≡ false → HasWindows (access_table_of accesses) files },
 }
 
 impl<D: Device> Volume<D> {

@@ -1,6 +1,6 @@
 //! Opening an accepted volume, and giving it up.
 ghost use Rattle.std.specs.Prelude.{◌≡◌, ◌↔◌, false, IsTrue, IfErr, IfOk};
-ghost use Rattle.f11_files.specs.Opening.Opens.{AreApart, OpensStructure, fault_of, HasNoStructure};
+ghost use Rattle.f11_files.specs.Opening.Opens.{ArePlacesApart, OpensStructure, fault_of, HasNoStructure};
 ghost use Rattle.f11_volume.specs.Verdict.{IsAccepted};
 
 use crate::files::Files;
@@ -46,7 +46,7 @@ fn structure_fault(fault: ReadFault) -> StructureFault
 
 /// Whether no place is there twice.
 fn are_apart(places: &[u32]) -> bool
-    ensures { IsTrue result ↔ AreApart places.now }
+    ensures { IsTrue result ↔ ArePlacesApart places.now }
 {
     for i in 0..places.len() {
         if places[..i].contains(&places[i]) {

@@ -4,7 +4,7 @@ use Rattle.std.specs.Prelude.{All, option_map}
 use Rattle.std.specs.List.{concat}
 use Rattle.std.proofs.lemmas.List.{take_all}
 use Rattle.f11_store.specs.File.{File, end_of, length_of, stated_end}
-use Rattle.f11_flx.specs.Conversion.{Copy, Holds, copied_from_rt, copied_lines, copied_to_rt}
+use Rattle.f11_flx.specs.Conversion.{Copy, HoldsCopy, copied_from_rt, copied_lines, copied_to_rt}
 use Rattle.f11_flx.specs.Laws.{IsOneLine}
 use Rattle.f11_flx.specs.Lines.{has_long_line, in_whole_blocks, lines_of, text_of, without_zeros}
 use Rattle.f11_flx.specs.Records.{records_of}
@@ -18,7 +18,7 @@ use Rattle.f11_flx.proofs.PassedLemmas.{some-of}
 take-all : (n : ℕ) (blocks : List (List ℕ)) → n ≡ length blocks → take n blocks ≡ blocks
 take-all n blocks is = take_all n blocks (omega (arith, is))
 
-pub image_comes_back : (file : File) (copy : Copy) → copied_from_rt Image file.blocks ≡ Some copy → Holds file copy → copied_to_rt Image file ≡ Some (concat file.blocks)
+pub image_comes_back : (file : File) (copy : Copy) → copied_from_rt Image file.blocks ≡ Some copy → HoldsCopy file copy → copied_to_rt Image file ≡ Some (concat file.blocks)
 image_comes_back file copy is holds =
     let same : record { content = concat file.blocks; attr = image_attributes (length file.blocks) } ≡ copy = cc in
     let stated : stated_end file.attr ≡ 512 * length file.blocks = ap stated_end (holds.attr ∙ ap (λ (c : Copy). c.attr) (sym same)) ∙ image_ends_with_blocks (length file.blocks) in
@@ -26,7 +26,7 @@ image_comes_back file copy is holds =
     ap (λ (b : List (List ℕ)). Some (concat b)) (take-all ((end_of file + 511) / 512) file.blocks all)
 
 -- the records of a text that was copied are its lines
-pub copied-has-lines : (blocks : List (List ℕ)) (file : File) (copy : Copy) → copied_from_rt Text blocks ≡ Some copy → Holds file copy → length (concat file.blocks) ≡ 512 * length_of file →
+pub copied-has-lines : (blocks : List (List ℕ)) (file : File) (copy : Copy) → copied_from_rt Text blocks ≡ Some copy → HoldsCopy file copy → length (concat file.blocks) ≡ 512 * length_of file →
     records_of file ≡ Some (lines_of (without_zeros (concat blocks)))
 copied-has-lines blocks file copy is holds whole =
     let lines = lines_of (without_zeros (concat blocks)) in
@@ -38,7 +38,7 @@ copied-has-lines blocks file copy is holds whole =
     copy_has_lines lines file (longest_of lines) attr bytes whole
 
 pub text_comes_back : (records blocks : List (List ℕ)) (file : File) (copy : Copy) → All IsOneLine records → concat blocks ≡ in_whole_blocks (text_of records)
-    → copied_from_rt Text blocks ≡ Some copy → Holds file copy → length (concat file.blocks) ≡ 512 * length_of file → copied_to_rt Text file ≡ Some (concat blocks)
+    → copied_from_rt Text blocks ≡ Some copy → HoldsCopy file copy → length (concat file.blocks) ≡ 512 * length_of file → copied_to_rt Text file ≡ Some (concat blocks)
 text_comes_back records blocks file copy plain content is holds whole =
     let lines : lines_of (without_zeros (concat blocks)) ≡ records = ap (λ (b : List ℕ). lines_of (without_zeros b)) content ∙ lines_come_back records plain in
     ap (option_map (λ (r : List (List ℕ)). in_whole_blocks (text_of r))) (copied-has-lines blocks file copy is holds whole ∙ ap Some lines) ∙ ap Some (sym content)

@@ -1,7 +1,7 @@
 -- A conversion into a text, a step at a time.
 use Rattle.std.proofs.Common.{◌≡◌, ℕ, ◌+◌, ◌≤◌, List, ◌++◌, length, drop, Option, Some, None, refl, sym, ap, ◌∙◌, append_assoc, length-append, length-drop, arith}
 use Rattle.std.specs.Prelude.{slice_range, option_map, option_to_list}
-use Rattle.f11_flx.specs.ToText.{rest_of, text_left, Converts, Steps}
+use Rattle.f11_flx.specs.ToText.{rest_of, text_left, Converts, IsTextStep}
 use Rattle.f11_flx.specs.declared.to_text.ToText.{ToText}
 
 -- two pieces of text before what is to come
@@ -11,7 +11,7 @@ option_map-append a b (Some text) = ap Some (sym (append_assoc a b text))
 
 -- one step more
 pub Converts-more : (old now new : ToText) (source : List ℕ) (used next : ℕ) (target target' : List ℕ) (from to to' : ℕ) (given : Option ℕ)
-    → Converts old now source used target from to → Steps now new source used next given → slice_range target' from to' ≡ slice_range target from to ++ option_to_list given → to' ≡ to + length (option_to_list given)
+    → Converts old now source used target from to → IsTextStep now new source used next given → slice_range target' from to' ≡ slice_range target from to ++ option_to_list given → to' ≡ to + length (option_to_list given)
     → Converts old new source next target' from to'
 Converts-more old now new source used next target target' from to to' given held step put put_at = record {
   text = λ more long.

@@ -10,14 +10,14 @@ use Rattle.f11_store.specs.declared.files.Attr.{Attr}
 use Rattle.f11_store.specs.declared.files.FileId.{FileId}
 use Rattle.rt11_volume.specs.Verifying.Verdict.{IsSoundDisk}
 use Rattle.rt11_volume.specs.declared.volume.RtAccepted.{RtAccepted}
-use Rattle.f11_flx.specs.Asking.{Granted, Service, Who, plain}
+use Rattle.f11_flx.specs.Asking.{Granted, FilesService, Who, plain}
 use Rattle.f11_flx.specs.CopyToRt.{CopiesToRt, reading, reading_of, walked_of}
 use Rattle.f11_flx.specs.Lines.{in_whole_blocks}
 use Rattle.f11_flx.specs.Seen.{IsSeenPlain}
 use Rattle.f11_flx.specs.Source.{StartsText, up_to_end}
 use Rattle.f11_flx.specs.Spelled.{image_of}
 use Rattle.f11_flx.specs.Target.{rt_disk, rt_store}
-use Rattle.f11_flx.specs.ToRt.{CopiesFile}
+use Rattle.f11_flx.specs.ToRt.{CopiesFileToRt}
 use Rattle.f11_flx.specs.declared.mode.CopyMode.{CopyMode}
 use Rattle.f11_flx.specs.declared.mode.CopyMode.TheVariants.{Image, Text}
 use Rattle.f11_flx.specs.declared.to_text.ToText.{ToText}
@@ -41,7 +41,7 @@ pub same-count : (a b : List (List ℕ)) (x y : List ℕ) → All (λ b. length 
 same-count a b x y whole whole' is is' same =
     omega (arith, whole-length a whole, whole-length b whole', ap (λ (l : List ℕ). length l) (is ∙ ap in_whole_blocks same ∙ sym is'))
 
-module _ {V E : Type 0} {met : Ghosts E} (S : Service V) (view : V → Store) (is_sound : V → Bool) (seen : IsSeenPlain S view is_sound) (disk : E → Disk)
+module _ {V E : Type 0} {met : Ghosts E} (S : FilesService V) (view : V → Store) (is_sound : V → Bool) (seen : IsSeenPlain S view is_sound) (disk : E → Disk)
     (who : Who) (lun : ℕ) (file : FileId) (name : List ℕ) (count day : ℕ) (old new : V) (rt rt' : RtAccepted E met) (sound : is_sound old ≡ true)
     (sound' : IsSoundDisk (rt_disk disk rt))
   where
@@ -57,7 +57,7 @@ module _ {V E : Type 0} {met : Ghosts E} (S : Service V) (view : V → Store) (i
         (subst (λ k. Granted plain who (reading file lun (attributes_of f) k walked copied) (view old) (view new)) b
         (subst (λ (x : Attr). Granted plain who (reading file lun x n walked copied) (view old) (view new)) a g)))
 
-    pub copied : (m : CopyMode) → CopiesFile m S disk who lun file name count day old new rt rt' → CopiesToRt m who lun file name day count (view old) (view new) (rt_store disk rt) (rt_store disk rt')
+    pub copied : (m : CopyMode) → CopiesFileToRt m S disk who lun file name count day old new rt rt' → CopiesToRt m who lun file name day count (view old) (view new) (rt_store disk rt) (rt_store disk rt')
     copied Image h =
         let l = h.copies in
         let b = l.fills.copies.1 in

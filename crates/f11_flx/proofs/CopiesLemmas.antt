@@ -6,9 +6,9 @@ use Rattle.std.proofs.lemmas.List.{length-replicate, length-take-le}
 use Rattle.std.proofs.lemmas.List.Elements.{All-append, All-cons, All-nil}
 use Rattle.std.proofs.lemmas.List.Folds.{concat-append}
 use Rattle.f11_store.specs.declared.refusals.Refusal.{Refusal}
-use Rattle.f11_flx.specs.Asking.{Denies, Granted, Grants, Service, Who, reads, reads_of}
+use Rattle.f11_flx.specs.Asking.{Denies, Granted, Grants, FilesService, Who, reads, reads_of}
 use Rattle.f11_flx.specs.Copies.{CopiesBlocks, CopiesText, FailsToCopyBlocks, FailsToCopyText}
-use Rattle.f11_flx.specs.Filling.{FailsToFinish, FailsToPour, Finishes, Out, Pours, Refusing, Taking, Took, out_text, padded, pending}
+use Rattle.f11_flx.specs.Filling.{FailsToFinish, FailsToPour, FinishesBlocks, Out, Pours, Refusing, TakingBlocks, Took, out_text, padded, pending}
 use Rattle.f11_flx.specs.Lines.{in_whole_blocks}
 use Rattle.f11_flx.specs.ToText.{ends_record, rest_of, text_left}
 use Rattle.f11_flx.specs.declared.refusal.FlxRefusal.{FlxRefusal}
@@ -32,7 +32,7 @@ padded-blocks bytes n to size some less =
     let rest : (512 - length bytes % 512) % 512 ≡ 512 - to = omega (arith, size, some, less) in
     ap (λ (k : ℕ). bytes ++ replicate k 0) rest
 
-module _ {V W : Type 0} (S : Service V) (K : Taking W) (R : Refusing W) (who : Who) (lun : ℕ) (name : List ℕ) where
+module _ {V W : Type 0} (S : FilesService V) (K : TakingBlocks W) (R : Refusing W) (who : Who) (lun : ℕ) (name : List ℕ) where
   pub blocks-start : (v : V) (w : W) → CopiesBlocks S K who lun name 0 v v w w
   blocks-start v w = record { given = []; count_is = refl; asked = refl; took = refl; whole = All-nil (λ b. length b ≡ 512) }
 
@@ -73,7 +73,7 @@ module _ {V W : Type 0} (S : Service V) (K : Taking W) (R : Refusing W) (who : W
   })
 
 -- The first k blocks of the file were read, and their text is converted so far.
-pub record TextSoFar {V W : Type 0} (S : Service V) (K : Taking W) (who : Who) (lun : ℕ) (name : List ℕ) (t0 t : ToText) (k : ℕ) (o : Out)
+pub record TextSoFar {V W : Type 0} (S : FilesService V) (K : TakingBlocks W) (who : Who) (lun : ℕ) (name : List ℕ) (t0 t : ToText) (k : ℕ) (o : Out)
     (old now : V) (v w : W) : Type 0 where
   pub given : List (List ℕ)
   pub count_is : length given ≡ k
@@ -90,7 +90,7 @@ pub record TextSoFar {V W : Type 0} (S : Service V) (K : Taking W) (who : Who) (
   pub few : o.place ≤ 5 * k
   pub room : o.to < 512
 
-module _ {V W : Type 0} (S : Service V) (K : Taking W) (R : Refusing W) (who : Who) (lun : ℕ) (name : List ℕ) (t0 : ToText) where
+module _ {V W : Type 0} (S : FilesService V) (K : TakingBlocks W) (R : Refusing W) (who : Who) (lun : ℕ) (name : List ℕ) (t0 : ToText) where
   pub text-start : (o : Out) (v : V) (w : W) → o.place ≡ 0 → o.to ≡ 0 → ends_record t0 ≡ false → TextSoFar S K who lun name t0 t0 0 o v v w w
   text-start o v w first empty ended = record {
     given = [];
@@ -218,7 +218,7 @@ module _ {V W : Type 0} (S : Service V) (K : Taking W) (R : Refusing W) (who : W
       all-left : text_left t0 (concat h.given) ≡ Some all-bytes
       all-left = ap (text_left t0) (sym (append-nil (concat h.given))) ∙ all-of []
 
-      pub text-finishes : (blocks : ℕ) (y : W) → Finishes K name o blocks x y → CopiesText S K who lun name t0 count blocks v now w y
+      pub text-finishes : (blocks : ℕ) (y : W) → FinishesBlocks K name o blocks x y → CopiesText S K who lun name t0 count blocks v now w y
       text-finishes blocks y (inl f) = record {
         given = h.given;
         count_is = h.count_is;

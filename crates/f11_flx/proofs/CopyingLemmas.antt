@@ -18,7 +18,7 @@ use Rattle.f11_flx.specs.EndedToRt.{EndsToRt}
 use Rattle.f11_flx.specs.Refusal.{is_lethal}
 use Rattle.f11_flx.specs.RtOutcome.{LeavesRt, is_rt_fault}
 use Rattle.f11_flx.specs.Target.{Fares, rt_disk, rt_store}
-use Rattle.f11_flx.specs.ToRt.{CopiesFile, FailsToCopyFile}
+use Rattle.f11_flx.specs.ToRt.{CopiesFileToRt, FailsToCopyFileToRt}
 use Rattle.f11_flx.specs.declared.mode.CopyMode.{CopyMode}
 use Rattle.f11_flx.specs.declared.refusal.FlxRefusal.{FlxRefusal}
 use Rattle.f11_flx.specs.declared.refusal.FlxRefusal.TheVariants.{BadRecord, Files, LineTooLong, Rt}
@@ -77,8 +77,8 @@ module _ {E : Type 0} {met : Ghosts E} (disk : E → Disk) (name : List ℕ) (ol
 module _ {D E : Type 0} {met : Ghosts D} {met' : Ghosts E} (disk : E → Disk) (m : CopyMode) (who : Who) (lun : ℕ) (file : FileId) (name : List ℕ) (day : ℕ)
     (old new : Volume D met) (rt rt' : RtAccepted E met')
   where
-    pub target : (r : as-result ℕ) → IfOk r (λ count. CopiesFile m of_volume disk who lun file name count day old new rt rt') →
-        IfErr r (λ e. FailsToCopyFile m of_volume disk who lun file name day e old new rt rt') → MakesRtFile disk r name rt rt'
+    pub target : (r : as-result ℕ) → IfOk r (λ count. CopiesFileToRt m of_volume disk who lun file name count day old new rt rt') →
+        IfErr r (λ e. FailsToCopyFileToRt m of_volume disk who lun file name day e old new rt rt') → MakesRtFile disk r name rt rt'
     target (Ok count) made failed =
         let f = file-made disk name of_volume who lun file day m count old new rt rt' made in
         target-made disk name rt rt' count f.0 f.1 (made-keeps of_volume disk who lun name file day m count old new rt rt' made)
@@ -91,12 +91,12 @@ module _ {D E : Type 0} {met : Ghosts D} {met' : Ghosts E} (disk : E → Disk) (
         let dead = (uncopied-keeps who disk lun file name day m old new rt rt' e failed).only same in
         spent-unasked disk who lun name file day m old new rt rt' dead e failed)
 
-    pub copies : (r : as-result ℕ) → IfOk r (λ count. CopiesFile m of_volume disk who lun file name count day old new rt rt') →
+    pub copies : (r : as-result ℕ) → IfOk r (λ count. CopiesFileToRt m of_volume disk who lun file name count day old new rt rt') →
         IfOk r (λ count. WhereSound disk old rt (CopiesToRt m who lun file name day count (store_of_volume old) (store_of_volume new) (rt_store disk rt) (rt_store disk rt')))
     copies (Ok count) made = λ sound sound'. copied of_volume store_of_volume is_sound volume-seen disk who lun file name count day old new rt rt' sound sound' m made
     copies (Err e) made = tt
 
-    pub refuses : (r : as-result ℕ) → IfErr r (λ e. FailsToCopyFile m of_volume disk who lun file name day e old new rt rt') →
+    pub refuses : (r : as-result ℕ) → IfErr r (λ e. FailsToCopyFileToRt m of_volume disk who lun file name day e old new rt rt') →
         IfErr r (λ e. is_whole r ≡ true → WhereSound disk old rt
         (RefusesCopyToRt e m who lun file name (store_of_volume old) (store_of_volume new) (rt_disk disk rt) (rt_disk disk rt')))
     refuses (Ok count) failed = tt
@@ -108,14 +108,14 @@ module _ {D E : Type 0} {met : Ghosts D} {met' : Ghosts E} (disk : E → Disk) (
         }
 
     -- an RT-11 volume that had failed isn't read, so what its image is doesn't count
-    pub refuses-failed : (r : as-result ℕ) → IfErr r (λ e. FailsToCopyFile m of_volume disk who lun file name day e old new rt rt') → has_failed rt ≡ true →
+    pub refuses-failed : (r : as-result ℕ) → IfErr r (λ e. FailsToCopyFileToRt m of_volume disk who lun file name day e old new rt rt') → has_failed rt ≡ true →
         IfErr r (λ e. is_whole r ≡ true → is_sound old ≡ true → FailsToCopyToRt e m who lun file name (store_of_volume old) (store_of_volume new) (rt_disk disk rt))
     refuses-failed (Ok count) failed dead = tt
     refuses-failed (Err e) failed dead = λ whole sound.
         refused of_volume store_of_volume is_sound volume-seen who lun file name (store_of_volume old) disk day rt (λ alive. absurd (true-false (sym dead ∙ alive)))
         m e old new rt' refl sound (not-true (is_lethal e) whole) failed
 
-    pub ends : (r : as-result ℕ) → IfErr r (λ e. FailsToCopyFile m of_volume disk who lun file name day e old new rt rt') →
+    pub ends : (r : as-result ℕ) → IfErr r (λ e. FailsToCopyFileToRt m of_volume disk who lun file name day e old new rt rt') →
         IfErr r (λ e. is_lethal e ≡ true → EndsToRt m of_volume disk who lun file name day e old new rt rt')
     ends (Ok count) failed = tt
     ends (Err e) failed = copy-ends-to-rt of_volume who lun name file disk day m e old new rt rt' failed

@@ -12,11 +12,11 @@ use Rattle.f11_store.specs.declared.requests.Request.{Request}
 use Rattle.f11_store.specs.declared.requests.Request.TheVariants as request
 use Rattle.f11_runs.proofs.AccessLemmas.{true-false}
 use Rattle.rt11_volume.specs.declared.volume.RtAccepted.{RtAccepted}
-use Rattle.f11_flx.specs.Asking.{Asking, BreaksOff, Denies, Fails, Granted, Grants, Service, Who, asks, told, writes, writes_of}
+use Rattle.f11_flx.specs.Asking.{Asking, BreaksOffAsking, Denies, Fails, Granted, Grants, FilesService, Who, asks, told, writes, writes_of}
 use Rattle.f11_flx.specs.CopyFromRt.{Making, as_file, creation, entry, opening}
 use Rattle.f11_flx.specs.Ended.{Ends, EndsDenied, TriedCleanly, is_building}
 use Rattle.f11_flx.specs.FromRt.{FailsToCopyFrom}
-use Rattle.f11_flx.specs.Making.{FailsToFill, FailsToFillFile, FailsToMakeCopy, FillsFile, Undoing, UndoingIf, extension, filling_of, is_created}
+use Rattle.f11_flx.specs.Making.{FailsToFillFromRt, FailsToFillFile, FailsToMakeCopy, FillsFile, Undoing, UndoingIf, extension, filling_of, is_created}
 use Rattle.f11_flx.specs.Planning.{FailsToPlan}
 use Rattle.f11_flx.specs.Refusal.{is_lethal}
 use Rattle.f11_flx.specs.declared.mode.CopyMode.{CopyMode}
@@ -28,16 +28,16 @@ abbrev builds : Asking → Type 0
 builds x = is_building x ≡ true
 
 -- Such things were asked, none refused as a device fault or Damaged.
-pub record Cleanly {V : Type 0} (S : Service V) (who : Who) (v w : V) : Type 0 where
+pub record Cleanly {V : Type 0} (S : FilesService V) (who : Who) (v w : V) : Type 0 where
   pub asked : List Asking
   pub tried : TriedCleanly S who asked v w
 
 -- A copy that is refused so far: it ended, or went on cleanly.
-record SoFar {V : Type 0} (S : Service V) (who : Who) (f : FlxRefusal) (v w : V) : Type 0 where
+record SoFar {V : Type 0} (S : FilesService V) (who : Who) (f : FlxRefusal) (v w : V) : Type 0 where
   pub ended : is_lethal f ≡ true → Ends S who f v w
   pub clean : is_lethal f ≡ false → Cleanly S who v w
 
-module _ {V : Type 0} (S : Service V) (who : Who) where
+module _ {V : Type 0} (S : FilesService V) (who : Who) where
   cleanly-none : (v : V) → Cleanly S who v v
   cleanly-none v = record { asked = []; tried = refl }
 
@@ -81,7 +81,7 @@ module _ {V : Type 0} (S : Service V) (who : Who) where
   cleanly-so-far : (e : Refusal) (u v w : V) → Cleanly S who u v → SoFar S who (Files e) v w → SoFar S who (Files e) u w
   cleanly-so-far e u v w h k = record { ended = λ lethal. ends-then e u v w h (k.ended lethal); clean = λ clean. cleanly-then u v w h (k.clean clean) }
 
-  breaks-so-far : (xs : List Asking) (e : Refusal) (v w : V) → BreaksOff S who xs e v w → SoFar S who (Files e) v w
+  breaks-so-far : (xs : List Asking) (e : Refusal) (v w : V) → BreaksOffAsking S who xs e v w → SoFar S who (Files e) v w
   breaks-so-far [] e v w h = absurd h
   breaks-so-far (x ∷ xs) e v w (inl h) = denied-so-far x e v w h
   breaks-so-far (x ∷ xs) e v w (inr h) = cleanly-so-far e v h.0 w (cleanly-one x v h.0 h.1) (breaks-so-far xs e h.0 w h.2)
@@ -131,8 +131,8 @@ module _ (lun : ℕ) where
 build-creation : (making : Making) (id : FileId) → All builds (creation making id)
 build-creation making id = All-cons builds (told (request.Create 0 (ident_with making.name) making.attr) (reply.Created id)) [] refl (All-nil builds)
 
-module _ {V E : Type 0} {met : Ghosts E} (S : Service V) (disk : E → Disk) (m : CopyMode) (who : Who) (lun : ℕ) (name : List ℕ) where
-  fill-so-far : (f : FlxRefusal) (many n : ℕ) (a b : RtAccepted E met) (v w : V) → FailsToFill S disk m who lun name many n f a b v w → SoFar S who f v w
+module _ {V E : Type 0} {met : Ghosts E} (S : FilesService V) (disk : E → Disk) (m : CopyMode) (who : Who) (lun : ℕ) (name : List ℕ) where
+  fill-so-far : (f : FlxRefusal) (many n : ℕ) (a b : RtAccepted E met) (v w : V) → FailsToFillFromRt S disk m who lun name many n f a b v w → SoFar S who f v w
   fill-so-far (Files e) many n a b v w h = breaks-so-far S who (filling_of lun n h.pieces) e v w h.breaks
   fill-so-far (Rt e) many n a b v w h = record {
     ended = λ lethal. record {

@@ -13,11 +13,11 @@ use Rattle.f11_runs.proofs.AccessLemmas.{true-false}
 use Rattle.rt11_volume.specs.Files.{is_fault}
 use Rattle.rt11_volume.specs.declared.refusal.RtRefusal.{RtRefusal}
 use Rattle.rt11_volume.specs.declared.volume.RtAccepted.{RtAccepted}
-use Rattle.f11_flx.specs.Asking.{Asking, BreaksOff, Denies, Granted, Grants, Service, Who, asks, counts, reads, reads_of, told}
+use Rattle.f11_flx.specs.Asking.{Asking, BreaksOffAsking, Denies, Granted, Grants, FilesService, Who, asks, counts, reads, reads_of, told}
 use Rattle.f11_flx.specs.Copies.{FailsToCopyText}
 use Rattle.f11_flx.specs.Ended.{EndsDenied, IsLast}
-use Rattle.f11_flx.specs.EndedToRt.{EndsHeld, EndsToRt, HasAtMostOneMore, Holds, IsMadeInPart, is_holding}
-use Rattle.f11_flx.specs.Filling.{Refusing, Taking, Took}
+use Rattle.f11_flx.specs.EndedToRt.{EndsHeld, EndsToRt, HasAtMostOneMore, HoldsAsked, IsMadeInPart, is_holding}
+use Rattle.f11_flx.specs.Filling.{Refusing, TakingBlocks, Took}
 use Rattle.f11_flx.specs.Refusal.{is_lethal}
 use Rattle.f11_flx.specs.Source.{CopiesAs, FailsAs, TellsNothing, TellsSource, up_to_end}
 use Rattle.f11_flx.specs.Target.{rt_store}
@@ -25,12 +25,12 @@ use Rattle.f11_flx.specs.ToRt.{
   CopiesLocked,
   CountsAs,
   FailsLocked,
-  FailsToCopyFile,
-  FailsToCount,
-  FailsToFill,
+  FailsToCopyFileToRt,
+  FailsToCountAs,
+  FailsToFillToRt,
   GaveUp,
   IsNotClosed,
-  Undoes,
+  UndoesToRt,
   nowhere_refuses,
   nowhere_takes,
   rt_refuses,
@@ -50,14 +50,14 @@ abbrev held : Asking → Type 0
 held x = is_holding x ≡ true
 
 -- The volume's refusal is of what was asked last, behind what was granted.
-pub record Broke {V : Type 0} (S : Service V) (who : Who) (e : Refusal) (old new : V) : Type 0 where
+pub record Broke {V : Type 0} (S : FilesService V) (who : Who) (e : Refusal) (old new : V) : Type 0 where
   pub at : V
-  pub holds : Holds S who old at
+  pub holds : HoldsAsked S who old at
   pub last : Asking
   pub is_last : IsLast S who last e at new
 
 -- how far a refused copy came
-abbrev pub Came : {V : Type 0} → Service V → Who → FlxRefusal → V → V → Type 0
+abbrev pub Came : {V : Type 0} → FilesService V → Who → FlxRefusal → V → V → Type 0
 Came S who (Files e) old new = Broke S who e old new
 Came S who (Rt e) old new = EndsHeld S who old new
 Came S who BadRecord old new = EndsHeld S who old new
@@ -76,41 +76,41 @@ held-blocks : (lun k : ℕ) (xs : List (List ℕ)) → All held (reads_of lun k 
 held-blocks lun k [] = All-nil held
 held-blocks lun k (x ∷ xs) = All-cons held (reads lun (suc k) x) (reads_of lun (suc k) xs) refl (held-blocks lun (suc k) xs)
 
-module _ {V : Type 0} (S : Service V) (who : Who) where
-  held-none : (v w : V) → w ≡ v → Holds S who v w
+module _ {V : Type 0} (S : FilesService V) (who : Who) where
+  held-none : (v w : V) → w ≡ v → HoldsAsked S who v w
   held-none v w same = record { asked = []; granted = same; holding = All-nil held }
 
-  held-one : (x : Asking) (v w : V) → is_holding x ≡ true → Grants S who x v w → Holds S who v w
+  held-one : (x : Asking) (v w : V) → is_holding x ≡ true → Grants S who x v w → HoldsAsked S who v w
   held-one x v w is g = record { asked = x ∷ []; granted = (w, g, refl); holding = All-cons held x [] is (All-nil held) }
 
-  held-then : (u v w : V) → Holds S who u v → Holds S who v w → Holds S who u w
+  held-then : (u v w : V) → HoldsAsked S who u v → HoldsAsked S who v w → HoldsAsked S who u w
   held-then u v w h k = record {
     asked = h.asked ++ k.asked;
     granted = granted-append S who h.asked k.asked u v w h.granted k.granted;
     holding = All-append held h.asked k.asked h.holding k.holding;
   }
 
-  held-reads : (lun k : ℕ) (xs : List (List ℕ)) (v w : V) → Granted S who (reads_of lun k xs) v w → Holds S who v w
+  held-reads : (lun k : ℕ) (xs : List (List ℕ)) (v w : V) → Granted S who (reads_of lun k xs) v w → HoldsAsked S who v w
   held-reads lun k xs v w g = record { asked = reads_of lun k xs; granted = g; holding = held-blocks lun k xs }
 
   broke-denied : (x : Asking) (e : Refusal) (v w : V) → Denies S who x e v w → Broke S who e v w
   broke-denied x e v w d = record { at = v; holds = held-none v v refl; last = x; is_last = inl d }
 
-  broke-behind : (e : Refusal) (u v w : V) → Holds S who u v → Broke S who e v w → Broke S who e u w
+  broke-behind : (e : Refusal) (u v w : V) → HoldsAsked S who u v → Broke S who e v w → Broke S who e u w
   broke-behind e u v w h k = record { at = k.at; holds = held-then u v k.at h k.holds; last = k.last; is_last = k.is_last }
 
-  broke-reads : (lun k : ℕ) (xs : List (List ℕ)) (e : Refusal) (v w : V) → BreaksOff S who (reads_of lun k xs) e v w → Broke S who e v w
+  broke-reads : (lun k : ℕ) (xs : List (List ℕ)) (e : Refusal) (v w : V) → BreaksOffAsking S who (reads_of lun k xs) e v w → Broke S who e v w
   broke-reads lun k [] e v w h = absurd h
   broke-reads lun k (x ∷ xs) e v w (inl h) = broke-denied (reads lun (suc k) x) e v w h
   broke-reads lun k (x ∷ xs) e v w (inr h) = broke-behind e v h.0 w (held-one (reads lun (suc k) x) v h.0 refl h.1) (broke-reads lun (suc k) xs e h.0 w h.2)
 
-  ends-held : (v w : V) → Holds S who v w → EndsHeld S who v w
+  ends-held : (v w : V) → HoldsAsked S who v w → EndsHeld S who v w
   ends-held v w h = record { at = w; holds = h; last = inl refl }
 
-  held-behind : (u v w : V) → Holds S who u v → EndsHeld S who v w → EndsHeld S who u w
+  held-behind : (u v w : V) → HoldsAsked S who u v → EndsHeld S who v w → EndsHeld S who u w
   held-behind u v w h k = record { at = k.at; holds = held-then u v k.at h k.holds; last = k.last }
 
-  came-behind : (f : FlxRefusal) (u v w : V) → Holds S who u v → Came S who f v w → Came S who f u w
+  came-behind : (f : FlxRefusal) (u v w : V) → HoldsAsked S who u v → Came S who f v w → Came S who f u w
   came-behind (Files e) u v w h k = broke-behind e u v w h k
   came-behind (Rt e) u v w h k = held-behind u v w h k
   came-behind BadRecord u v w h k = held-behind u v w h k
@@ -145,11 +145,11 @@ module _ {V : Type 0} (S : Service V) (who : Who) where
       let c = cleanly-all S who h.holds.asked v h.at h.holds.granted in
       record { asked = c.asked; at = h.at; tried = c.tried; last = h.last; is_last = h.is_last }
 
-module _ {V : Type 0} (S : Service V) (who : Who) (lun : ℕ) (name : List ℕ) where
-  module _ {W : Type 0} (K : Taking W) (R : Refusing W)
+module _ {V : Type 0} (S : FilesService V) (who : Who) (lun : ℕ) (name : List ℕ) where
+  module _ {W : Type 0} (K : TakingBlocks W) (R : Refusing W)
       (rt : (e : FlxRefusal) (place : ℕ) (last : List ℕ) (a b : W) → R name place last e a b → (r : RtRefusal) × (e ≡ Rt r))
     where
-      taken-came : (e : FlxRefusal) (place : ℕ) (last : List ℕ) (a b : W) (v w : V) → R name place last e a b → Holds S who v w → Came S who e v w
+      taken-came : (e : FlxRefusal) (place : ℕ) (last : List ℕ) (a b : W) (v w : V) → R name place last e a b → HoldsAsked S who v w → Came S who e v w
       taken-came e place last a b v w r h = let k = rt e place last a b r in came-as S who e (Rt k.0) v w k.1 (ends-held S who v w h)
 
       text-came : (text : ToText) (count : ℕ) (e : FlxRefusal) (v w : V) (t t' : W) → FailsToCopyText S K R who lun name text count e v w t t' →
@@ -166,21 +166,21 @@ module _ {V : Type 0} (S : Service V) (who : Who) (lun : ℕ) (name : List ℕ) 
       fails-came Text attr n e v w t t' (inl k) = came-as S who e BadRecord v w k.is (ends-held S who v w (held-none S who v w k.stays))
       fails-came Text attr n e v w t t' (inr k) = text-came k.0 (up_to_end attr n) e v w t t' k.2
 
-  copies-held : {W : Type 0} (K : Taking W) (m : CopyMode) (attr : List ℕ) (n count : ℕ) (v w : V) (t t' : W) →
-      CopiesAs m S K who lun name attr n count v w t t' → Holds S who v w
+  copies-held : {W : Type 0} (K : TakingBlocks W) (m : CopyMode) (attr : List ℕ) (n count : ℕ) (v w : V) (t t' : W) →
+      CopiesAs m S K who lun name attr n count v w t t' → HoldsAsked S who v w
   copies-held K Image attr n count v w t t' h = held-reads S who lun 0 h.1.given v w h.1.asked
   copies-held K Text attr n count v w t t' h = held-reads S who lun 0 h.2.given v w h.2.asked
 
-  count-held : (m : CopyMode) (attr : List ℕ) (n count : ℕ) (v w : V) → CountsAs m S who lun name attr n count v w → Holds S who v w
+  count-held : (m : CopyMode) (attr : List ℕ) (n count : ℕ) (v w : V) → CountsAs m S who lun name attr n count v w → HoldsAsked S who v w
   count-held Image attr n count v w h = held-none S who v w h.1
   count-held Text attr n count v w h = copies-held nowhere_takes Text attr n count v w h.0 h.1 h.2
 
-  uncounted-came : (m : CopyMode) (attr : List ℕ) (n : ℕ) (e : FlxRefusal) (v w : V) → FailsToCount m S who lun name attr n e v w → Came S who e v w
+  uncounted-came : (m : CopyMode) (attr : List ℕ) (n : ℕ) (e : FlxRefusal) (v w : V) → FailsToCountAs m S who lun name attr n e v w → Came S who e v w
   uncounted-came Image attr n e v w h = absurd h
   uncounted-came Text attr n e v w h = fails-came nowhere_takes nowhere_refuses (λ x place last p q r. absurd r) Text attr n e v w h.0 h.1 h.2
 
   module _ (file : FileId) where
-    told-held : (attr : List ℕ) (n : ℕ) (v w : V) → TellsSource S who lun file attr n v w → Holds S who v w
+    told-held : (attr : List ℕ) (n : ℕ) (v w : V) → TellsSource S who lun file attr n v w → HoldsAsked S who v w
     told-held attr n v w h = record {
       asked = told (request.ReadAttr file) (reply.Attr h.of) ∷ counts lun n ∷ [];
       granted = h.asked;
@@ -199,11 +199,11 @@ module _ {V : Type 0} (S : Service V) (who : Who) (lun : ℕ) (name : List ℕ) 
         broke-behind S who e v d.between w (held-one S who (told (request.ReadAttr file) (reply.Attr d.of)) v d.between refl d.asked)
         (broke-denied S who (counts lun 0) e d.between w d.denied)
 
-    open-held : (v w : V) → Grants S who (asks (request.Access file access.Locked lun)) v w → Holds S who v w
+    open-held : (v w : V) → Grants S who (asks (request.Access file access.Locked lun)) v w → HoldsAsked S who v w
     open-held v w g = held-one S who (asks (request.Access file access.Locked lun)) v w refl g
 
     module _ {E : Type 0} {met : Ghosts E} (disk : E → Disk) (day : ℕ) where
-      undo-came : (x e : FlxRefusal) (v w : V) (a b : RtAccepted E met) → Undoes disk name x e a b → Came S who x v w → Came S who e v w
+      undo-came : (x e : FlxRefusal) (v w : V) (a b : RtAccepted E met) → UndoesToRt disk name x e a b → Came S who x v w → Came S who e v w
       undo-came x e v w a b (inl h) k = came-as S who e x v w h.same k
       undo-came x e v w a b (inr (inl h)) k = came-as S who e x v w h.same k
       undo-came x e v w a b (inr (inr h)) k = by h.answer_is
@@ -213,7 +213,7 @@ module _ {V : Type 0} (S : Service V) (who : Who) (lun : ℕ) (name : List ℕ) 
           by (inr y) = came-as S who e x v w y.1 k
 
       fill-came : (m : CopyMode) (attr : List ℕ) (n count : ℕ) (e : FlxRefusal) (v w : V) (a b : RtAccepted E met) →
-          FailsToFill m S disk who lun name attr n count day e v w a b → Came S who e v w
+          FailsToFillToRt m S disk who lun name attr n count day e v w a b → Came S who e v w
       fill-came m attr n count e v w a b (inl h) = came-as S who e (Rt h.refusal) v w h.is (ends-held S who v w (held-none S who v w h.stays))
       fill-came m attr n count e v w a b (inr h) =
           undo-came h.refusal e v w h.stopped b h.undoes
@@ -229,7 +229,7 @@ module _ {V : Type 0} (S : Service V) (who : Who) (lun : ℕ) (name : List ℕ) 
           (came-behind S who e k.seen k.walked w (count-held m k.attr k.blocks k.count k.seen k.walked k.counted)
           (fill-came m k.attr k.blocks k.count e k.walked w a b k.fails))
 
-      locked-held : (m : CopyMode) (count : ℕ) (v w : V) (a b : RtAccepted E met) → CopiesLocked m S disk who lun file name count day v w a b → Holds S who v w
+      locked-held : (m : CopyMode) (count : ℕ) (v w : V) (a b : RtAccepted E met) → CopiesLocked m S disk who lun file name count day v w a b → HoldsAsked S who v w
       locked-held m count v w a b k =
           held-then S who v k.seen w (told-held k.attr k.blocks v k.seen k.told)
           (held-then S who k.seen k.walked w (count-held m k.attr k.blocks count k.seen k.walked k.counted)
@@ -244,7 +244,7 @@ module _ {V : Type 0} (S : Service V) (who : Who) (lun : ℕ) (name : List ℕ) 
           (broke-denied S who (asks (request.Deaccess lun)) k.refusal k.left w k.denied)))
 
       -- what stays on the RT-11 volume where the Files-11 one ended it
-      undo-left : (x e : FlxRefusal) (r : Refusal) (a b : RtAccepted E met) → e ≡ Files r → is_lethal e ≡ true → Undoes disk name x e a b →
+      undo-left : (x e : FlxRefusal) (r : Refusal) (a b : RtAccepted E met) → e ≡ Files r → is_lethal e ≡ true → UndoesToRt disk name x e a b →
           (x ≡ Files r) × (b ≡ a)
       undo-left x e r a b is lethal (inl h) = (sym h.same ∙ is, h.stays)
       undo-left x e r a b is lethal (inr (inl h)) = absurd (true-false (sym lethal ∙ ap is_lethal h.same ∙ h.clean))
@@ -269,7 +269,7 @@ module _ {V : Type 0} (S : Service V) (who : Who) (lun : ℕ) (name : List ℕ) 
           by (inr (inr d)) = absurd (files-rt r d.refused.refusal d.refused.is)
 
       fill-left : (m : CopyMode) (attr : List ℕ) (n count : ℕ) (r : Refusal) (v w : V) (a b : RtAccepted E met) → is_lethal (Files r) ≡ true →
-          FailsToFill m S disk who lun name attr n count day (Files r) v w a b → IsMadeInPart disk name day a b
+          FailsToFillToRt m S disk who lun name attr n count day (Files r) v w a b → IsMadeInPart disk name day a b
       fill-left m attr n count r v w a b lethal (inl h) = absurd (files-rt r h.refusal h.is)
       fill-left m attr n count r v w a b lethal (inr h) =
           let u = undo-left h.refusal (Files r) r h.stopped b refl lethal h.undoes in
@@ -322,7 +322,7 @@ module _ {V : Type 0} (S : Service V) (who : Who) (lun : ℕ) (name : List ℕ) 
       came-ends m BadRecord v w a b h left = tt
       came-ends m LineTooLong v w a b h left = tt
 
-      pub copy-ends-to-rt : (m : CopyMode) (e : FlxRefusal) (v w : V) (a b : RtAccepted E met) → FailsToCopyFile m S disk who lun file name day e v w a b →
+      pub copy-ends-to-rt : (m : CopyMode) (e : FlxRefusal) (v w : V) (a b : RtAccepted E met) → FailsToCopyFileToRt m S disk who lun file name day e v w a b →
           is_lethal e ≡ true →
           EndsToRt m S disk who lun file name day e v w a b
       copy-ends-to-rt m e v w a b (inl k) lethal =

@@ -19,7 +19,7 @@ use Rattle.f11_store.proofs.FateLaws.{mark-of-cleared}
 use Rattle.f11_store.proofs.SlotsFirst.{gained-is-ready}
 use Rattle.f11_store.proofs.StoreLemmas.{same_number}
 use Rattle.f11_runs.proofs.AccessLemmas.{there-file}
-use Rattle.f11_flx.specs.Asking.{BreaksOff, Who, plain}
+use Rattle.f11_flx.specs.Asking.{BreaksOffAsking, Who, plain}
 use Rattle.f11_flx.specs.CopyFromRt.{Making, entry}
 use Rattle.f11_flx.proofs.GainedLemmas.{not-index}
 use Rattle.f11_flx.proofs.NewLemmas.{IsNewIn, none-of}
@@ -99,7 +99,7 @@ protectable id f word who t low volume sequence owner unmarked h =
     (none-of (Marked ⇐ is_marked (file_named t id)) five marked (none-of (NoPrivilege ⇐ lacks_change (change.Protect word) who.caller (file_named t id)) [] barred refl))))
 
 -- of entering and protecting a new file nothing is refused but the entry: then all is as it was
-pub entry-refused : (making : Making) (who : Who) (id : FileId) (e : Refusal) (s t u : Store) → IsNewIn who.caller id s.access s t → BreaksOff plain who (entry making id) e t u → u ≡ t
+pub entry-refused : (making : Making) (who : Who) (id : FileId) (e : Refusal) (s t u : Store) → IsNewIn who.caller id s.access s t → BreaksOffAsking plain who (entry making id) e t u → u ≡ t
 entry-refused making who id e s t u h (inl d) = d.2.store_stays
 entry-refused making who id e s t u h (inr (v, g, inl d)) =
     let own : StaysOwn h.file t id.number = record { now = h.file; there = h.there; sequence = refl; owner = refl; mark = refl } in

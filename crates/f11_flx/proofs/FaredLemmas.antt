@@ -18,11 +18,11 @@ use Rattle.f11_fcp.specs.Lists.{failures_of, is_sound}
 use Rattle.f11_fcp.specs.Serving.{StaysAccepted, is_spent, state_in}
 use Rattle.f11_fcp.specs.declared.volume.Volume.{Volume}
 use Rattle.rt11_volume.specs.declared.volume.RtAccepted.{RtAccepted}
-use Rattle.f11_flx.specs.Asking.{Asking, BreaksOff, Denies, Fails, Granted, Grants, Who, asks, told, writes_of}
+use Rattle.f11_flx.specs.Asking.{Asking, BreaksOffAsking, Denies, Fails, Granted, Grants, Who, asks, told, writes_of}
 use Rattle.f11_flx.specs.Copying.{of_files, of_volume}
 use Rattle.f11_flx.specs.CopyFromRt.{Making, as_file, creation, entry, opening}
 use Rattle.f11_flx.specs.FromRt.{CopiesFrom, FailsToCopyFrom}
-use Rattle.f11_flx.specs.Making.{FailsToFill, FailsToFillFile, FailsToMakeCopy, FillsFile, Undoing, UndoingIf, extension, filling_of, is_created}
+use Rattle.f11_flx.specs.Making.{FailsToFillFromRt, FailsToFillFile, FailsToMakeCopy, FillsFile, Undoing, UndoingIf, extension, filling_of, is_created}
 use Rattle.f11_flx.specs.Planning.{FailsToPlan}
 use Rattle.f11_flx.specs.Refusal.{is_lethal}
 use Rattle.f11_flx.specs.declared.mode.CopyMode.{CopyMode}
@@ -128,7 +128,7 @@ module _ {D : Type 0} {met : Ghosts D} where
   fares-all who [] v w h = subst (λ x. IsFaring done v x) (sym h) (calm-none v)
   fares-all who (x ∷ xs) v w h = calm-then done v h.0 w (fares-granted who x v h.0 h.1) (fares-all who xs h.0 w h.2)
 
-  pub fares-breaking : (who : Who) (xs : List Asking) (e : Refusal) (v w : Volume D met) → BreaksOff of_volume who xs e v w → IsFaring (refused (Files e)) v w
+  pub fares-breaking : (who : Who) (xs : List Asking) (e : Refusal) (v w : Volume D met) → BreaksOffAsking of_volume who xs e v w → IsFaring (refused (Files e)) v w
   fares-breaking who [] e v w h = absurd h
   fares-breaking who (x ∷ xs) e v w (inl h) = fares-denied who x e v w h
   fares-breaking who (x ∷ xs) e v w (inr h) = calm-then (refused (Files e)) v h.0 w (fares-granted who x v h.0 h.1) (fares-breaking who xs e h.0 w h.2)
@@ -173,7 +173,7 @@ module _ {D : Type 0} {met : Ghosts D} where
       subst (λ x. IsFaring (refused (Files x)) v w) (sym h.2) (fares-wrong who 0 (ident_with making.name) making.attr h.0 v w h.1 h.3)
 
 module _ {D E : Type 0} {met : Ghosts D} {met' : Ghosts E} (disk : E → Disk) (m : CopyMode) (who : Who) (lun : ℕ) (name : List ℕ) where
-  fill-fares : (f : FlxRefusal) (many n : ℕ) (a b : RtAccepted E met') (v w : Volume D met) → FailsToFill of_volume disk m who lun name many n f a b v w → IsFaring (refused f) v w
+  fill-fares : (f : FlxRefusal) (many n : ℕ) (a b : RtAccepted E met') (v w : Volume D met) → FailsToFillFromRt of_volume disk m who lun name many n f a b v w → IsFaring (refused f) v w
   fill-fares (Files e) many n a b v w h = fares-breaking who (filling_of lun n h.pieces) e v w h.breaks
   fill-fares (Rt e) many n a b v w h = alike (refused (Rt e)) done v w refl refl (fares-all who (extension lun n ++ writes_of lun 0 h.pieces) v w h.granted)
   fill-fares BadRecord many n a b v w h = absurd h

@@ -8,10 +8,10 @@ use Rattle.f11_store.specs.declared.requests.Reply.TheVariants as reply
 use Rattle.rt11_volume.specs.Files.{file_area}
 use Rattle.rt11_volume.specs.Verifying.Verdict.{IsSoundDisk}
 use Rattle.rt11_volume.specs.declared.volume.RtAccepted.{RtAccepted}
-use Rattle.f11_flx.specs.Asking.{Granted, Service, Who, plain}
+use Rattle.f11_flx.specs.Asking.{Granted, FilesService, Who, plain}
 use Rattle.f11_flx.specs.CopyFromRt.{CopiesFromRt, HasMaking, Making, as_file, creation, entry, filling, making_of, new_id, opening}
 use Rattle.f11_flx.specs.FromRt.{CopiesFrom}
-use Rattle.f11_flx.specs.Making.{Fills, MakesCopy, filling_of}
+use Rattle.f11_flx.specs.Making.{FillsFromRt, MakesCopy, filling_of}
 use Rattle.f11_flx.specs.Passes.{IsCopied}
 use Rattle.f11_flx.specs.Planning.{IsPlan, Plans}
 use Rattle.f11_flx.specs.RtSource.{HasContents}
@@ -62,9 +62,9 @@ module _ {E : Type 0} {met : Ghosts E} (disk : E → Disk) (m : CopyMode) (name 
     attr_is = p.plan.copied.attr_is;
   }
 
-  module _ {V : Type 0} (S : Service V) (who : Who) (lun : ℕ) where
+  module _ {V : Type 0} (S : FilesService V) (who : Who) (lun : ℕ) where
     -- the blocks that are written are those of the plan
-    pub filled-as-planned : (many blocks : ℕ) (attr : List ℕ) (rt between rt' : RtAccepted E met) (v w : V) → (p : Planned m name many blocks attr disk rt between) → Fills S disk m who lun name many blocks between rt' v w →
+    pub filled-as-planned : (many blocks : ℕ) (attr : List ℕ) (rt between rt' : RtAccepted E met) (v w : V) → (p : Planned m name many blocks attr disk rt between) → FillsFromRt S disk m who lun name many blocks between rt' v w →
         Granted S who (filling lun p.plan.pieces) v w
     filled-as-planned many blocks attr rt between rt' v w p h =
         let front = h.reads.are p.sound p.contents p.later in

@@ -11,7 +11,7 @@ use Rattle.rt11_volume.specs.Verifying.Verdict.{IsSoundDisk}
 use Rattle.rt11_volume.specs.declared.refusal.RtRefusal.TheVariants.{Failed}
 use Rattle.rt11_volume.specs.declared.volume.RtAccepted.{RtAccepted}
 use Rattle.f11_flx.specs.Asking.{Who}
-use Rattle.f11_flx.specs.Copying.{AsksOnly, FaresFiles, KeepsFailed, MakesFile, ReadsRt, is_making, is_whole, of_rt, of_volume}
+use Rattle.f11_flx.specs.Copying.{AsksOnly, FaresFiles, KeepsFailed, MayMakeFile, ReadsRt, is_making, is_whole, of_rt, of_volume}
 use Rattle.f11_flx.specs.CopyFromRt.{CopiesFromRt, FailsToCopyFromRt}
 use Rattle.f11_flx.specs.FromRt.{CopiesFrom, FailsToCopyFrom}
 use Rattle.f11_flx.specs.Refusal.{is_lethal}
@@ -81,7 +81,7 @@ module _ {D E : Type 0} {met : Ghosts D} {met' : Ghosts E} (disk : E → Disk) (
       (fails-unfailed of_volume disk m who lun name f dir to protection a b v w h)
       (λ dead. ap refused (failed-unmade of_volume disk m who lun name dir to protection a b v w dead f h))
 
-  pub file-made : (blocks : ℕ) → CopiesFrom of_volume disk m who lun name dir to protection blocks a b v w → MakesFile (given blocks) who v w
+  pub file-made : (blocks : ℕ) → CopiesFrom of_volume disk m who lun name dir to protection blocks a b v w → MayMakeFile (given blocks) who v w
   file-made blocks h =
       let k = copies-fares disk m who lun name dir to protection blocks a b v w h in
       record {
@@ -95,7 +95,7 @@ module _ {D E : Type 0} {met : Ghosts D} {met' : Ghosts E} (disk : E → Disk) (
       differ : (e : FlxRefusal) → given blocks ≡ refused e → ⊥
       differ e is = cc
 
-  pub file-not-made : (f : FlxRefusal) → FailsToCopyFrom of_volume disk m who lun name dir to protection f a b v w → MakesFile (refused f) who v w
+  pub file-not-made : (f : FlxRefusal) → FailsToCopyFrom of_volume disk m who lun name dir to protection f a b v w → MayMakeFile (refused f) who v w
   file-not-made f h = record {
     fares = fares f (fails-fares disk m who lun name f dir to protection a b v w h);
     keeps = fails-keep disk m who lun name f dir to protection a b v w h;

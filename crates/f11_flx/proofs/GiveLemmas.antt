@@ -6,7 +6,7 @@ use Rattle.std.proofs.Math.Seq.{drop-append_seam}
 use Rattle.f11_flx.specs.Lines.{has_long_line, lines_of, without_zeros}
 use Rattle.f11_flx.specs.Spelled.{variable_record, variable_records, longest_of}
 use Rattle.f11_flx.specs.Stage.{given_in, lines_from, with_cr}
-use Rattle.f11_flx.specs.ToRecords.{GoesOn, bytes_to_come, lines_left}
+use Rattle.f11_flx.specs.ToRecords.{GivesBytes, bytes_to_come, lines_left}
 use Rattle.f11_flx.specs.declared.stage.Stage.{Stage}
 use Rattle.f11_flx.specs.declared.stage.Stage.TheVariants.{Reading, Giving}
 use Rattle.f11_flx.specs.declared.to_records.ToRecords.{ToRecords}
@@ -71,9 +71,9 @@ pub lines_left-given : (s : ToRecords) (given : ℕ) (bytes : List ℕ) → s.st
 lines_left-given s given bytes stage = ap (λ (at : Stage). lines_from s.line.items at (without_zeros bytes)) stage
 
 -- a byte of it was given
-pub GoesOn-given : (old new : ToRecords) (given byte : ℕ) (bytes : List ℕ) → old.stage ≡ Giving given → given < 2 + length old.line.items + length old.line.items % 2 → byte ≡ get_or (variable_record old.line.items) given 0
-    → new.stage ≡ Giving (given + 1) → new.line.items ≡ old.line.items → new.longest ≡ old.longest → GoesOn old new bytes bytes (byte ∷ [])
-GoesOn-given old new given byte bytes stage within is stage' line longest =
+pub GivesBytes-given : (old new : ToRecords) (given byte : ℕ) (bytes : List ℕ) → old.stage ≡ Giving given → given < 2 + length old.line.items + length old.line.items % 2 → byte ≡ get_or (variable_record old.line.items) given 0
+    → new.stage ≡ Giving (given + 1) → new.line.items ≡ old.line.items → new.longest ≡ old.longest → GivesBytes old new bytes bytes (byte ∷ [])
+GivesBytes-given old new given byte bytes stage within is stage' line longest =
     let lines = lines_left-given old given bytes stage in
     let lines' = lines_left-given new (given + 1) bytes stage' ∙ ap (λ (l : List ℕ). l ∷ lines_of (without_zeros bytes)) line in
     record {
@@ -85,9 +85,9 @@ GoesOn-given old new given byte bytes stage within is stage' line longest =
     }
 
 -- and its last byte
-pub GoesOn-last : (old new : ToRecords) (given byte : ℕ) (bytes : List ℕ) → old.stage ≡ Giving given → given + 1 ≡ 2 + length old.line.items + length old.line.items % 2 → byte ≡ get_or (variable_record old.line.items) given 0
-    → length old.line.items ≤ 2048 → new.stage ≡ Reading false → new.line.items ≡ [] → new.longest ≡ max old.longest (length old.line.items) → GoesOn old new bytes bytes (byte ∷ [])
-GoesOn-last old new given byte bytes stage last is few stage' line longest =
+pub GivesBytes-last : (old new : ToRecords) (given byte : ℕ) (bytes : List ℕ) → old.stage ≡ Giving given → given + 1 ≡ 2 + length old.line.items + length old.line.items % 2 → byte ≡ get_or (variable_record old.line.items) given 0
+    → length old.line.items ≤ 2048 → new.stage ≡ Reading false → new.line.items ≡ [] → new.longest ≡ max old.longest (length old.line.items) → GivesBytes old new bytes bytes (byte ∷ [])
+GivesBytes-last old new given byte bytes stage last is few stage' line longest =
     let text = without_zeros bytes in
     let within : given < 2 + length old.line.items + length old.line.items % 2 = omega arith in
     let lines = lines_left-given old given bytes stage in

@@ -23,11 +23,11 @@ use Rattle.rt11_volume.specs.Calls.{has_failed, volume_device}
 use Rattle.rt11_volume.specs.declared.refusal.RtRefusal.{RtRefusal}
 use Rattle.rt11_volume.specs.declared.refusal.RtRefusal.TheVariants.{Failed}
 use Rattle.rt11_volume.specs.declared.volume.RtAccepted.{RtAccepted}
-use Rattle.f11_flx.specs.Asking.{Asking, BreaksOff, Denies, Fails, Granted, Grants, Service, Who, asks, counts, reads, told, writes, writes_of}
+use Rattle.f11_flx.specs.Asking.{Asking, BreaksOffAsking, Denies, Fails, Granted, Grants, FilesService, Who, asks, counts, reads, told, writes, writes_of}
 use Rattle.f11_flx.specs.Copying.{KeepsFailed, KeepsSpent, of_volume}
 use Rattle.f11_flx.specs.CopyFromRt.{Making, as_file, creation, entry, opening}
 use Rattle.f11_flx.specs.FromRt.{CopiesFrom, FailsToCopyFrom}
-use Rattle.f11_flx.specs.Making.{FailsToFill, FailsToFillFile, FailsToMakeCopy, FillsFile, Undoing, UndoingIf, extension, filling_of, is_created}
+use Rattle.f11_flx.specs.Making.{FailsToFillFromRt, FailsToFillFile, FailsToMakeCopy, FillsFile, Undoing, UndoingIf, extension, filling_of, is_created}
 use Rattle.f11_flx.specs.Planning.{FailsToPlan}
 use Rattle.f11_flx.specs.Refusal.{is_lethal}
 use Rattle.f11_flx.specs.declared.mode.CopyMode.{CopyMode}
@@ -159,7 +159,7 @@ module _ {D : Type 0} {met : Ghosts D} where
   all-unspent who [] v w alive h = ap is_spent h ∙ alive
   all-unspent who (x ∷ xs) v w alive h = all-unspent who xs h.0 w (stays-unspent who x v h.0 h.1) h.2
 
-  breaks-live : (who : Who) (xs : List Asking) (e : Refusal) (v w : Volume D met) → is_spent v ≡ false → BreaksOff of_volume who xs e v w → IsLive (Files e) w
+  breaks-live : (who : Who) (xs : List Asking) (e : Refusal) (v w : Volume D met) → is_spent v ≡ false → BreaksOffAsking of_volume who xs e v w → IsLive (Files e) w
   breaks-live who [] e v w alive h = absurd h
   breaks-live who (x ∷ xs) e v w alive (inl h) = denied-live who x e v w alive h
   breaks-live who (x ∷ xs) e v w alive (inr h) = breaks-live who xs e h.0 w (stays-unspent who x v h.0 h.1) h.2
@@ -204,7 +204,7 @@ module _ {D : Type 0} {met : Ghosts D} where
   created-alive who making id v w h = granted-unspent who (told (request.Create 0 (ident_with making.name) making.attr) (reply.Created id)) v h.0 h.1
 
 module _ {D E : Type 0} {met : Ghosts D} {met' : Ghosts E} (disk : E → Disk) (m : CopyMode) (who : Who) (lun : ℕ) (name : List ℕ) where
-  fill-live : (f : FlxRefusal) (many n : ℕ) (a b : RtAccepted E met') (v w : Volume D met) → is_spent v ≡ false → FailsToFill of_volume disk m who lun name many n f a b v w → IsLive f w
+  fill-live : (f : FlxRefusal) (many n : ℕ) (a b : RtAccepted E met') (v w : Volume D met) → is_spent v ≡ false → FailsToFillFromRt of_volume disk m who lun name many n f a b v w → IsLive f w
   fill-live (Files e) many n a b v w alive h = breaks-live who (filling_of lun n h.pieces) e v w alive h.breaks
   fill-live (Rt e) many n a b v w alive h = record { other = files-apart e VolumeFailed; alive = λ clean. all-unspent who (extension lun n ++ writes_of lun 0 h.pieces) v w alive h.granted }
   fill-live BadRecord many n a b v w alive h = absurd h
@@ -252,7 +252,7 @@ module _ {D E : Type 0} {met : Ghosts D} {met' : Ghosts E} (disk : E → Disk) (
   fails-keep f dir to protection a b v w (inl h) = subst (λ x. KeepsSpent (refused f) v x) (sym h.unasked) (plan-keeps f a b v h.fails)
   fails-keep f dir to protection a b v w (inr h) = make-keeps f h.many h.blocks (as_file to dir protection h.attr []) h.between b v w (h.fails [])
 
-module _ {V : Type 0} (S : Service V) (who : Who) where
+module _ {V : Type 0} (S : FilesService V) (who : Who) where
   unfailed-undoing : (r : Request) (f f' : FlxRefusal) (v w : V) → (f ≡ Rt Failed → ⊥) → Undoing S who r f f' v w → f' ≡ Rt Failed → ⊥
   unfailed-undoing r f f' v w other h = by (is_lethal f) h
     where
@@ -287,8 +287,8 @@ module _ {E : Type 0} {met : Ghosts E} (disk : E → Disk) where
       by true is failed = is
       by false is failed = absurd (alive is failed)
 
-module _ {V E : Type 0} {met : Ghosts E} (S : Service V) (disk : E → Disk) (m : CopyMode) (who : Who) (lun : ℕ) (name : List ℕ) where
-  fill-unfailed : (f : FlxRefusal) (many n : ℕ) (a b : RtAccepted E met) (v w : V) → has_failed a ≡ false → FailsToFill S disk m who lun name many n f a b v w → f ≡ Rt Failed → ⊥
+module _ {V E : Type 0} {met : Ghosts E} (S : FilesService V) (disk : E → Disk) (m : CopyMode) (who : Who) (lun : ℕ) (name : List ℕ) where
+  fill-unfailed : (f : FlxRefusal) (many n : ℕ) (a b : RtAccepted E met) (v w : V) → has_failed a ≡ false → FailsToFillFromRt S disk m who lun name many n f a b v w → f ≡ Rt Failed → ⊥
   fill-unfailed (Files e) many n a b v w alive h is = rt-apart e Failed is
   fill-unfailed (Rt e) many n a b v w alive h is = h.stops.alive alive (same is)
     where

@@ -15,7 +15,7 @@ use Rattle.rt11_volume.specs.Files.{is_fault}
 use Rattle.rt11_volume.specs.declared.refusal.RtRefusal.{RtRefusal}
 use Rattle.rt11_volume.specs.declared.refusal.RtRefusal.TheVariants.{Failed}
 use Rattle.rt11_volume.specs.declared.volume.RtAccepted.{RtAccepted}
-use Rattle.f11_flx.specs.Asking.{Asking, Denies, Service, Who, asks}
+use Rattle.f11_flx.specs.Asking.{Asking, Denies, FilesService, Who, asks}
 use Rattle.f11_flx.specs.Copies.{FailsToCopyText}
 use Rattle.f11_flx.specs.Copying.{KeepsFailed, KeepsSpent, of_volume}
 use Rattle.f11_flx.specs.Ended.{IsLast}
@@ -24,13 +24,13 @@ use Rattle.f11_flx.specs.Filling.{Took}
 use Rattle.f11_flx.specs.Refusal.{is_lethal}
 use Rattle.f11_flx.specs.Source.{FailsAs, up_to_end}
 use Rattle.f11_flx.specs.ToRt.{
-  CopiesFile,
+  CopiesFileToRt,
   FailsLocked,
-  FailsToCopyFile,
-  FailsToCount,
-  FailsToFill,
+  FailsToCopyFileToRt,
+  FailsToCountAs,
+  FailsToFillToRt,
   GaveUp,
-  Undoes,
+  UndoesToRt,
   nowhere_refuses,
   nowhere_takes,
   rt_refuses,
@@ -108,7 +108,7 @@ module _ {D : Type 0} {met : Ghosts D} (who : Who) where
   module _ {E : Type 0} {met' : Ghosts E} (disk : E → Disk) (lun : ℕ) (file : FileId) (name : List ℕ) (day : ℕ) (m : CopyMode)
       (v w : Volume D met) (a b : RtAccepted E met')
     where
-      pub copied-keeps : (count : ℕ) → CopiesFile m of_volume disk who lun file name count day v w a b → KeepsSpent (given count) v w
+      pub copied-keeps : (count : ℕ) → CopiesFileToRt m of_volume disk who lun file name count day v w a b → KeepsSpent (given count) v w
       copied-keeps count h =
           let alive = granted-unspent who (asks (request.Access file access.Locked lun)) v h.opened h.opens in
           record {
@@ -116,7 +116,7 @@ module _ {D : Type 0} {met : Ghosts D} (who : Who) where
             untouched = λ dead. absurd (true-false (sym dead ∙ alive));
           }
 
-      pub uncopied-keeps : (e : FlxRefusal) → FailsToCopyFile m of_volume disk who lun file name day e v w a b → KeepsSpent (refused e) v w
+      pub uncopied-keeps : (e : FlxRefusal) → FailsToCopyFileToRt m of_volume disk who lun file name day e v w a b → KeepsSpent (refused e) v w
       uncopied-keeps e (inl k) =
           subst (λ x. KeepsSpent (refused x) v w) (sym k.is) (first-keeps who (request.Access file access.Locked lun) k.refusal v w k.denied)
       uncopied-keeps e (inr (inl k)) =
@@ -159,7 +159,7 @@ files-other e r same is = rt-apart r Failed (sym same ∙ is)
 bad-other : (e : FlxRefusal) → e ≡ BadRecord → e ≡ Rt Failed → ⊥
 bad-other e same is = bad-apart (sym same ∙ is)
 
-module _ {V E : Type 0} {met : Ghosts E} (S : Service V) (disk : E → Disk) (who : Who) (lun : ℕ) (name : List ℕ) where
+module _ {V E : Type 0} {met : Ghosts E} (S : FilesService V) (disk : E → Disk) (who : Who) (lun : ℕ) (name : List ℕ) where
   fails-other : (m : CopyMode) (attr : List ℕ) (n : ℕ) (e : FlxRefusal) (v w : V) (a b : RtAccepted E met) → has_failed a ≡ false →
       FailsAs m S (rt_takes disk) (rt_refuses disk) who lun name attr n e v w a b → e ≡ Rt Failed → ⊥
   fails-other Image attr n e v w a b alive (inl d) = files-other e d.refusal d.is
@@ -172,7 +172,7 @@ module _ {V E : Type 0} {met : Ghosts E} (S : Service V) (disk : E → Disk) (wh
       by (inr (inl d)) = bad-other e d.is
       by (inr (inr d)) = taken-other disk name e (length d.pieces) d.last d.pieces a d.between b alive d.took d.refused
 
-  undo-other : (x e : FlxRefusal) (a b : RtAccepted E met) → (x ≡ Rt Failed → ⊥) → Undoes disk name x e a b → e ≡ Rt Failed → ⊥
+  undo-other : (x e : FlxRefusal) (a b : RtAccepted E met) → (x ≡ Rt Failed → ⊥) → UndoesToRt disk name x e a b → e ≡ Rt Failed → ⊥
   undo-other x e a b other (inl h) is = other (sym h.same ∙ is)
   undo-other x e a b other (inr (inl h)) is = other (sym h.same ∙ is)
   undo-other x e a b other (inr (inr h)) is = by h.answer_is
@@ -182,7 +182,7 @@ module _ {V E : Type 0} {met : Ghosts E} (S : Service V) (disk : E → Disk) (wh
       by (inr y) = other (sym y.1 ∙ is)
 
   module _ (m : CopyMode) (attr : List ℕ) (n : ℕ) (e : FlxRefusal) (v w : V) (a b : RtAccepted E met) where
-    count-keeps : FailsToCount m S who lun name attr n e v w → b ≡ a → KeepsFailed disk (refused e) a b
+    count-keeps : FailsToCountAs m S who lun name attr n e v w → b ≡ a → KeepsFailed disk (refused e) a b
     count-keeps h left = by m h
       where
         text : (t : ToText) (p q : Nowhere) → FailsToCopyText S nowhere_takes nowhere_refuses who lun name t (up_to_end attr n) e v w p q →
@@ -195,11 +195,11 @@ module _ {V E : Type 0} {met : Ghosts E} (S : Service V) (disk : E → Disk) (wh
         fails p q (inl k) = unasked-bad disk e a b k.is left
         fails p q (inr k) = text k.0 p q k.2
 
-        by : (m : CopyMode) → FailsToCount m S who lun name attr n e v w → KeepsFailed disk (refused e) a b
+        by : (m : CopyMode) → FailsToCountAs m S who lun name attr n e v w → KeepsFailed disk (refused e) a b
         by Image h = absurd h
         by Text h = fails h.0 h.1 h.2
 
-    fill-keeps : (count day : ℕ) → FailsToFill m S disk who lun name attr n count day e v w a b → KeepsFailed disk (refused e) a b
+    fill-keeps : (count day : ℕ) → FailsToFillToRt m S disk who lun name attr n count day e v w a b → KeepsFailed disk (refused e) a b
     fill-keeps count day (inl h) =
         subst (λ x. KeepsFailed disk (refused x) a b) (sym h.is) (refused-keeps disk h.refusal a b h.fails.refused.alive h.fails.dead)
     fill-keeps count day (inr h) =
@@ -230,11 +230,11 @@ module _ {V E : Type 0} {met : Ghosts E} (S : Service V) (disk : E → Disk) (wh
     locked-keeps e v w a b (inr (inl k)) = count-keeps m k.attr k.blocks e k.seen w a b k.fails k.left
     locked-keeps e v w a b (inr (inr k)) = fill-keeps m k.attr k.blocks e k.walked w a b k.count day k.fails
 
-    pub made-keeps : (count : ℕ) (v w : V) (a b : RtAccepted E met) → CopiesFile m S disk who lun file name count day v w a b →
+    pub made-keeps : (count : ℕ) (v w : V) (a b : RtAccepted E met) → CopiesFileToRt m S disk who lun file name count day v w a b →
         KeepsFailed disk (given count) a b
     made-keeps count v w a b h = alive-keeps disk (given count) a b h.copies.fills.makes.alive (no-answer count (Rt Failed))
 
-    pub unmade-keeps : (e : FlxRefusal) (v w : V) (a b : RtAccepted E met) → FailsToCopyFile m S disk who lun file name day e v w a b →
+    pub unmade-keeps : (e : FlxRefusal) (v w : V) (a b : RtAccepted E met) → FailsToCopyFileToRt m S disk who lun file name day e v w a b →
         KeepsFailed disk (refused e) a b
     unmade-keeps e v w a b (inl k) = unasked-files disk e k.refusal a b k.is k.left
     unmade-keeps e v w a b (inr (inl k)) = gave-keeps k.refusal e k.stopped w a b (locked-keeps k.refusal k.opened k.stopped a b k.fails) k.gives

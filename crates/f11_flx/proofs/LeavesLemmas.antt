@@ -5,7 +5,7 @@ use Rattle.f11_store.specs.Accesses.{FreeIsEmpty}
 use Rattle.f11_store.specs.Store.{Store}
 use Rattle.f11_store.specs.declared.files.FileId.{FileId}
 use Rattle.f11_store.specs.declared.refusals.Refusal.{Refusal}
-use Rattle.f11_flx.specs.Asking.{BreaksOff, Granted, Who, plain}
+use Rattle.f11_flx.specs.Asking.{BreaksOffAsking, Granted, Who, plain}
 use Rattle.f11_flx.specs.CopyFromRt.{IsAsBefore, Making, creation, deletion, filling, giving_up, new_id, opening}
 use Rattle.f11_flx.specs.MakingLaws.{RefusedCopyLeaves, RefusedMakingLeaves}
 use Rattle.f11_flx.specs.declared.refusal.FlxRefusal.TheVariants.{BadRecord, Files, LineTooLong, Rt}
@@ -27,11 +27,11 @@ module _ (who : Who) (lun : ℕ) (s : Store) (tidy : FreeIsEmpty s) (stand : Acc
   now-open id t u h g = (subst (λ x. IsOpenIn who.caller id s who lun x) (sym g.2) (opened who.caller id s who lun t g.0 h g.1), lun-was-free who.caller id s who lun t g.0 h g.1)
 
 -- what was refused alone changed nothing
-one-refused : (who : Who) (making : Making) (id : FileId) (e : Refusal) (t u : Store) → BreaksOff plain who (creation making id) e t u → u ≡ t
+one-refused : (who : Who) (making : Making) (id : FileId) (e : Refusal) (t u : Store) → BreaksOffAsking plain who (creation making id) e t u → u ≡ t
 one-refused who making id e t u (inl d) = d.2.store_stays
 one-refused who making id e t u (inr b) = absurd b.2
 
-access-refused : (who : Who) (lun : ℕ) (id : FileId) (e : Refusal) (t u : Store) → BreaksOff plain who (opening lun id) e t u → u ≡ t
+access-refused : (who : Who) (lun : ℕ) (id : FileId) (e : Refusal) (t u : Store) → BreaksOffAsking plain who (opening lun id) e t u → u ≡ t
 access-refused who lun id e t u (inl d) = d.2.store_stays
 access-refused who lun id e t u (inr b) = absurd b.2
 

@@ -6,10 +6,10 @@ use Rattle.f11_store.specs.declared.files.FileId.{FileId}
 use Rattle.f11_store.specs.declared.requests.Request.{Request}
 use Rattle.rt11_volume.specs.Files.{is_fault}
 use Rattle.rt11_volume.specs.declared.volume.RtAccepted.{RtAccepted}
-use Rattle.f11_flx.specs.Asking.{Service, Who}
+use Rattle.f11_flx.specs.Asking.{FilesService, Who}
 use Rattle.f11_flx.specs.CopyFromRt.{Making}
 use Rattle.f11_flx.specs.FromRt.{CopiesFrom, FailsToCopyFrom}
-use Rattle.f11_flx.specs.Making.{FailsToFill, FailsToFillFile, FailsToMakeCopy, Undoing, UndoingIf}
+use Rattle.f11_flx.specs.Making.{FailsToFillFromRt, FailsToFillFile, FailsToMakeCopy, Undoing, UndoingIf}
 use Rattle.f11_flx.specs.Planning.{FailsToPlan}
 use Rattle.f11_flx.specs.Refusal.{is_lethal}
 use Rattle.f11_flx.specs.RtSource.{Looks}
@@ -32,7 +32,7 @@ calm-rt BadRecord h = refl
 calm-rt LineTooLong h = refl
 
 -- what undoes something doesn't change that
-pub undoing-rt : {V : Type 0} (S : Service V) (who : Who) (r : Request) (f f' : FlxRefusal) (v w : V) → Undoing S who r f f' v w → is-rt-fault f' ≡ is-rt-fault f
+pub undoing-rt : {V : Type 0} (S : FilesService V) (who : Who) (r : Request) (f f' : FlxRefusal) (v w : V) → Undoing S who r f f' v w → is-rt-fault f' ≡ is-rt-fault f
 undoing-rt S who r f f' v w h = by (is_lethal f) refl h
   where
     chosen : (e : Rattle.f11_store.specs.declared.refusals.Refusal.Refusal) (b : Bool) → is_lethal f ≡ false → is-rt-fault (if b then Files e else f) ≡ is-rt-fault f
@@ -44,8 +44,8 @@ undoing-rt S who r f f' v w h = by (is_lethal f) refl h
     by false is (inl h) = ap is-rt-fault h.same
     by false is (inr h) = ap is-rt-fault h.answer ∙ chosen h.e (is_lethal (Files h.e)) is
 
-module _ {V E : Type 0} {met : Ghosts E} (S : Service V) (disk : E → Disk) (m : CopyMode) (who : Who) (lun : ℕ) (name : List ℕ) where
-  fill-looks : (f : FlxRefusal) (many n : ℕ) (a b : RtAccepted E met) (v w : V) → FailsToFill S disk m who lun name many n f a b v w → Looks disk (is-rt-fault f) a b
+module _ {V E : Type 0} {met : Ghosts E} (S : FilesService V) (disk : E → Disk) (m : CopyMode) (who : Who) (lun : ℕ) (name : List ℕ) where
+  fill-looks : (f : FlxRefusal) (many n : ℕ) (a b : RtAccepted E met) (v w : V) → FailsToFillFromRt S disk m who lun name many n f a b v w → Looks disk (is-rt-fault f) a b
   fill-looks (Files e) many n a b v w h = h.reads.looks
   fill-looks (Rt e) many n a b v w h = h.stops.looks
   fill-looks BadRecord many n a b v w h = absurd h

@@ -14,11 +14,11 @@ use Rattle.f11_runs.proofs.AccessLemmas.{true-false}
 use Rattle.rt11_volume.specs.Files.{file_area, is_fault}
 use Rattle.rt11_volume.specs.Verifying.Verdict.{IsSoundDisk}
 use Rattle.rt11_volume.specs.declared.volume.RtAccepted.{RtAccepted}
-use Rattle.f11_flx.specs.Asking.{BreaksOff, Denies, Fails, Granted, Service, Who, asks, plain, writes_of}
+use Rattle.f11_flx.specs.Asking.{BreaksOffAsking, Denies, Fails, Granted, FilesService, Who, asks, plain, writes_of}
 use Rattle.f11_flx.specs.Conversion.{copied_from_rt}
 use Rattle.f11_flx.specs.CopyFromRt.{FailsToCopyFromRt, FailsToMakeFile, IsAsBefore, Making, as_file, creation, deletion, entry, filling, giving_up, new_id, opening}
 use Rattle.f11_flx.specs.FromRt.{FailsToCopyFrom}
-use Rattle.f11_flx.specs.Making.{BreaksFilling, FailsToFill, FailsToFillFile, FailsToMakeCopy, Fills, LacksBlock, LacksCopy, extension, filling_of, is_created}
+use Rattle.f11_flx.specs.Making.{BreaksFilling, FailsToFillFromRt, FailsToFillFile, FailsToMakeCopy, FillsFromRt, LacksBlock, LacksCopy, extension, filling_of, is_created}
 use Rattle.f11_flx.specs.Refusal.{is_lethal}
 use Rattle.f11_flx.specs.Target.{rt_disk}
 use Rattle.f11_flx.specs.declared.mode.CopyMode.{CopyMode}
@@ -36,7 +36,7 @@ use Rattle.f11_flx.proofs.UndoneLemmas.{as-before, breaks-sound, clean-undoing, 
 calm : (f f' : FlxRefusal) → f' ≡ f → is_lethal f' ≡ false → is_lethal f ≡ false
 calm f f' is clean = ap is_lethal (sym is) ∙ clean
 
-module _ {V : Type 0} (S : Service V) (who : Who) (lun : ℕ) (view : V → Store) (is_sound : V → Bool) (seen : IsSeenPlain S view is_sound) where
+module _ {V : Type 0} (S : FilesService V) (who : Who) (lun : ℕ) (view : V → Store) (is_sound : V → Bool) (seen : IsSeenPlain S view is_sound) where
   -- it was accessed
   now-open : (id : FileId) (s : Store) (v w : V) → IsNewIn who.caller id s.access s (view v) → is_sound v ≡ true → Granted S who (opening lun id) v w →
       IsOpenIn who.caller id s who lun (view w) × (s.access who.task lun ≡ None) × (is_sound w ≡ true) × Granted plain who (opening lun id) (view v) (view w)
@@ -62,10 +62,10 @@ module _ {V : Type 0} (S : Service V) (who : Who) (lun : ℕ) (view : V → Stor
   not-created making e v w clean sound (inl d) = (seen.denied who (asks (request.Create 0 (ident_with making.name) making.attr)) e v w d sound clean).0
   not-created making e v w clean sound (inr d) = absurd (true-false (ap (λ x. is_lethal (Files x)) (sym d.2) ∙ clean))
 
-module _ {V E : Type 0} {met : Ghosts E} (S : Service V) (disk : E → Disk) (m : CopyMode) (who : Who) (lun : ℕ) (name : List ℕ) (view : V → Store) (is_sound : V → Bool) (seen : IsSeenPlain S view is_sound) where
+module _ {V E : Type 0} {met : Ghosts E} (S : FilesService V) (disk : E → Disk) (m : CopyMode) (who : Who) (lun : ℕ) (name : List ℕ) (view : V → Store) (is_sound : V → Bool) (seen : IsSeenPlain S view is_sound) where
   -- a file that isn't filled stays accessed
   still-filling : (f : FlxRefusal) (id : FileId) (s : Store) (many n : ℕ) (a b : RtAccepted E met) (v w : V) → is_lethal f ≡ false → IsOpenIn who.caller id s who lun (view v) → is_sound v ≡ true →
-      FailsToFill S disk m who lun name many n f a b v w → IsOpenIn who.caller id s who lun (view w) × (is_sound w ≡ true)
+      FailsToFillFromRt S disk m who lun name many n f a b v w → IsOpenIn who.caller id s who lun (view w) × (is_sound w ≡ true)
   still-filling (Files e) id s many n a b v w clean h sound k =
       let one = breaks-sound S view is_sound seen who (filling_of lun n k.pieces) e v w k.breaks sound clean in
       (filling-breaks who lun id s n k.pieces e (view v) (view w) h one.0, one.1)
@@ -120,8 +120,8 @@ module _ {V E : Type 0} {met : Ghosts E} (S : Service V) (disk : E → Disk) (m 
 
   -- a making that is refused is refused as the first request is, and undone, where the blocks that are written are the making's
   pub making-refused : (f' : FlxRefusal) (many n : ℕ) (making : Making) (a b : RtAccepted E met) (v w : V) → is_lethal f' ≡ false → is_sound v ≡ true → FreeIsEmpty (view v) → AccessesStand (view v) →
-      ((x y : V) → Fills S disk m who lun name many n a b x y → Granted S who (filling lun making.blocks) x y) →
-      ((e : Refusal) (x y : V) → BreaksFilling S disk m who lun name many n e a b x y → BreaksOff S who (filling lun making.blocks) e x y) →
+      ((x y : V) → FillsFromRt S disk m who lun name many n a b x y → Granted S who (filling lun making.blocks) x y) →
+      ((e : Refusal) (x y : V) → BreaksFilling S disk m who lun name many n e a b x y → BreaksOffAsking S who (filling lun making.blocks) e x y) →
       ((e : Rattle.rt11_volume.specs.declared.refusal.RtRefusal.RtRefusal) (x y : V) → is_fault e ≡ false → LacksBlock S disk who lun name many n e a b x y → ⊥) →
       ((x y : V) → LacksCopy S disk m who lun name many n a b x y → ⊥) →
       FailsToMakeCopy S disk m who lun name many n making f' a b v w → (e : Refusal) × (f' ≡ Files e) × FailsToMakeFile making who lun (new_id (view v)) e (view v) (view w)
@@ -144,7 +144,7 @@ module _ {V E : Type 0} {met : Ghosts E} (S : Service V) (disk : E → Disk) (m 
 
       -- it was opened and being filled, and a request was refused
       broke : (f0 : FlxRefusal) (between left : V) → is_lethal f0 ≡ false → h.f ≡ f0 → is_sound between ≡ true → Granted plain who (opening lun h.id) (view h.created) (view between) →
-          FailsToFill S disk m who lun name many n f0 a b between left → Granted plain who (giving_up lun ++ deletion h.id) (view left) (view w) →
+          FailsToFillFromRt S disk m who lun name many n f0 a b between left → Granted plain who (giving_up lun ++ deletion h.id) (view left) (view w) →
           (e : Refusal) × (f' ≡ Files e) × FailsToMakeFile making who lun (new_id (view v)) e (view v) (view w)
       broke (Files e) between left clean is calm-now opens fails undoes =
           let d = (breaks-sound S view is_sound seen who (filling lun making.blocks) e between left (broken e between left fails) calm-now clean).0 in
@@ -198,7 +198,7 @@ module _ {V E : Type 0} {met : Ghosts E} (S : Service V) (disk : E → Disk) (m 
       (λ x y k. filled-as-planned disk m name S who lun h.many h.blocks h.attr a h.between b x y p k)
       (λ e x y k.
       let front = k.reads.are p.sound p.contents p.later in
-      subst (λ n. BreaksOff S who (filling_of lun n p.plan.pieces) e x y) (sym p.plan.blocks_are) (k.whole p.contents front p.plan.count p.plan.pieces h.attr p.plan.copied))
+      subst (λ n. BreaksOffAsking S who (filling_of lun n p.plan.pieces) e x y) (sym p.plan.blocks_are) (k.whole p.contents front p.plan.count p.plan.pieces h.attr p.plan.copied))
       (λ e x y none k. less-no (length p.contents) h.many (k.stops.few (stays-alive disk a h.between h.plans.looks h.plans.alive) none p.sound p.contents p.later) p.plan.count)
       (λ x y k. some-none (copied_from_rt m p.contents) p.plan.copied.copy (sym p.plan.copied.converted ∙ k.none p.contents (k.reads.are p.sound p.contents p.later) p.plan.count))
       (h.fails p.plan.pieces) in

@@ -16,15 +16,15 @@ use Rattle.rt11_volume.specs.Verifying.Verdict.{IsRtAccepted, IsSoundDisk}
 use Rattle.rt11_volume.specs.declared.refusal.RtRefusal.{RtRefusal}
 use Rattle.rt11_volume.specs.declared.volume.RtAccepted.{RtAccepted}
 use Rattle.f11_store.specs.declared.refusals.Refusal.{Refusal}
-use Rattle.f11_flx.specs.Asking.{Denies, Granted, Service, Who, writes, writes_of}
+use Rattle.f11_flx.specs.Asking.{Denies, Granted, FilesService, Who, writes, writes_of}
 use Rattle.f11_flx.specs.Filling.{Out, pending}
 use Rattle.f11_flx.specs.Lines.{in_whole_blocks, lines_of, without_zeros}
-use Rattle.f11_flx.specs.Passes.{Begins, EndsLines, FailsToEnd, FailsToFlush, FailsToReadLines, Flushes, ReadsLines, StopsAtEnd}
-use Rattle.f11_flx.specs.RtSource.{FailsToReadPlace, HasContents, Looks, ReadsFirst, ReadsPlace, StopsReading}
+use Rattle.f11_flx.specs.Passes.{BeginsLines, EndsLines, FailsToEnd, FailsToFlush, FailsToReadLines, Flushes, ReadsLines, StopsAtEnd}
+use Rattle.f11_flx.specs.RtSource.{FailsToReadPlace, HasContents, Looks, ReadsRtBlocks, ReadsPlace, StopsReadingRt}
 use Rattle.f11_flx.specs.Spelled.{variable_records}
 use Rattle.f11_flx.specs.Target.{rt_disk, rt_store}
 use Rattle.f11_flx.specs.ToRecords.{EndsText, bytes_to_come, gives, longest_given}
-use Rattle.f11_flx.specs.Writing.{FailsToWrite, MeetsLongLine, Onward, StopsWriting, Writes, WritesNext, out_bytes}
+use Rattle.f11_flx.specs.Writing.{FailsToWritePieces, MeetsLongLine, Onward, StopsAtPiece, WritesPieces, WritesNext, out_bytes}
 use Rattle.f11_flx.specs.declared.refusal.FlxRefusal.{FlxRefusal}
 use Rattle.f11_flx.specs.declared.refusal.FlxRefusal.TheVariants.{BadRecord, Files, LineTooLong, Rt}
 use Rattle.f11_flx.specs.declared.to_records.ToRecords.{ToRecords}
@@ -74,11 +74,11 @@ module _ {E : Type 0} {met : Ghosts E} (disk : E → Disk) where
       HasContents name contents (rt_store disk b)
   same-contents name contents fault a b h c = subst (λ t. HasContents name contents t) (sym (same-store fault a b h)) c
 
-  pub reads-none : (name : List ℕ) (v : RtAccepted E met) → ReadsFirst disk name [] v v
+  pub reads-none : (name : List ℕ) (v : RtAccepted E met) → ReadsRtBlocks disk name [] v v
   reads-none name v = record { looks = looks-none v; whole = All-nil is-whole; are = λ s contents h. refl }
 
-  pub reads-more : (name : List ℕ) (blocks : List (List ℕ)) (place : ℕ) (block : List ℕ) (a b c : RtAccepted E met) → ReadsFirst disk name blocks a b → ReadsPlace disk name place block b c →
-      place ≡ length blocks → ReadsFirst disk name (blocks ++ block ∷ []) a c
+  pub reads-more : (name : List ℕ) (blocks : List (List ℕ)) (place : ℕ) (block : List ℕ) (a b c : RtAccepted E met) → ReadsRtBlocks disk name blocks a b → ReadsPlace disk name place block b c →
+      place ≡ length blocks → ReadsRtBlocks disk name (blocks ++ block ∷ []) a c
   reads-more name blocks place block a b c h k at = record {
     looks = looks-then false a b c h.looks k.looks;
     whole = All-append is-whole blocks (block ∷ []) h.whole (All-cons is-whole block [] k.size (All-nil is-whole));
@@ -88,8 +88,8 @@ module _ {E : Type 0} {met : Ghosts E} (disk : E → Disk) where
         ∙ ap (λ n. take n contents ++ block ∷ []) at ∙ ap (λ l. l ++ block ∷ []) (h.are s contents has);
   }
 
-  pub stops-reading : (name : List ℕ) (blocks : List (List ℕ)) (place many : ℕ) (e : RtRefusal) (a b c : RtAccepted E met) → ReadsFirst disk name blocks a b → FailsToReadPlace disk name place e b c →
-      place < many → StopsReading disk name many e a c
+  pub stops-reading : (name : List ℕ) (blocks : List (List ℕ)) (place many : ℕ) (e : RtRefusal) (a b c : RtAccepted E met) → ReadsRtBlocks disk name blocks a b → FailsToReadPlace disk name place e b c →
+      place < many → StopsReadingRt disk name many e a c
   stops-reading name blocks place many e a b c h k low = record {
     looks = looks-then (is_fault e) a b c h.looks k.looks;
     alive = λ alive. k.alive (stays-alive a b h.looks alive);
@@ -103,7 +103,7 @@ pub concat-one : (blocks : List (List ℕ)) (block : List ℕ) → concat (block
 concat-one blocks block = concat-append blocks (block ∷ []) ∙ ap (λ l. concat blocks ++ l) (append-nil block)
 
 -- a text and then more of it
-module _ {V : Type 0} (S : Service V) (who : Who) (lun : ℕ) where
+module _ {V : Type 0} (S : FilesService V) (who : Who) (lun : ℕ) where
   pub granted-writes : (place : ℕ) (xs ys : List (List ℕ)) (u v w : V) → Granted S who (writes_of lun place xs) u v → Granted S who (writes_of lun (place + length xs) ys) v w → Granted S who (writes_of lun place (xs ++ ys)) u w
   granted-writes place xs ys u v w h k =
       subst (λ l. Granted S who l u w) (sym (writes-append lun place xs ys)) (granted-append S who (writes_of lun place xs) (writes_of lun (place + length xs) ys) u v w h k)
@@ -111,7 +111,7 @@ module _ {V : Type 0} (S : Service V) (who : Who) (lun : ℕ) where
   pub onward-of : (s t : ToRecords) (a b more : List ℕ) (o p : Out) (pieces : List (List ℕ)) → ((x : List ℕ) → Onward s t (a ++ x) x o p pieces) → Onward s t ((a ++ b) ++ more) (b ++ more) o p pieces
   onward-of s t a b more o p pieces h = subst (λ x. Onward s t x (b ++ more) o p pieces) (sym (append_assoc a b more)) (h (b ++ more))
 
-  pub writes-then : (s t u : ToRecords) (a b : List ℕ) (o p q : Out) (v w x : V) → Writes S who lun s t a [] o p v w → Writes S who lun t u b [] p q w x → Writes S who lun s u (a ++ b) [] o q v x
+  pub writes-then : (s t u : ToRecords) (a b : List ℕ) (o p q : Out) (v w x : V) → WritesPieces S who lun s t a [] o p v w → WritesPieces S who lun t u b [] p q w x → WritesPieces S who lun s u (a ++ b) [] o q v x
   writes-then s t u a b o p q v w x h k = record {
     pieces = h.pieces ++ k.pieces;
     granted = granted-writes o.place h.pieces k.pieces v w x h.granted (subst (λ n. Granted S who (writes_of lun n k.pieces) w x) h.place k.granted);
@@ -121,7 +121,7 @@ module _ {V : Type 0} (S : Service V) (who : Who) (lun : ℕ) where
     unended = omega (arith, h.unended, k.unended, length-append {A = ℕ} a b);
   }
 
-  pub writes-then-stops : (s t : ToRecords) (a b : List ℕ) (o p : Out) (e : Refusal) (v w x : V) → Writes S who lun s t a [] o p v w → StopsWriting S who lun t b p e w x → StopsWriting S who lun s (a ++ b) o e v x
+  pub writes-then-stops : (s t : ToRecords) (a b : List ℕ) (o p : Out) (e : Refusal) (v w x : V) → WritesPieces S who lun s t a [] o p v w → StopsAtPiece S who lun t b p e w x → StopsAtPiece S who lun s (a ++ b) o e v x
   writes-then-stops s t a b o p e v w x h k = record {
     pieces = h.pieces ++ k.pieces;
     last = k.last;
@@ -138,7 +138,7 @@ module _ {V : Type 0} (S : Service V) (who : Who) (lun : ℕ) where
         );
   }
 
-  pub writes-then-long : (s t : ToRecords) (a b : List ℕ) (o p : Out) (v w x : V) → Writes S who lun s t a [] o p v w → MeetsLongLine S who lun t b p w x → MeetsLongLine S who lun s (a ++ b) o v x
+  pub writes-then-long : (s t : ToRecords) (a b : List ℕ) (o p : Out) (v w x : V) → WritesPieces S who lun s t a [] o p v w → MeetsLongLine S who lun t b p w x → MeetsLongLine S who lun s (a ++ b) o v x
   writes-then-long s t a b o p v w x h k = record {
     pieces = h.pieces ++ k.pieces;
     granted = granted-writes o.place h.pieces k.pieces v w x h.granted (subst (λ n. Granted S who (writes_of lun n k.pieces) w x) h.place k.granted);
@@ -146,20 +146,20 @@ module _ {V : Type 0} (S : Service V) (who : Who) (lun : ℕ) where
   }
 
   -- the bytes that are to come of a text, whose beginning was read
-  pub to-come : (s t : ToRecords) (a b : List ℕ) (o p : Out) (v w : V) → Begins s → o.to ≡ 0 → (h : Writes S who lun s t a [] o p v w) →
+  pub to-come : (s t : ToRecords) (a b : List ℕ) (o p : Out) (v w : V) → BeginsLines s → o.to ≡ 0 → (h : WritesPieces S who lun s t a [] o p v w) →
       variable_records (lines_of (without_zeros (a ++ b))) ≡ concat h.pieces ++ out_bytes p t b
   to-come s t a b o p v w begins empty h =
       let on = (onward-of s t a b [] o p h.pieces h.onward).bytes in
       let none : pending o ≡ [] = ap (λ n. take n o.block) empty in
       sym (ap (λ l. l ++ bytes_to_come s (a ++ b)) none ∙ begins.bytes (a ++ b)) ∙ ap (λ l. out_bytes o s l) (sym (append-nil (a ++ b))) ∙ on ∙ ap (λ l. concat h.pieces ++ out_bytes p t l) (append-nil b)
 
-  pub few-to-come : (s t : ToRecords) (a b : List ℕ) (o p : Out) (v w : V) → Begins s → o.to ≡ 0 → o.place ≡ 0 → Writes S who lun s t a [] o p v w →
+  pub few-to-come : (s t : ToRecords) (a b : List ℕ) (o p : Out) (v w : V) → BeginsLines s → o.to ≡ 0 → o.place ≡ 0 → WritesPieces S who lun s t a [] o p v w →
       512 * p.place + length (out_bytes p t b) ≤ 2 * length (a ++ b) + 2
   few-to-come s t a b o p v w begins empty first h =
       let all = ap (λ (l : List ℕ). length l) (to-come s t a b o p v w begins empty h) in
       omega (arith, all, records_are_few (a ++ b), length-append {A = ℕ} (concat h.pieces) (out_bytes p t b), whole-length h.pieces h.whole, h.place, first)
 
-module _ {V E : Type 0} {met : Ghosts E} (S : Service V) (disk : E → Disk) (who : Who) (lun : ℕ) (name : List ℕ) where
+module _ {V E : Type 0} {met : Ghosts E} (S : FilesService V) (disk : E → Disk) (who : Who) (lun : ℕ) (name : List ℕ) where
   pub lines-none : (s : ToRecords) (o : Out) (rt : RtAccepted E met) (v : V) → ReadsLines S disk who lun name 0 s s o o rt rt v v
   lines-none s o rt v = record {
     blocks = [];
@@ -169,12 +169,12 @@ module _ {V E : Type 0} {met : Ghosts E} (S : Service V) (disk : E → Disk) (wh
   }
 
   pub lines-more : (many : ℕ) (block : List ℕ) (s t u : ToRecords) (o p q : Out) (a b c : RtAccepted E met) (v w x : V) → ReadsLines S disk who lun name many s t o p a b v w → ReadsPlace disk name many block b c →
-      Writes S who lun t u block [] p q w x → ReadsLines S disk who lun name (many + 1) s u o q a c v x
+      WritesPieces S who lun t u block [] p q w x → ReadsLines S disk who lun name (many + 1) s u o q a c v x
   lines-more many block s t u o p q a b c v w x h r k = record {
     blocks = h.blocks ++ block ∷ [];
     reads = reads-more disk name h.blocks many block a b c h.reads r (sym h.count);
     count = length-append h.blocks (block ∷ []) ∙ ap (λ n. n + 1) h.count;
-    writes = subst (λ l. Writes S who lun s u l [] o q v x) (sym (concat-one h.blocks block)) (writes-then S who lun s t u (concat h.blocks) block o p q v w x h.writes k);
+    writes = subst (λ l. WritesPieces S who lun s u l [] o q v x) (sym (concat-one h.blocks block)) (writes-then S who lun s t u (concat h.blocks) block o p q v w x h.writes k);
   }
 
   pub lines-unread : (place many : ℕ) (e : RtRefusal) (s t : ToRecords) (o p : Out) (a b c : RtAccepted E met) (v w : V) → o.place ≡ 0 → ReadsLines S disk who lun name place s t o p a b v w →
@@ -186,12 +186,12 @@ module _ {V E : Type 0} {met : Ghosts E} (S : Service V) (disk : E → Disk) (wh
   }
 
   pub lines-fail : (f : FlxRefusal) (place many : ℕ) (block : List ℕ) (s t : ToRecords) (o p : Out) (a b c : RtAccepted E met) (v w x : V) → ReadsLines S disk who lun name place s t o p a b v w → ReadsPlace disk name place block b c →
-      FailsToWrite S who lun t block p f w x → place < many → FailsToReadLines S disk who lun name many s o f a c v x
+      FailsToWritePieces S who lun t block p f w x → place < many → FailsToReadLines S disk who lun name many s o f a c v x
   lines-fail (Files e) place many block s t o p a b c v w x h r k low = record {
     blocks = h.blocks ++ block ∷ [];
     reads = reads-more disk name h.blocks place block a b c h.reads r (sym h.count);
     count = omega (arith, length-append h.blocks (block ∷ []), h.count, low);
-    stops = subst (λ l. StopsWriting S who lun s l o e v x) (sym (concat-one h.blocks block)) (writes-then-stops S who lun s t (concat h.blocks) block o p e v w x h.writes k);
+    stops = subst (λ l. StopsAtPiece S who lun s l o e v x) (sym (concat-one h.blocks block)) (writes-then-stops S who lun s t (concat h.blocks) block o p e v w x h.writes k);
   }
   lines-fail (Rt e) place many block s t o p a b c v w x h r k low = absurd k
   lines-fail BadRecord place many block s t o p a b c v w x h r k low = absurd k
@@ -202,7 +202,7 @@ module _ {V E : Type 0} {met : Ghosts E} (S : Service V) (disk : E → Disk) (wh
     meets = subst (λ l. MeetsLongLine S who lun s l o v x) (sym (concat-one h.blocks block)) (writes-then-long S who lun s t (concat h.blocks) block o p v w x h.writes k);
   }
 
-  pub lines-few : (place many : ℕ) (block : List ℕ) (s t : ToRecords) (o p : Out) (a b : RtAccepted E met) (v w : V) → Begins s → o.to ≡ 0 → o.place ≡ 0 → ReadsLines S disk who lun name place s t o p a b v w →
+  pub lines-few : (place many : ℕ) (block : List ℕ) (s t : ToRecords) (o p : Out) (a b : RtAccepted E met) (v w : V) → BeginsLines s → o.to ≡ 0 → o.place ≡ 0 → ReadsLines S disk who lun name place s t o p a b v w →
       place < many → many < 65536 → length block ≡ 512 → 512 * p.place + length (out_bytes p t block) < 4294967295
   lines-few place many block s t o p a b v w begins empty first h low small size =
       omega (arith, few-to-come S who lun s t (concat h.blocks) block o p v w begins empty first h.writes, length-append {A = ℕ} (concat h.blocks) block, whole-length h.blocks h.reads.whole, h.count, low, small, size)
@@ -220,7 +220,7 @@ pub in-whole-part : (bytes : List ℕ) (n : ℕ) → length bytes ≡ n → 0 < 
 in-whole-part bytes n is some few =
     ap (λ (k : ℕ). bytes ++ replicate ((512 - k % 512) % 512) 0) is ∙ ap (λ (k : ℕ). bytes ++ replicate k 0) (omega (arith, some, few))
 
-module _ {V : Type 0} (S : Service V) (who : Who) (lun : ℕ) where
+module _ {V : Type 0} (S : FilesService V) (who : Who) (lun : ℕ) where
   -- so many bytes are filled
   filled : (o : Out) (block : List ℕ) → length block ≡ 512 → o.to < 512 → block ≡ take o.to o.block ++ replicate (512 - o.to) 0 → length (take o.to o.block) ≡ o.to
   filled o block size room is =
@@ -241,21 +241,21 @@ module _ {V : Type 0} (S : Service V) (who : Who) (lun : ℕ) where
   }
 
   -- the end of the text: what is to come of it
-  end-onward : (s t u : ToRecords) (o p : Out) (v w : V) → EndsText s t → (h : Writes S who lun t u [] [] o p v w) → Onward s u [] [] o p h.pieces
+  end-onward : (s t u : ToRecords) (o p : Out) (v w : V) → EndsText s t → (h : WritesPieces S who lun t u [] [] o p v w) → Onward s u [] [] o p h.pieces
   end-onward s t u o p v w e h =
       let first : Onward s t [] [] o o [] = record { bytes = ap (λ l. pending o ++ l) e.goes_on.bytes; longest = e.goes_on.longest; long = e.goes_on.long } in
       onward-then s t u [] [] [] o o p [] h.pieces first (h.onward [])
 
   -- nothing comes behind it
-  end-bytes : (s t u : ToRecords) (o p : Out) (v w : V) → EndsText s t → (h : Writes S who lun t u [] [] o p v w) → gives u ≡ false → out_bytes o s [] ≡ concat h.pieces ++ pending p
+  end-bytes : (s t u : ToRecords) (o p : Out) (v w : V) → EndsText s t → (h : WritesPieces S who lun t u [] [] o p v w) → gives u ≡ false → out_bytes o s [] ≡ concat h.pieces ++ pending p
   end-bytes s t u o p v w e h idle =
       let none = records_end u (omega (arith, h.unended, e.none_open)) idle in
       (end-onward s t u o p v w e h).bytes ∙ ap (λ l. concat h.pieces ++ (pending p ++ l)) none.bytes ∙ ap (λ l. concat h.pieces ++ l) (append-nil (pending p))
 
-  end-whole : (s t u : ToRecords) (o p : Out) (v w : V) → EndsText s t → (h : Writes S who lun t u [] [] o p v w) → gives u ≡ false → in_whole_blocks (out_bytes o s []) ≡ concat h.pieces ++ in_whole_blocks (pending p)
+  end-whole : (s t u : ToRecords) (o p : Out) (v w : V) → EndsText s t → (h : WritesPieces S who lun t u [] [] o p v w) → gives u ≡ false → in_whole_blocks (out_bytes o s []) ≡ concat h.pieces ++ in_whole_blocks (pending p)
   end-whole s t u o p v w e h idle = ap in_whole_blocks (end-bytes s t u o p v w e h idle) ∙ in-whole-behind (concat h.pieces) (pending p) (length h.pieces) (whole-length h.pieces h.whole)
 
-  pub ends-lines : (s t u : ToRecords) (o p q : Out) (blocks end longest : ℕ) (v w x : V) → EndsText s t → Writes S who lun t u [] [] o p v w → gives u ≡ false → Flushes S who lun p q end w x →
+  pub ends-lines : (s t u : ToRecords) (o p q : Out) (blocks end longest : ℕ) (v w x : V) → EndsText s t → WritesPieces S who lun t u [] [] o p v w → gives u ≡ false → Flushes S who lun p q end w x →
       blocks ≡ q.place → longest ≡ longest_given u → EndsLines S who lun s o blocks end longest v x
   ends-lines s t u o p q blocks end longest v w x e h idle f are is =
       let none = records_end u (omega (arith, h.unended, e.none_open)) idle in
@@ -271,7 +271,7 @@ module _ {V : Type 0} (S : Service V) (who : Who) (lun : ℕ) where
         short = sym on.long ∙ none.long;
       }
 
-  pub stops-at-last : (s t u : ToRecords) (o p : Out) (e : Refusal) (v w x : V) → EndsText s t → Writes S who lun t u [] [] o p v w → gives u ≡ false → FailsToFlush S who lun p e w x → StopsAtEnd S who lun s o e v x
+  pub stops-at-last : (s t u : ToRecords) (o p : Out) (e : Refusal) (v w x : V) → EndsText s t → WritesPieces S who lun t u [] [] o p v w → gives u ≡ false → FailsToFlush S who lun p e w x → StopsAtEnd S who lun s o e v x
   stops-at-last s t u o p e v w x ends h idle f = record {
     pieces = h.pieces;
     last = f.last;
@@ -289,7 +289,7 @@ module _ {V : Type 0} (S : Service V) (who : Who) (lun : ℕ) where
   begins-whole : (bytes : List ℕ) (pieces : List (List ℕ)) (rest : List ℕ) → All is-whole pieces → bytes ≡ concat pieces ++ rest → in_whole_blocks bytes ≡ concat pieces ++ in_whole_blocks rest
   begins-whole bytes pieces rest whole is = ap in_whole_blocks is ∙ in-whole-behind (concat pieces) rest (length pieces) (whole-length pieces whole)
 
-  pub end-fails : (f : FlxRefusal) (s t : ToRecords) (o : Out) (v w : V) → EndsText s t → FailsToWrite S who lun t [] o f v w → FailsToEnd S who lun s o f v w
+  pub end-fails : (f : FlxRefusal) (s t : ToRecords) (o : Out) (v w : V) → EndsText s t → FailsToWritePieces S who lun t [] o f v w → FailsToEnd S who lun s o f v w
   end-fails (Files e) s t o v w ends h =
       let none = h.begins [] in
       record {
@@ -306,7 +306,7 @@ module _ {V : Type 0} (S : Service V) (who : Who) (lun : ℕ) where
   end-fails BadRecord s t o v w ends h = absurd h
   end-fails LineTooLong s t o v w ends h = record { pieces = h.pieces; granted = h.granted; long = sym ends.goes_on.long ∙ h.long [] }
 
-  pub end-few : (s t u : ToRecords) (o p : Out) (v w : V) → EndsText s t → Writes S who lun t u [] [] o p v w → p.to < 512 → 512 * o.place + length (out_bytes o s []) < 4294966000 → 512 * p.place + p.to < 4294967295
+  pub end-few : (s t u : ToRecords) (o p : Out) (v w : V) → EndsText s t → WritesPieces S who lun t u [] [] o p v w → p.to < 512 → 512 * o.place + length (out_bytes o s []) < 4294966000 → 512 * p.place + p.to < 4294967295
   end-few s t u o p v w e h room few =
       let on = ap (λ (l : List ℕ). length l) (end-onward s t u o p v w e h).bytes in
       omega (arith, on, few, room, h.place, length-append {A = ℕ} (concat h.pieces) (out_bytes p u []), whole-length h.pieces h.whole)

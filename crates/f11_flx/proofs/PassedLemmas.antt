@@ -10,11 +10,11 @@ use Rattle.f11_dev.specs.Disk.{Disk}
 use Rattle.f11_dev.specs.declared.device.Device.{Ghosts}
 use Rattle.rt11_volume.specs.declared.volume.RtAccepted.{RtAccepted}
 use Rattle.f11_store.specs.declared.refusals.Refusal.{Refusal}
-use Rattle.f11_flx.specs.Asking.{Denies, Granted, Grants, Service, Who, writes, writes_of}
+use Rattle.f11_flx.specs.Asking.{Denies, Granted, Grants, FilesService, Who, writes, writes_of}
 use Rattle.f11_flx.specs.Conversion.{Copy, copied_lines}
 use Rattle.f11_flx.specs.Filling.{Out, pending}
 use Rattle.f11_flx.specs.Lines.{has_long_line, in_whole_blocks, lines_of, without_zeros}
-use Rattle.f11_flx.specs.Passes.{Begins, CopiesFile, CopiesImage, EndsLines, FailsToCopyFile, FailsToEnd, FailsToReadLines, HasNoCopy, IsCopied, ReadsLines, StopsAtBlock, StopsAtLine, StopsCopying}
+use Rattle.f11_flx.specs.Passes.{BeginsLines, CopiesFile, CopiesImage, EndsLines, FailsToCopyFile, FailsToEnd, FailsToReadLines, HasNoCopy, IsCopied, ReadsLines, StopsAtBlock, StopsAtLine, StopsCopying}
 use Rattle.f11_flx.specs.RtSource.{ReadsPlace}
 use Rattle.f11_flx.specs.Spelled.{image_attributes, longest_of, text_attributes, variable_records}
 use Rattle.f11_flx.specs.ToRecords.{bytes_to_come, is_too_long, longest_with}
@@ -69,11 +69,11 @@ pub all-of : (source contents : List (List ℕ)) (many : ℕ) → length source 
 all-of source contents many is front size = sym (take_all (length source) contents (omega (arith, is, size))) ∙ front
 
 -- from the beginning of the file
-at-start : {V : Type 0} (S : Service V) (who : Who) (lun : ℕ) (o : Out) (pieces : List (List ℕ)) (v w : V) → o.place ≡ 0 → Granted S who (writes_of lun o.place pieces) v w → Granted S who (writes_of lun 0 pieces) v w
+at-start : {V : Type 0} (S : FilesService V) (who : Who) (lun : ℕ) (o : Out) (pieces : List (List ℕ)) (v w : V) → o.place ≡ 0 → Granted S who (writes_of lun o.place pieces) v w → Granted S who (writes_of lun 0 pieces) v w
 at-start S who lun o pieces v w first h = subst (λ n. Granted S who (writes_of lun n pieces) v w) first h
 
-module _ {V E : Type 0} {met : Ghosts E} (S : Service V) (disk : E → Disk) (who : Who) (lun : ℕ) (name : List ℕ) (many : ℕ) where
-  text-stops : (e : Refusal) (s : ToRecords) (o : Out) (a b : RtAccepted E met) (v w : V) → Begins s → o.to ≡ 0 → o.place ≡ 0 → StopsAtBlock S disk who lun name many s o e a b v w → StopsCopying S disk Text who lun name many e a b v w
+module _ {V E : Type 0} {met : Ghosts E} (S : FilesService V) (disk : E → Disk) (who : Who) (lun : ℕ) (name : List ℕ) (many : ℕ) where
+  text-stops : (e : Refusal) (s : ToRecords) (o : Out) (a b : RtAccepted E met) (v w : V) → BeginsLines s → o.to ≡ 0 → o.place ≡ 0 → StopsAtBlock S disk who lun name many s o e a b v w → StopsCopying S disk Text who lun name many e a b v w
   text-stops e s o a b v w begins empty first h =
       let k = h.stops in
       record {
@@ -97,7 +97,7 @@ module _ {V E : Type 0} {met : Ghosts E} (S : Service V) (disk : E → Disk) (wh
             (text-is contents full attr c ∙ ap in_whole_blocks bytes ∙ in-whole-behind (concat (k.pieces ++ k.last ∷ [])) rest.0 (length (k.pieces ++ k.last ∷ [])) whole);
       }
 
-  text-long : (s : ToRecords) (o : Out) (a b : RtAccepted E met) (v w : V) → Begins s → o.place ≡ 0 → StopsAtLine S disk who lun name many s o a b v w → HasNoCopy S disk Text who lun name many a b v w
+  text-long : (s : ToRecords) (o : Out) (a b : RtAccepted E met) (v w : V) → BeginsLines s → o.place ≡ 0 → StopsAtLine S disk who lun name many s o a b v w → HasNoCopy S disk Text who lun name many a b v w
   text-long s o a b v w begins first h = record {
     source = h.blocks;
     reads = h.reads;
@@ -111,31 +111,31 @@ module _ {V E : Type 0} {met : Ghosts E} (S : Service V) (disk : E → Disk) (wh
         cond-true (has_long_line (lines_of (without_zeros (concat contents)))) None (Some (copied_lines (lines_of (without_zeros (concat contents))))) long;
   }
 
-  pub text-fails : (f : FlxRefusal) (s : ToRecords) (o : Out) (a b : RtAccepted E met) (v w : V) → Begins s → o.to ≡ 0 → o.place ≡ 0 → FailsToReadLines S disk who lun name many s o f a b v w →
+  pub text-fails : (f : FlxRefusal) (s : ToRecords) (o : Out) (a b : RtAccepted E met) (v w : V) → BeginsLines s → o.to ≡ 0 → o.place ≡ 0 → FailsToReadLines S disk who lun name many s o f a b v w →
       FailsToCopyFile S disk Text who lun name many f a b v w
   text-fails (Files e) s o a b v w begins empty first h = text-stops e s o a b v w begins empty first h
   text-fails (Rt e) s o a b v w begins empty first h = h
   text-fails BadRecord s o a b v w begins empty first h = absurd h
   text-fails LineTooLong s o a b v w begins empty first h = text-long s o a b v w begins first h
 
-  pub text-few : (s t : ToRecords) (o p : Out) (a b : RtAccepted E met) (v w : V) → Begins s → o.to ≡ 0 → o.place ≡ 0 → ReadsLines S disk who lun name many s t o p a b v w → many < 65536 →
+  pub text-few : (s t : ToRecords) (o p : Out) (a b : RtAccepted E met) (v w : V) → BeginsLines s → o.to ≡ 0 → o.place ≡ 0 → ReadsLines S disk who lun name many s t o p a b v w → many < 65536 →
       512 * p.place + length (out_bytes p t []) < 4294966000
   text-few s t o p a b v w begins empty first h small =
       omega (arith, few-to-come S who lun s t (concat h.blocks) [] o p v w begins empty first h.writes, length-append {A = ℕ} (concat h.blocks) [], whole-length h.blocks h.reads.whole, h.count, small)
 
   -- all bytes of the text, when it was read
-  text-bytes : (s t : ToRecords) (o p : Out) (a b : RtAccepted E met) (v w : V) → Begins s → o.to ≡ 0 → (h : ReadsLines S disk who lun name many s t o p a b v w) →
+  text-bytes : (s t : ToRecords) (o p : Out) (a b : RtAccepted E met) (v w : V) → BeginsLines s → o.to ≡ 0 → (h : ReadsLines S disk who lun name many s t o p a b v w) →
       records-in h.blocks ≡ concat h.writes.pieces ++ out_bytes p t []
   text-bytes s t o p a b v w begins empty h =
       ap (λ (l : List ℕ). variable_records (lines_of (without_zeros l))) (sym (append-nil (concat h.blocks))) ∙ to-come S who lun s t (concat h.blocks) [] o p v w begins empty h.writes
 
-  text-lines : (s t : ToRecords) (o p : Out) (a b : RtAccepted E met) (v w : V) → Begins s → (h : ReadsLines S disk who lun name many s t o p a b v w) → is_too_long t [] ≡ has_long_line (lines_of (without_zeros (concat h.blocks)))
+  text-lines : (s t : ToRecords) (o p : Out) (a b : RtAccepted E met) (v w : V) → BeginsLines s → (h : ReadsLines S disk who lun name many s t o p a b v w) → is_too_long t [] ≡ has_long_line (lines_of (without_zeros (concat h.blocks)))
   text-lines s t o p a b v w begins h = (h.writes.onward []).long ∙ ap (λ l. is_too_long s l) (append-nil (concat h.blocks)) ∙ begins.long (concat h.blocks)
 
-  text-longest : (s t : ToRecords) (o p : Out) (a b : RtAccepted E met) (v w : V) → Begins s → (h : ReadsLines S disk who lun name many s t o p a b v w) → longest_with t [] ≡ longest_of (lines_of (without_zeros (concat h.blocks)))
+  text-longest : (s t : ToRecords) (o p : Out) (a b : RtAccepted E met) (v w : V) → BeginsLines s → (h : ReadsLines S disk who lun name many s t o p a b v w) → longest_with t [] ≡ longest_of (lines_of (without_zeros (concat h.blocks)))
   text-longest s t o p a b v w begins h = (h.writes.onward []).longest ∙ ap (λ l. longest_with s l) (append-nil (concat h.blocks)) ∙ begins.longest (concat h.blocks)
 
-  text-whole : (s t : ToRecords) (o p : Out) (a b : RtAccepted E met) (v w : V) → Begins s → o.to ≡ 0 → (h : ReadsLines S disk who lun name many s t o p a b v w) →
+  text-whole : (s t : ToRecords) (o p : Out) (a b : RtAccepted E met) (v w : V) → BeginsLines s → o.to ≡ 0 → (h : ReadsLines S disk who lun name many s t o p a b v w) →
       in_whole_blocks (records-in h.blocks) ≡ concat h.writes.pieces ++ in_whole_blocks (out_bytes p t [])
   text-whole s t o p a b v w begins empty h =
       ap in_whole_blocks (text-bytes s t o p a b v w begins empty h) ∙ in-whole-behind (concat h.writes.pieces) (out_bytes p t []) (length h.writes.pieces) (whole-length h.writes.pieces h.writes.whole)
@@ -146,7 +146,7 @@ module _ {V E : Type 0} {met : Ghosts E} (S : Service V) (disk : E → Disk) (wh
       granted-writes S who lun 0 h.writes.pieces ys v w x (at-start S who lun o h.writes.pieces v w first h.writes.granted) (subst (λ n. Granted S who (writes_of lun n ys) w x) (h.writes.place ∙ ap (λ n. n + length h.writes.pieces) first) k)
 
   -- the whole copy
-  pub text-copies : (s t : ToRecords) (o p : Out) (blocks end longest : ℕ) (a b : RtAccepted E met) (v w x : V) → Begins s → o.to ≡ 0 → o.place ≡ 0 → ReadsLines S disk who lun name many s t o p a b v w →
+  pub text-copies : (s t : ToRecords) (o p : Out) (blocks end longest : ℕ) (a b : RtAccepted E met) (v w x : V) → BeginsLines s → o.to ≡ 0 → o.place ≡ 0 → ReadsLines S disk who lun name many s t o p a b v w →
       EndsLines S who lun t p blocks end longest w x → CopiesFile S disk Text who lun name many blocks (text_attributes longest blocks end) a b v x
   text-copies s t o p blocks end longest a b v w x begins empty first h k =
       let lines = lines_of (without_zeros (concat h.blocks)) in
@@ -176,7 +176,7 @@ module _ {V E : Type 0} {met : Ghosts E} (S : Service V) (disk : E → Disk) (wh
         };
       }
 
-  pub text-end-fails : (f : FlxRefusal) (s t : ToRecords) (o p : Out) (a b : RtAccepted E met) (v w x : V) → Begins s → o.to ≡ 0 → o.place ≡ 0 → ReadsLines S disk who lun name many s t o p a b v w →
+  pub text-end-fails : (f : FlxRefusal) (s t : ToRecords) (o p : Out) (a b : RtAccepted E met) (v w x : V) → BeginsLines s → o.to ≡ 0 → o.place ≡ 0 → ReadsLines S disk who lun name many s t o p a b v w →
       FailsToEnd S who lun t p f w x → FailsToCopyFile S disk Text who lun name many f a b v x
   text-end-fails (Files e) s t o p a b v w x begins empty first h k = record {
     source = h.blocks;
@@ -246,7 +246,7 @@ module _ {V E : Type 0} {met : Ghosts E} (S : Service V) (disk : E → Disk) (wh
         chop-last h.blocks full block (concat (drop (length (h.blocks ++ block ∷ [])) contents)) whole k.whole bytes;
   }
 
-module _ {V E : Type 0} {met : Ghosts E} (S : Service V) (disk : E → Disk) (who : Who) (lun : ℕ) (name : List ℕ) where
+module _ {V E : Type 0} {met : Ghosts E} (S : FilesService V) (disk : E → Disk) (who : Who) (lun : ℕ) (name : List ℕ) where
   pub image-more : (place vbn : ℕ) (block : List ℕ) (a b c : RtAccepted E met) (v w x : V) → CopiesImage S disk who lun name place a b v w → ReadsPlace disk name place block b c → vbn ≡ place + 1 →
       Grants S who (writes lun vbn block) w x → CopiesImage S disk who lun name (place + 1) a c v x
   image-more place vbn block a b c v w x h r at d = record {

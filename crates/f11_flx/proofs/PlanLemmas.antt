@@ -14,7 +14,7 @@ use Rattle.f11_flx.specs.Asking.{Denies, Who, writes}
 use Rattle.f11_flx.specs.Dry.{dry}
 use Rattle.f11_flx.specs.Passes.{CopiesFile, FailsToCopyFile, IsCopied}
 use Rattle.f11_flx.specs.Planning.{FailsToPlan, Plans}
-use Rattle.f11_flx.specs.RtSource.{FindsFile, HasContents}
+use Rattle.f11_flx.specs.RtSource.{FindsRtFile, HasContents}
 use Rattle.f11_flx.specs.Spelled.{image_attributes}
 use Rattle.f11_flx.specs.Target.{rt_disk, rt_store}
 use Rattle.f11_flx.specs.declared.mode.CopyMode.TheVariants.{Image, Text}
@@ -47,7 +47,7 @@ dry-takes who lun vbn block e v w d = differ d.1
     differ is = cc
 
 module _ {E : Type 0} {met : Ghosts E} (disk : E → Disk) (name : List ℕ) where
-  pub image-plan : (many : ℕ) (attr : List ℕ) (a b : RtAccepted E met) → attr ≡ image_attributes many → FindsFile disk name many a b → Plans disk Image name many many attr a b
+  pub image-plan : (many : ℕ) (attr : List ℕ) (a b : RtAccepted E met) → attr ≡ image_attributes many → FindsRtFile disk name many a b → Plans disk Image name many many attr a b
   image-plan many attr a b is f = record {
     looks = f.looks;
     alive = f.alive;
@@ -66,7 +66,7 @@ module _ {E : Type 0} {met : Ghosts E} (disk : E → Disk) (name : List ℕ) whe
     };
   }
 
-  pub text-plan : {V : Type 0} (who : Who) (lun many blocks : ℕ) (attr attr' : List ℕ) (a b c : RtAccepted E met) (v w : V) → attr ≡ attr' → FindsFile disk name many a b →
+  pub text-plan : {V : Type 0} (who : Who) (lun many blocks : ℕ) (attr attr' : List ℕ) (a b c : RtAccepted E met) (v w : V) → attr ≡ attr' → FindsRtFile disk name many a b →
       CopiesFile dry disk Text who lun name many blocks attr' b c v w → Plans disk Text name many blocks attr a c
   text-plan who lun many blocks attr attr' a b c v w is f h = record {
     looks = looks-then disk false a b c f.looks h.reads.looks;
@@ -84,7 +84,7 @@ module _ {E : Type 0} {met : Ghosts E} (disk : E → Disk) (name : List ℕ) whe
         };
   }
 
-  pub text-unplanned : {V : Type 0} (f : FlxRefusal) (who : Who) (lun many : ℕ) (a b c : RtAccepted E met) (v w : V) → FindsFile disk name many a b →
+  pub text-unplanned : {V : Type 0} (f : FlxRefusal) (who : Who) (lun many : ℕ) (a b c : RtAccepted E met) (v w : V) → FindsRtFile disk name many a b →
       FailsToCopyFile dry disk Text who lun name many f b c v w → FailsToPlan disk Text name f a c
   text-unplanned (Files e) who lun many a b c v w f h = dry-takes who lun (suc (length h.pieces)) h.last e h.between w h.denied
   text-unplanned (Rt e) who lun many a b c v w f h = record {

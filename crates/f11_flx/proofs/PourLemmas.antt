@@ -6,7 +6,7 @@ use Rattle.std.proofs.Math.Seq.{drop-length, take-add, take-length}
 use Rattle.std.proofs.lemmas.List.{drop-drop}
 use Rattle.std.proofs.lemmas.List.Elements.{All-append, All-cons, All-head, All-nil, All-tail}
 use Rattle.std.proofs.lemmas.List.Folds.{concat-append}
-use Rattle.f11_flx.specs.Filling.{FailsToPour, Out, Pouring, Pours, Refusing, Taking, TakesNext, Took, out_text, pending}
+use Rattle.f11_flx.specs.Filling.{FailsToPour, Out, Pouring, Pours, Refusing, TakingBlocks, TakesNext, Took, out_text, pending}
 use Rattle.f11_flx.specs.Puts.{PutsAt}
 use Rattle.f11_flx.specs.ToText.{Converts, Stops, StopsAt, rest_of, text_left}
 use Rattle.f11_flx.specs.Place.{ending_at}
@@ -49,7 +49,7 @@ ending-small (place.Within left pad) = by (left == 0)
 ending-small (place.LineFeed pad) = omega arith
 ending-small place.Pad = omega arith
 
-module _ {V : Type 0} (K : Taking V) (name : List ℕ) where
+module _ {V : Type 0} (K : TakingBlocks V) (name : List ℕ) where
   pub took-append : (place : ℕ) (xs ys : List (List ℕ)) (old now new : V) → Took K name place xs old now → Took K name (place + length xs) ys now new → Took K name place (xs ++ ys) old new
   took-append place [] ys old now new h k = subst (λ v. Took K name place ys v new) h (subst (λ n. Took K name n ys now new) (omega arith) k)
   took-append place (x ∷ xs) ys old now new h k =

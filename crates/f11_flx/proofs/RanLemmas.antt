@@ -20,11 +20,11 @@ use Rattle.f11_fcp.specs.Lengths.{Measures}
 use Rattle.f11_fcp.specs.Lists.{ServesCall, failures_of, is_sound, store_of_volume}
 use Rattle.f11_fcp.specs.Serving.{StaysAccepted, is_spent, state_in}
 use Rattle.f11_fcp.specs.declared.volume.Volume.{Volume}
-use Rattle.f11_flx.specs.Asking.{Asking, BreaksOff, Denies, Granted, Grants, Tried, Who, asks, counts, reads, reads_of, told, writes}
+use Rattle.f11_flx.specs.Asking.{Asking, BreaksOffAsking, Denies, Granted, Grants, Tried, Who, asks, counts, reads, reads_of, told, writes}
 use Rattle.f11_flx.specs.Copying.{IsAskedLength, ReadsFiles, is_reading, of_files, of_volume}
 use Rattle.rt11_volume.specs.declared.refusal.RtRefusal.{RtRefusal}
 use Rattle.f11_flx.specs.Copies.{FailsToCopyText}
-use Rattle.f11_flx.specs.Filling.{Refusing, Taking}
+use Rattle.f11_flx.specs.Filling.{Refusing, TakingBlocks}
 use Rattle.f11_flx.specs.Source.{CopiesAs, FailsAs, TellsNothing, TellsSource, is_attr, up_to_end}
 use Rattle.f11_flx.specs.declared.mode.CopyMode.{CopyMode}
 use Rattle.f11_flx.specs.declared.mode.CopyMode.TheVariants.{Image, Text}
@@ -32,7 +32,7 @@ use Rattle.f11_flx.specs.declared.to_text.ToText.{ToText}
 use Rattle.f11_flx.specs.declared.refusal.FlxRefusal.{FlxRefusal}
 use Rattle.f11_flx.specs.declared.refusal.FlxRefusal.TheVariants.{BadRecord, Files, LineTooLong, Rt}
 use Rattle.f11_flx.specs.Refusal.{is_lethal}
-use Rattle.f11_flx.specs.ToRt.{CopiesFile, CopiesLocked, CountsAs, FailsLocked, FailsToCopyFile, FailsToFill, GaveUp, Undoes, nowhere_refuses, nowhere_takes, rt_refuses, rt_takes}
+use Rattle.f11_flx.specs.ToRt.{CopiesFileToRt, CopiesLocked, CountsAs, FailsLocked, FailsToCopyFileToRt, FailsToFillToRt, GaveUp, UndoesToRt, nowhere_refuses, nowhere_takes, rt_refuses, rt_takes}
 use Rattle.rt11_volume.specs.Files.{is_fault as rt_fault}
 use Rattle.rt11_volume.specs.declared.volume.RtAccepted.{RtAccepted}
 use Rattle.f11_flx.proofs.KeptLemmas.{refused}
@@ -190,7 +190,7 @@ module _ {D : Type 0} {met : Ghosts D} (who : Who) where
   ran-reads lun k [] v w g = ran-none v w g
   ran-reads lun k (x ∷ xs) v w g = ran-then false false v g.0 w (ran-granted (reads lun (suc k) x) v g.0 refl g.1) (ran-reads lun (suc k) xs g.0 w g.2)
 
-  pub ran-broken : (lun k : ℕ) (xs : List (List ℕ)) (e : Refusal) (v w : Volume D met) → BreaksOff of_volume who (reads_of lun k xs) e v w → Ran who (is_fault e) (is_fatal e) v w
+  pub ran-broken : (lun k : ℕ) (xs : List (List ℕ)) (e : Refusal) (v w : Volume D met) → BreaksOffAsking of_volume who (reads_of lun k xs) e v w → Ran who (is_fault e) (is_fatal e) v w
   ran-broken lun k [] e v w g = absurd g
   ran-broken lun k (x ∷ xs) e v w (inl g) = ran-denied (reads lun (suc k) x) e v w refl g
   ran-broken lun k (x ∷ xs) e v w (inr g) = ran-then (is_fault e) (is_fatal e) v g.0 w (ran-granted (reads lun (suc k) x) v g.0 refl g.1) (ran-broken lun (suc k) xs e g.0 w g.2)
@@ -219,7 +219,7 @@ module _ {D : Type 0} {met : Ghosts D} (who : Who) (lun : ℕ) (name : List ℕ)
   behind : (e : FlxRefusal) (u v w : Volume D met) → Ran who false false u v → RanBy e v w → RanBy e u w
   behind e u v w h k = ran-then who (fault-in e) (fatal-in e) u v w h k
 
-  module _ {W : Type 0} (K : Taking W) (R : Refusing W) (rt : (e : FlxRefusal) (place : ℕ) (last : List ℕ) (a b : W) → R name place last e a b → (fault-in e ≡ false) × (fatal-in e ≡ false)) where
+  module _ {W : Type 0} (K : TakingBlocks W) (R : Refusing W) (rt : (e : FlxRefusal) (place : ℕ) (last : List ℕ) (a b : W) → R name place last e a b → (fault-in e ≡ false) × (fatal-in e ≡ false)) where
     clean-ran : (e : FlxRefusal) (v w : Volume D met) → (fault-in e ≡ false) × (fatal-in e ≡ false) → Ran who false false v w → RanBy e v w
     clean-ran e v w is h = subst (λ b. Ran who b (fatal-in e) v w) (sym is.0) (subst (λ b. Ran who false b v w) (sym is.1) h)
 
@@ -298,7 +298,7 @@ module _ {D : Type 0} {met : Ghosts D} (who : Who) (lun : ℕ) (name : List ℕ)
   count-ran Text attr n count v w h = ran-copies who lun name nowhere_takes nowhere_refuses (λ e place last a b r. absurd r) Text attr n count v w h.0 h.1 h.2
 
   module _ {E : Type 0} {met' : Ghosts E} (disk : E → Disk) (day : ℕ) where
-    undo-ran : (e x : FlxRefusal) (v w : Volume D met) (a b : RtAccepted E met') → Undoes disk name x e a b → Ran who (fault-in x) (fatal-in x) v w → Ran who (fault-in e) (fatal-in e) v w
+    undo-ran : (e x : FlxRefusal) (v w : Volume D met) (a b : RtAccepted E met') → UndoesToRt disk name x e a b → Ran who (fault-in x) (fatal-in x) v w → Ran who (fault-in e) (fatal-in e) v w
     undo-ran e x v w a b (inl h) r = subst (λ y. Ran who (fault-in y) (fatal-in y) v w) (sym h.same) r
     undo-ran e x v w a b (inr (inl h)) r = subst (λ y. Ran who (fault-in y) (fatal-in y) v w) (sym h.same) r
     undo-ran e x v w a b (inr (inr h)) r = by h.answer_is
@@ -320,7 +320,7 @@ module _ {D : Type 0} {met : Ghosts D} (who : Who) (lun : ℕ) (name : List ℕ)
         behind who lun name e v k.seen w (told-ran k.attr k.blocks v k.seen k.told)
         (behind who lun name e k.seen k.walked w (count-ran m k.attr k.blocks k.count k.seen k.walked k.counted) (by k.fails))
       where
-        by : FailsToFill m of_volume disk who lun name k.attr k.blocks k.count day e k.walked w rt rt' → Ran who (fault-in e) (fatal-in e) k.walked w
+        by : FailsToFillToRt m of_volume disk who lun name k.attr k.blocks k.count day e k.walked w rt rt' → Ran who (fault-in e) (fatal-in e) k.walked w
         by (inl h) = by-rt who lun name e h.refusal k.walked w h.is (ran-none who k.walked w h.stays)
         by (inr h) =
             undo-ran e h.refusal k.walked w h.stopped rt' h.undoes
@@ -333,14 +333,14 @@ module _ {D : Type 0} {met : Ghosts D} (who : Who) (lun : ℕ) (name : List ℕ)
         (ran-copies who lun name (rt_takes disk) (rt_refuses disk) (rt-clean disk name) m l.attr l.blocks l.fills.taken l.walked w l.fills.made rt' l.fills.copies))
 
     -- what a copy leaves of the volume
-    pub copied-ran : (m : CopyMode) (count : ℕ) (old new : Volume D met) (rt rt' : RtAccepted E met') → CopiesFile m of_volume disk who lun file name count day old new rt rt' →
+    pub copied-ran : (m : CopyMode) (count : ℕ) (old new : Volume D met) (rt rt' : RtAccepted E met') → CopiesFileToRt m of_volume disk who lun file name count day old new rt rt' →
         Ran who false false old new × StaysAccepted (state_in new)
     copied-ran m count old new rt rt' k =
         let open-it = ran-granted who (asks (request.Access file mode.Locked lun)) old k.opened refl k.opens in
         let rest = ran-then who false false k.opened k.left new (copies-ran m count k.opened k.left rt rt' k.copies) (ran-granted who (asks (request.Deaccess lun)) k.left new refl k.closes) in
         (ran-then who false false old k.opened new open-it rest, rest.accepted k.opens.3.accepted)
 
-    pub refused-ran : (m : CopyMode) (e : FlxRefusal) (old new : Volume D met) (rt rt' : RtAccepted E met') → FailsToCopyFile m of_volume disk who lun file name day e old new rt rt' →
+    pub refused-ran : (m : CopyMode) (e : FlxRefusal) (old new : Volume D met) (rt rt' : RtAccepted E met') → FailsToCopyFileToRt m of_volume disk who lun file name day e old new rt rt' →
         Ran who (fault-in e) (fatal-in e) old new × StaysAccepted (state_in new)
     refused-ran m e old new rt rt' (inl k) =
         (by-files who lun name e k.refusal old new k.is (ran-denied who (asks (request.Access file mode.Locked lun)) k.refusal old new refl k.denied), k.denied.2.accepted)
@@ -380,8 +380,8 @@ module _ {D : Type 0} {met : Ghosts D} (who : Who) (lun : ℕ) (name : List ℕ)
         (behind who lun name e old k.opened new open-it rest, rest.accepted k.opens.3.accepted)
 
     -- so it fares, and is as before unless a device fault or Damaged was met
-    pub files-told : (m : CopyMode) (r : Result ℕ FlxRefusal) (old new : Volume D met) (rt rt' : RtAccepted E met') → IfOk r (λ count. CopiesFile m of_volume disk who lun file name count day old new rt rt') →
-        IfErr r (λ e. FailsToCopyFile m of_volume disk who lun file name day e old new rt rt') → ReadsFiles r who old new
+    pub files-told : (m : CopyMode) (r : Result ℕ FlxRefusal) (old new : Volume D met) (rt rt' : RtAccepted E met') → IfOk r (λ count. CopiesFileToRt m of_volume disk who lun file name count day old new rt rt') →
+        IfErr r (λ e. FailsToCopyFileToRt m of_volume disk who lun file name day e old new rt rt') → ReadsFiles r who old new
     files-told m (Ok count) old new rt rt' made failed =
         let p = copied-ran m count old new rt rt' made in
         let h = p.0 in

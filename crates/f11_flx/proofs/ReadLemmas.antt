@@ -6,7 +6,7 @@ use Rattle.std.proofs.lemmas.Bool.{cond-true, and_parts, eqb-true, or_left}
 use Rattle.f11_flx.specs.Lines.{ends_with_cr, has_crlf, lines_of, lines_upto, has_long_line, without_zeros}
 use Rattle.f11_flx.specs.Spelled.{variable_records, longest_of}
 use Rattle.f11_flx.specs.Stage.{given_in, is_pending, lines_from, text_so_far, with_cr}
-use Rattle.f11_flx.specs.ToRecords.{ConvertsText, GoesOn, StepsText, bytes_to_come, is_too_long, lines_left}
+use Rattle.f11_flx.specs.ToRecords.{ConvertsText, GivesBytes, StepsText, bytes_to_come, is_too_long, lines_left}
 use Rattle.f11_flx.specs.declared.stage.Stage.{Stage}
 use Rattle.f11_flx.specs.declared.stage.Stage.TheVariants.{Reading, Giving}
 use Rattle.f11_flx.specs.declared.to_records.ToRecords.{ToRecords}
@@ -14,9 +14,9 @@ use Rattle.f11_flx.proofs.LineLemmas.{lines_of-line, lines_of-last}
 use Rattle.f11_flx.proofs.CrLemmas.{ends_with_cr-push, has_crlf-front, has_crlf-push, has_long_line-push, length-with_cr}
 
 -- where the lines to come stay, nothing was given
-pub GoesOn-same : (old new : ToRecords) (before after : List ℕ) → lines_left old before ≡ lines_left new after → given_in old.stage ≡ given_in new.stage → old.longest ≡ new.longest
-    → GoesOn old new before after []
-GoesOn-same old new before after lines given longest = record {
+pub GivesBytes-same : (old new : ToRecords) (before after : List ℕ) → lines_left old before ≡ lines_left new after → given_in old.stage ≡ given_in new.stage → old.longest ≡ new.longest
+    → GivesBytes old new before after []
+GivesBytes-same old new before after lines given longest = record {
   bytes = ap (λ (n : ℕ). drop n (variable_records (lines_left old before))) given ∙ ap (λ (all : List (List ℕ)). drop (given_in new.stage) (variable_records all)) lines;
   longest = sym (ap (λ (n : ℕ). max n (longest_of (lines_left old before))) longest ∙ ap (λ (all : List (List ℕ)). max new.longest (longest_of all)) lines);
   long = sym (ap has_long_line lines);
@@ -82,8 +82,8 @@ pub ended-push : (s : ToRecords) (cr : Bool) (byte : ℕ) (line : List ℕ) → 
 ended-push s cr byte line is = ap ends_with_cr is ∙ ends_with_cr-push (with_cr s.line.items cr) byte
 
 -- one step more
-pub GoesOn-more : {a b c : ToRecords} {before mid after first then both : List ℕ} → GoesOn a b before mid first → GoesOn b c mid after then → both ≡ first ++ then → GoesOn a c before after both
-GoesOn-more {a} {b} {c} {before} {mid} {after} {first} {then} {both} one other is = record {
+pub GivesBytes-more : {a b c : ToRecords} {before mid after first then both : List ℕ} → GivesBytes a b before mid first → GivesBytes b c mid after then → both ≡ first ++ then → GivesBytes a c before after both
+GivesBytes-more {a} {b} {c} {before} {mid} {after} {first} {then} {both} one other is = record {
   bytes = one.bytes ∙ ap (λ (rest : List ℕ). first ++ rest) other.bytes ∙ sym (append_assoc first then (bytes_to_come c after)) ∙ ap (λ (given : List ℕ). given ++ bytes_to_come c after) (sym is);
   longest = other.longest ∙ one.longest;
   long = other.long ∙ one.long;
@@ -93,7 +93,7 @@ pub ConvertsText-more : (old now new : ToRecords) (source : List ℕ) (used next
     → ConvertsText old now source used target from to → StepsText now new source used next given → slice_range target' from to' ≡ slice_range target from to ++ option_to_list given → to ≤ to'
     → ConvertsText old new source next target' from to'
 ConvertsText-more old now new source used next target target' from to to' given held step put order = record {
-  goes_on = λ more. GoesOn-more (held.goes_on more) (step.goes_on more) put;
+  goes_on = λ more. GivesBytes-more (held.goes_on more) (step.goes_on more) put;
   unended = omega (arith, held.unended, step.unended);
   within = step.within;
   order = omega (arith, held.order);

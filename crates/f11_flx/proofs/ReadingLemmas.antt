@@ -14,9 +14,9 @@ use Rattle.f11_store.specs.declared.refusals.Refusal.{Refusal}
 use Rattle.f11_store.specs.declared.requests.Reply.TheVariants as reply
 use Rattle.f11_store.specs.declared.requests.Request.TheVariants as request
 use Rattle.f11_store.proofs.StoreLemmas.{none_first, none_rest}
-use Rattle.f11_flx.specs.Asking.{BreaksOff, Denies, Granted, Grants, Who, asks, counts, plain, reads, reads_of, told}
+use Rattle.f11_flx.specs.Asking.{BreaksOffAsking, Denies, Granted, Grants, Who, asks, counts, plain, reads, reads_of, told}
 use Rattle.f11_flx.specs.CopyToRt.{reading, reading_of, walked_of}
-use Rattle.f11_flx.specs.CopyLaws.{AccessAloneIsRefused, IsNotAccessed, IsReading, ReadingIsOfFile, RefusedSourceStays, SourceStays}
+use Rattle.f11_flx.specs.CopyLaws.{AccessAloneIsRefused, IsNotAccessed, IsFileReading, ReadingIsOfFile, RefusedSourceStays, SourceStays}
 use Rattle.f11_flx.specs.Spelled.{image_of}
 use Rattle.f11_flx.specs.declared.mode.CopyMode.{CopyMode}
 use Rattle.f11_flx.specs.declared.mode.CopyMode.TheVariants.{Image, Text}
@@ -147,16 +147,16 @@ module _ (who : Who) (lun : ℕ) (source : FileId) (s : Store) where
       subst (λ (o : Option Refusal). MayRefuse o false false e)
       (none-first (causes_of held who.task who.caller (request.Deaccess lun)) (some-held, tt)) d.2.may_refuse
 
-  pub reads-denied : (k : ℕ) (blocks : List (List ℕ)) (e : Refusal) (s2 : Store) → k + length blocks ≤ length_of file → BreaksOff plain who (reads_of lun k blocks) e held s2 → ⊥
+  pub reads-denied : (k : ℕ) (blocks : List (List ℕ)) (e : Refusal) (s2 : Store) → k + length blocks ≤ length_of file → BreaksOffAsking plain who (reads_of lun k blocks) e held s2 → ⊥
   reads-denied k [] e s2 few d = d
   reads-denied k (b ∷ more) e s2 few (inl d) = read-denied e k b s2 (omega (arith, few)) d
   reads-denied k (b ∷ more) e s2 few (inr d) =
-      reads-denied (suc k) more e s2 (omega (arith, few)) (subst (λ x. BreaksOff plain who (reads_of lun (suc k) more) e x s2) (read-is (suc k) b d.0 d.1).2 d.2)
+      reads-denied (suc k) more e s2 (omega (arith, few)) (subst (λ x. BreaksOffAsking plain who (reads_of lun (suc k) more) e x s2) (read-is (suc k) b d.0 d.1).2 d.2)
 
   -- what is told of a file that is locked, and that it is given up then
   pub held-reading : (of : Attr) (n : ℕ) (walked copied : List (List ℕ)) (s' : Store) → IsFree s who.task lun source →
       Granted plain who (told (request.ReadAttr source) (reply.Attr of) ∷ counts lun n ∷ (reads_of lun 0 walked ++ (reads_of lun 0 copied ++ asks (request.Deaccess lun) ∷ []))) held s' →
-      IsReading source of n walked copied s s'
+      IsFileReading source of n walked copied s s'
   held-reading of n walked copied s' free g =
       let told = told-is of g.0 g.1 in
       let g1 = subst (λ x. Granted plain who (counts lun n ∷ (reads_of lun 0 walked ++ (reads_of lun 0 copied ++ asks (request.Deaccess lun) ∷ []))) x s') told.1 g.2 in
@@ -178,29 +178,29 @@ module _ (who : Who) (lun : ℕ) (source : FileId) (s : Store) where
   -- and nothing of it is denied
   pub held-denied : (of : Attr) (n : ℕ) (walked copied : List (List ℕ)) (e : Refusal) (s' : Store) → IsFree s who.task lun source →
       length walked ≤ length_of file → length copied ≤ length_of file →
-      BreaksOff plain who (told (request.ReadAttr source) (reply.Attr of) ∷ counts lun n ∷ (reads_of lun 0 walked ++ (reads_of lun 0 copied ++ asks (request.Deaccess lun) ∷ []))) e held s' → ⊥
+      BreaksOffAsking plain who (told (request.ReadAttr source) (reply.Attr of) ∷ counts lun n ∷ (reads_of lun 0 walked ++ (reads_of lun 0 copied ++ asks (request.Deaccess lun) ∷ []))) e held s' → ⊥
   held-denied of n walked copied e s' free few less (inl d) = told-denied free e of s' d
-  held-denied of n walked copied e s' free few less (inr g) = behind-told (subst (λ x. BreaksOff plain who (counts lun n ∷ (reads_of lun 0 walked ++ (reads_of lun 0 copied ++ asks (request.Deaccess lun) ∷ []))) e x s') (told-is of g.0 g.1).1 g.2)
+  held-denied of n walked copied e s' free few less (inr g) = behind-told (subst (λ x. BreaksOffAsking plain who (counts lun n ∷ (reads_of lun 0 walked ++ (reads_of lun 0 copied ++ asks (request.Deaccess lun) ∷ []))) e x s') (told-is of g.0 g.1).1 g.2)
     where
-      giving : BreaksOff plain who (asks (request.Deaccess lun) ∷ []) e held s' → ⊥
+      giving : BreaksOffAsking plain who (asks (request.Deaccess lun) ∷ []) e held s' → ⊥
       giving (inl d) = giving-denied e s' d
       giving (inr d) = d.2
 
-      copying : ((BreaksOff plain who (reads_of lun 0 copied) e held s') ⊎ ((w : Store) × (Granted plain who (reads_of lun 0 copied) held w) × (BreaksOff plain who (asks (request.Deaccess lun) ∷ []) e w s'))) → ⊥
+      copying : ((BreaksOffAsking plain who (reads_of lun 0 copied) e held s') ⊎ ((w : Store) × (Granted plain who (reads_of lun 0 copied) held w) × (BreaksOffAsking plain who (asks (request.Deaccess lun) ∷ []) e w s'))) → ⊥
       copying (inl d) = reads-denied 0 copied e s' (omega (arith, less)) d
-      copying (inr d) = giving (subst (λ x. BreaksOff plain who (asks (request.Deaccess lun) ∷ []) e x s') (reads-are 0 copied d.0 d.1).1 d.2)
+      copying (inr d) = giving (subst (λ x. BreaksOffAsking plain who (asks (request.Deaccess lun) ∷ []) e x s') (reads-are 0 copied d.0 d.1).1 d.2)
 
-      walking : ((BreaksOff plain who (reads_of lun 0 walked) e held s') ⊎ ((w : Store) × (Granted plain who (reads_of lun 0 walked) held w) × (BreaksOff plain who (reads_of lun 0 copied ++ asks (request.Deaccess lun) ∷ []) e w s'))) → ⊥
+      walking : ((BreaksOffAsking plain who (reads_of lun 0 walked) e held s') ⊎ ((w : Store) × (Granted plain who (reads_of lun 0 walked) held w) × (BreaksOffAsking plain who (reads_of lun 0 copied ++ asks (request.Deaccess lun) ∷ []) e w s'))) → ⊥
       walking (inl d) = reads-denied 0 walked e s' (omega (arith, few)) d
       walking (inr d) =
           copying (breaks-parts plain who (reads_of lun 0 copied) (asks (request.Deaccess lun) ∷ []) e held s'
-          (subst (λ x. BreaksOff plain who (reads_of lun 0 copied ++ asks (request.Deaccess lun) ∷ []) e x s') (reads-are 0 walked d.0 d.1).1 d.2))
+          (subst (λ x. BreaksOffAsking plain who (reads_of lun 0 copied ++ asks (request.Deaccess lun) ∷ []) e x s') (reads-are 0 walked d.0 d.1).1 d.2))
 
-      behind-told : BreaksOff plain who (counts lun n ∷ (reads_of lun 0 walked ++ (reads_of lun 0 copied ++ asks (request.Deaccess lun) ∷ []))) e held s' → ⊥
+      behind-told : BreaksOffAsking plain who (counts lun n ∷ (reads_of lun 0 walked ++ (reads_of lun 0 copied ++ asks (request.Deaccess lun) ∷ []))) e held s' → ⊥
       behind-told (inl d) = count-denied e n s' d
       behind-told (inr d) =
           walking (breaks-parts plain who (reads_of lun 0 walked) (reads_of lun 0 copied ++ asks (request.Deaccess lun) ∷ []) e held s'
-          (subst (λ x. BreaksOff plain who (reads_of lun 0 walked ++ (reads_of lun 0 copied ++ asks (request.Deaccess lun) ∷ [])) e x s') (counted n d.0 d.1).1 d.2))
+          (subst (λ x. BreaksOffAsking plain who (reads_of lun 0 walked ++ (reads_of lun 0 copied ++ asks (request.Deaccess lun) ∷ [])) e x s') (counted n d.0 d.1).1 d.2))
 
   -- the access itself is refused for a cause
   pub access-denied : (e : Refusal) (s' : Store) → Denies plain who (asks (request.Access source mode.Locked lun)) e s s' → IsNotAccessed who lun source e s s'
@@ -210,7 +210,7 @@ module _ (who : Who) (lun : ℕ) (source : FileId) (s : Store) where
       of-cause None h = absurd h
       of-cause (Some first) h = ap Some (sym h)
 
-  pub reading-of-file : (of : Attr) (n : ℕ) (walked copied : List (List ℕ)) (s' : Store) → Granted plain who (reading source lun of n walked copied) s s' → IsReading source of n walked copied s s'
+  pub reading-of-file : (of : Attr) (n : ℕ) (walked copied : List (List ℕ)) (s' : Store) → Granted plain who (reading source lun of n walked copied) s s' → IsFileReading source of n walked copied s s'
   reading-of-file of n walked copied s' g =
       let a = accessed g.0 g.1 in
       held-reading of n walked copied s' a.0
@@ -223,12 +223,12 @@ module _ (who : Who) (lun : ℕ) (source : FileId) (s : Store) where
   few-walked Image = omega arith
   few-walked Text = few-image
 
-  pub access-alone : (m : CopyMode) (e : Refusal) (s' : Store) → BreaksOff plain who (reading_of m source lun file) e s s' → IsNotAccessed who lun source e s s'
+  pub access-alone : (m : CopyMode) (e : Refusal) (s' : Store) → BreaksOffAsking plain who (reading_of m source lun file) e s s' → IsNotAccessed who lun source e s s'
   access-alone m e s' (inl d) = access-denied e s' d
   access-alone m e s' (inr g) =
       let a = accessed g.0 g.1 in
       absurd (held-denied (attributes_of file) (length_of file) (walked_of m file) (image_of file) e s' a.0 (few-walked m) few-image
-      (subst (λ x. BreaksOff plain who (told (request.ReadAttr source) (reply.Attr (attributes_of file)) ∷ counts lun (length_of file) ∷ (reads_of lun 0 (walked_of m file) ++ (reads_of lun 0 (image_of file) ++ asks (request.Deaccess lun) ∷ []))) e x s') a.1 g.2))
+      (subst (λ x. BreaksOffAsking plain who (told (request.ReadAttr source) (reply.Attr (attributes_of file)) ∷ counts lun (length_of file) ∷ (reads_of lun 0 (walked_of m file) ++ (reads_of lun 0 (image_of file) ++ asks (request.Deaccess lun) ∷ []))) e x s') a.1 g.2))
 
 pub reading_is_of_file : ReadingIsOfFile
 reading_is_of_file who lun source of n walked copied s s' g = reading-of-file who lun source s of n walked copied s' g

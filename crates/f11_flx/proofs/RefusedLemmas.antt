@@ -19,10 +19,10 @@ use Rattle.rt11_volume.specs.Calls.{has_failed}
 use Rattle.rt11_volume.specs.Verifying.Verdict.{IsSoundDisk}
 use Rattle.rt11_volume.specs.declared.refusal.RtRefusal.{RtRefusal}
 use Rattle.rt11_volume.specs.declared.volume.RtAccepted.{RtAccepted}
-use Rattle.f11_flx.specs.Asking.{BreaksOff, Denies, Granted, Grants, Service, Who, asks, counts, plain, reads_of, told}
+use Rattle.f11_flx.specs.Asking.{BreaksOffAsking, Denies, Granted, Grants, FilesService, Who, asks, counts, plain, reads_of, told}
 use Rattle.f11_flx.specs.Conversion.{copied_to_rt}
 use Rattle.f11_flx.specs.Copies.{FailsToCopyText, IsDenied}
-use Rattle.f11_flx.specs.CopyToRt.{FailsToCopyToRt, GivesUp, HasNoPlace, HasWholeBlocks, reading}
+use Rattle.f11_flx.specs.CopyToRt.{FailsToCopyToRt, GivesUp, HasNoRtPlace, HasWholeBlocks, reading}
 use Rattle.f11_flx.specs.Filling.{Took}
 use Rattle.f11_flx.specs.Lines.{in_whole_blocks}
 use Rattle.f11_flx.specs.Records.{layout_of}
@@ -31,7 +31,7 @@ use Rattle.f11_flx.specs.Seen.{IsSeenPlain}
 use Rattle.f11_flx.specs.Source.{FailsAs, StartsText, TellsNothing, TellsSource, up_to_end}
 use Rattle.f11_flx.specs.Spelled.{image_of}
 use Rattle.f11_flx.specs.Target.{Makes, rt_disk, rt_store}
-use Rattle.f11_flx.specs.ToRt.{CopiesFile, CopiesLocked, CountsAs, FailsLocked, FailsToCopyFile, FailsToCount, FailsToFill, GaveUp, Undoes, nowhere_refuses, nowhere_takes, rt_refuses, rt_takes}
+use Rattle.f11_flx.specs.ToRt.{CopiesFileToRt, CopiesLocked, CountsAs, FailsLocked, FailsToCopyFileToRt, FailsToCountAs, FailsToFillToRt, GaveUp, UndoesToRt, nowhere_refuses, nowhere_takes, rt_refuses, rt_takes}
 use Rattle.f11_flx.specs.ToText.{converted_text, rest_of, text_left}
 use Rattle.f11_flx.specs.declared.mode.CopyMode.{CopyMode}
 use Rattle.f11_flx.specs.declared.mode.CopyMode.TheVariants.{Image, Text}
@@ -54,7 +54,7 @@ true-false h = absurd (cc)
 clean-of : (e x : FlxRefusal) → e ≡ x → is_lethal e ≡ false → is_lethal x ≡ false
 clean-of e x same clean = ap is_lethal (sym same) ∙ clean
 
-module _ {V : Type 0} (S : Service V) (view : V → Store) (is_sound : V → Bool) (seen : IsSeenPlain S view is_sound) (who : Who) (lun : ℕ) (file : FileId)
+module _ {V : Type 0} (S : FilesService V) (view : V → Store) (is_sound : V → Bool) (seen : IsSeenPlain S view is_sound) (who : Who) (lun : ℕ) (file : FileId)
     (name : List ℕ) (s : Store)
   where
     abbrev f : File
@@ -105,7 +105,7 @@ module _ {V : Type 0} (S : Service V) (view : V → Store) (is_sound : V → Boo
         IsDenied S K who lun name count e v w t t' → ⊥
     none-denied count W K e v w t t' a few clean d =
         reads-denied who lun file s 0 d.given d.refusal (view w) (omega (arith, d.few, few))
-        (subst (λ x. BreaksOff plain who (reads_of lun 0 d.given) d.refusal x (view w)) a.at
+        (subst (λ x. BreaksOffAsking plain who (reads_of lun 0 d.given) d.refusal x (view w)) a.at
         (breaks-seen S view is_sound seen who (reads_of lun 0 d.given) d.refusal v w d.breaks a.sound (clean-of e (refusal.Files d.refusal) d.is clean)))
 
     end-few : (attr : List ℕ) (n : ℕ) → n ≡ length_of f → up_to_end attr n ≤ length_of f
@@ -202,7 +202,7 @@ module _ {V : Type 0} (S : Service V) (view : V → Store) (is_sound : V → Boo
         giving-denied who lun file s r (view w) (subst (λ x. Denies plain who (asks (request.Deaccess lun)) r x (view w)) a.at one.0)
 
     module _ {E : Type 0} {met : Ghosts E} (disk : E → Disk) (day : ℕ) where
-      undone-clean : (e x : FlxRefusal) (a b : RtAccepted E met) → Undoes disk name x e a b → is_lethal e ≡ false → is_lethal x ≡ false
+      undone-clean : (e x : FlxRefusal) (a b : RtAccepted E met) → UndoesToRt disk name x e a b → is_lethal e ≡ false → is_lethal x ≡ false
       undone-clean e x a b (inl h) clean = absurd (true-false (sym h.lethal ∙ ap is_lethal (sym h.same) ∙ clean))
       undone-clean e x a b (inr (inl h)) clean = h.clean
       undone-clean e x a b (inr (inr h)) clean = h.clean
@@ -230,7 +230,7 @@ module _ {V : Type 0} (S : Service V) (view : V → Store) (is_sound : V → Boo
           by (inr (inl d)) = (reads-at d.given w x a d.asked).1
           by (inr (inr d)) = (reads-at d.given w x a d.asked).1
 
-      count-at : (m : CopyMode) (attr : List ℕ) (n : ℕ) (e : FlxRefusal) (v w : V) (made : RtAccepted E met) → IsTold attr n v → FailsToCount m S who lun name attr n e v w → is_lethal e ≡ false → IsAt w
+      count-at : (m : CopyMode) (attr : List ℕ) (n : ℕ) (e : FlxRefusal) (v w : V) (made : RtAccepted E met) → IsTold attr n v → FailsToCountAs m S who lun name attr n e v w → is_lethal e ≡ false → IsAt w
       count-at Image attr n e v w made t h clean = absurd h
       count-at Text attr n e v w made t h clean = by h.2
         where
@@ -244,7 +244,7 @@ module _ {V : Type 0} (S : Service V) (view : V → Store) (is_sound : V → Boo
           by (inr k) = parts k.0 k.2
 
       fill-at : (m : CopyMode) (attr : List ℕ) (n count : ℕ) (e : FlxRefusal) (v w x : V) (rt rt' : RtAccepted E met) → IsTold attr n v → CountsAs m S who lun name attr n count v w →
-          FailsToFill m S disk who lun name attr n count day e w x rt rt' → is_lethal e ≡ false → IsAt x
+          FailsToFillToRt m S disk who lun name attr n count day e w x rt rt' → is_lethal e ≡ false → IsAt x
       fill-at m attr n count e v w x rt rt' t c (inl k) clean = subst IsAt (sym k.stays) (counted-at m attr n count v w t c).at
       fill-at m attr n count e v w x rt rt' t c (inr k) clean =
           fails-at m attr n k.refusal w x k.made k.stopped t.length_is (counted-at m attr n count v w t c).at k.fails (undone-clean e k.refusal k.stopped rt' k.undoes clean)
@@ -262,13 +262,13 @@ module _ {V : Type 0} (S : Service V) (view : V → Store) (is_sound : V → Boo
           given-up who lun file s free (view w) (subst (λ x. Grants plain who (asks (request.Deaccess lun)) x (view w)) a.at one.0)
 
       -- so whatever the RT-11 volume does, the store is as before then
-      pub copied-stays : (m : CopyMode) (count : ℕ) (old new : V) (rt rt' : RtAccepted E met) → view old ≡ s → is_sound old ≡ true → CopiesFile m S disk who lun file name count day old new rt rt' → view new ≡ s
+      pub copied-stays : (m : CopyMode) (count : ℕ) (old new : V) (rt rt' : RtAccepted E met) → view old ≡ s → is_sound old ≡ true → CopiesFileToRt m S disk who lun file name count day old new rt rt' → view new ≡ s
       copied-stays m count old new rt rt' is sound k =
           let a = opened-at old k.opened is sound k.opens in
           closed-at k.left new rt a.0 (copied-at m count k.opened k.left rt rt' a.1 k.copies) k.closes
 
       pub refused-stays : (m : CopyMode) (e : FlxRefusal) (old new : V) (rt rt' : RtAccepted E met) → view old ≡ s → is_sound old ≡ true → is_lethal e ≡ false →
-          FailsToCopyFile m S disk who lun file name day e old new rt rt' → view new ≡ s
+          FailsToCopyFileToRt m S disk who lun file name day e old new rt rt' → view new ≡ s
       refused-stays m e old new rt rt' is sound clean (inl k) =
           let one = seen.denied who (asks (request.Access file mode.Locked lun)) k.refusal old new k.denied sound (clean-of e (refusal.Files k.refusal) k.is clean) in
           one.0.2.store_stays ∙ is
@@ -340,14 +340,14 @@ module _ {V : Type 0} (S : Service V) (view : V → Store) (is_sound : V → Boo
       -- what is told of a refusal at which nothing is denied but by the RT-11 volume
       abbrev Why : CopyMode → FlxRefusal → Type 0
       Why m (refusal.Files e) = ⊥
-      Why m (refusal.Rt e) = HasNoPlace m f name e (rt_disk disk rt)
+      Why m (refusal.Rt e) = HasNoRtPlace m f name e (rt_disk disk rt)
       Why m refusal.BadRecord = HasWholeBlocks f → copied_to_rt m f ≡ None
       Why m refusal.LineTooLong = ⊥
 
       why-bad : (m : CopyMode) (e : FlxRefusal) → e ≡ refusal.BadRecord → (HasWholeBlocks f → copied_to_rt m f ≡ None) → Why m e
       why-bad m e is none = subst (Why m) (sym is) none
 
-      why-rt : (m : CopyMode) (e : FlxRefusal) (r : RtRefusal) → e ≡ refusal.Rt r → HasNoPlace m f name r (rt_disk disk rt) → Why m e
+      why-rt : (m : CopyMode) (e : FlxRefusal) (r : RtRefusal) → e ≡ refusal.Rt r → HasNoRtPlace m f name r (rt_disk disk rt) → Why m e
       why-rt m e r is none = subst (Why m) (sym is) none
 
       -- The copy stopped behind some blocks that were walked over.
@@ -362,7 +362,7 @@ module _ {V : Type 0} (S : Service V) (view : V → Store) (is_sound : V → Boo
         why : Why m e
 
       not-counted : (attr : List ℕ) (n : ℕ) (e : FlxRefusal) (opened v w : V) → IsTold attr n v → (t : TellsSource S who lun file attr n opened v) → is_lethal e ≡ false →
-          FailsToCount Text S who lun name attr n e v w → Stops Text e opened w
+          FailsToCountAs Text S who lun name attr n e v w → Stops Text e opened w
       not-counted attr n e opened v w t tells clean h = by h.2
         where
           by : FailsAs Text S nowhere_takes nowhere_refuses who lun name attr n e v w h.0 h.1 → Stops Text e opened w
@@ -395,7 +395,7 @@ module _ {V : Type 0} (S : Service V) (view : V → Store) (is_sound : V → Boo
               parts (inr (inr d)) = absurd d.refused
 
       not-filled : (m : CopyMode) (attr : List ℕ) (n count : ℕ) (e : FlxRefusal) (opened v w x : V) (rt' : RtAccepted E met) → IsTold attr n v → (t : TellsSource S who lun file attr n opened v) →
-          CountsAs m S who lun name attr n count v w → is_lethal e ≡ false → FailsToFill m S disk who lun name attr n count day e w x rt rt' → Stops m e opened x
+          CountsAs m S who lun name attr n count v w → is_lethal e ≡ false → FailsToFillToRt m S disk who lun name attr n count day e w x rt rt' → Stops m e opened x
       not-filled m attr n count e opened v w x rt' t tells c clean (inl k) =
           let h = counted-at m attr n count v w t c in
           record {
@@ -426,7 +426,7 @@ module _ {V : Type 0} (S : Service V) (view : V → Store) (is_sound : V → Boo
       Unwritten rt' = (rt_disk disk rt').image ≡ (rt_disk disk rt).image
 
       unfilled-same : (m : CopyMode) (attr : List ℕ) (n count : ℕ) (e : FlxRefusal) (v w x : V) (rt' : RtAccepted E met) → IsTold attr n v → CountsAs m S who lun name attr n count v w →
-          is_lethal e ≡ false → FailsToFill m S disk who lun name attr n count day e w x rt rt' → Unwritten rt'
+          is_lethal e ≡ false → FailsToFillToRt m S disk who lun name attr n count day e w x rt rt' → Unwritten rt'
       unfilled-same m attr n count e v w x rt' t c clean (inl k) = k.fails.refused.stays (clean-of e (refusal.Rt k.refusal) k.is clean)
       unfilled-same m attr n count e v w x rt' t c clean (inr k) =
           absurd (none-refused m attr n count v w x k.made k.stopped k.refusal t c (counted-at m attr n count v w t c).at k.makes k.fails (undone-clean disk day e k.refusal k.stopped rt' k.undoes clean))
@@ -460,7 +460,7 @@ module _ {V : Type 0} (S : Service V) (view : V → Store) (is_sound : V → Boo
       concludes m refusal.LineTooLong s' why g = absurd why
 
       pub refused : (m : CopyMode) (e : FlxRefusal) (old new : V) (rt' : RtAccepted E met) → view old ≡ s → is_sound old ≡ true → is_lethal e ≡ false →
-          FailsToCopyFile m S disk who lun file name day e old new rt rt' → FailsToCopyToRt e m who lun file name s (view new) (rt_disk disk rt)
+          FailsToCopyFileToRt m S disk who lun file name day e old new rt rt' → FailsToCopyToRt e m who lun file name s (view new) (rt_disk disk rt)
       refused m e old new rt' is sound clean (inl k) =
           let one = seen.denied who (asks (request.Access file mode.Locked lun)) k.refusal old new k.denied sound (clean-of e (refusal.Files k.refusal) k.is clean) in
           subst (λ x. FailsToCopyToRt x m who lun file name s (view new) (rt_disk disk rt)) (sym k.is)
@@ -488,7 +488,7 @@ module _ {V : Type 0} (S : Service V) (view : V → Store) (is_sound : V → Boo
           absurd (closing k.refusal k.left new at (undone-clean disk day e (refusal.Files k.refusal) k.filled rt' k.undoes clean) k.denied)
 
       pub refused-same : (m : CopyMode) (e : FlxRefusal) (old new : V) (rt' : RtAccepted E met) → view old ≡ s → is_sound old ≡ true → is_lethal e ≡ false →
-          FailsToCopyFile m S disk who lun file name day e old new rt rt' → (rt_disk disk rt').image ≡ (rt_disk disk rt).image
+          FailsToCopyFileToRt m S disk who lun file name day e old new rt rt' → (rt_disk disk rt').image ≡ (rt_disk disk rt).image
       refused-same m e old new rt' is sound clean (inl k) = ap (λ x. (rt_disk disk x).image) k.left
       refused-same m e old new rt' is sound clean (inr (inl k)) =
           locked-same m k.refusal k.opened k.stopped rt' (opened-at old k.opened is sound k.opens).1 (by k.gives) k.fails

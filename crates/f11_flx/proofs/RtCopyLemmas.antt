@@ -14,7 +14,7 @@ use Rattle.rt11_volume.specs.Verifying.Verdict.{IsSoundDisk}
 use Rattle.rt11_volume.specs.declared.volume.RtAccepted.{RtAccepted}
 use Rattle.f11_flx.specs.CopyToRt.{HasCopy, HasSameDirectory, LiesInFirstArea}
 use Rattle.f11_flx.specs.Filling.{Took}
-use Rattle.f11_flx.specs.Target.{Fares, HasPlaces, Puts, Replaces, rt_disk, rt_store}
+use Rattle.f11_flx.specs.Target.{Fares, HasRtBlocks, Puts, ReplacesRtBlocks, rt_disk, rt_store}
 use Rattle.f11_flx.specs.ToRt.{rt_takes}
 use Rattle.f11_flx.proofs.SmallLemmas.{or-false}
 
@@ -35,7 +35,7 @@ take-one-more k b c less =
     ∙ ap (λ (l : List (List ℕ)). take k c ++ take 1 l) (drop-set c k b less)
 
 pub has-written : (name : List ℕ) (k : ℕ) (pieces : List (List ℕ)) (file : Area) (more : List Area) (t t' : RtStore) →
-    files_named name t ≡ file ∷ more → Replaces name k pieces t t' → HasWritten name k pieces file more t t'
+    files_named name t ≡ file ∷ more → ReplacesRtBlocks name k pieces t t' → HasWritten name k pieces file more t t'
 has-written name k [] file more t t' was h = record {
   contents = file.contents;
   is = ap (files_named name) h ∙ was;
@@ -73,7 +73,7 @@ still-lies name count day t u v h k = record {
   directory = directory-then (with_new_file t h.area.place h.area.i h.area.segment name count day) u v h.directory k;
 }
 
-module _ (name : List ℕ) (count day : ℕ) (pieces : List (List ℕ)) (t t1 t2 : RtStore) (made : HasMade name count day t t1) (puts : Replaces name 0 pieces t1 t2) where
+module _ (name : List ℕ) (count day : ℕ) (pieces : List (List ℕ)) (t t1 t2 : RtStore) (made : HasMade name count day t t1) (puts : ReplacesRtBlocks name 0 pieces t1 t2) where
   written : HasWritten name 0 pieces made.file [] t1 t2
   written = has-written name 0 pieces made.file [] t1 t2 made.one puts
 
@@ -106,7 +106,7 @@ module _ (name : List ℕ) (count day : ℕ) (pieces : List (List ℕ)) (t t1 t2
         others = λ other apart. w.others other apart ∙ made.others other apart;
       }
 
-  pub has-places : HasPlaces name count t2
+  pub has-places : HasRtBlocks name count t2
   has-places = let w = written in record { file = record made.file { contents = w.contents }; more = []; named = w.is; blocks_are = w.size ∙ made.blocks_are }
 
   pub has-gone : (t3 : RtStore) → HasGone name t2 t3 → (files_named name t3 ≡ files_named name t) × KeepsOtherNames name t t3

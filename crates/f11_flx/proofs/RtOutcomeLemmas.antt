@@ -8,14 +8,14 @@ use Rattle.rt11_volume.specs.Files.{is_fault}
 use Rattle.rt11_volume.specs.Store.{RtStore, rt_store_of}
 use Rattle.rt11_volume.specs.Verifying.Verdict.{IsRtAccepted, IsSoundDisk}
 use Rattle.rt11_volume.specs.declared.volume.RtAccepted.{RtAccepted}
-use Rattle.f11_flx.specs.Asking.{Service, Who}
+use Rattle.f11_flx.specs.Asking.{FilesService, Who}
 use Rattle.f11_flx.specs.Copies.{FailsToCopyBlocks, FailsToCopyText}
 use Rattle.f11_flx.specs.CopyToRt.{HasSameDirectory}
 use Rattle.f11_flx.specs.Refusal.{is_lethal}
 use Rattle.f11_flx.specs.RtOutcome.{HasSameFiles, LeavesRt, is_rt_fault}
 use Rattle.f11_flx.specs.Source.{CopiesAs, FailsAs, up_to_end}
-use Rattle.f11_flx.specs.Target.{Fares, Makes, Replaces, rt_disk, rt_store}
-use Rattle.f11_flx.specs.ToRt.{CopiesFile, FailsLocked, FailsToCopyFile, FailsToCount, FailsToFill, GaveUp, Undoes, nowhere_refuses, nowhere_takes, rt_refuses, rt_takes}
+use Rattle.f11_flx.specs.Target.{Fares, Makes, ReplacesRtBlocks, rt_disk, rt_store}
+use Rattle.f11_flx.specs.ToRt.{CopiesFileToRt, FailsLocked, FailsToCopyFileToRt, FailsToCountAs, FailsToFillToRt, GaveUp, UndoesToRt, nowhere_refuses, nowhere_takes, rt_refuses, rt_takes}
 use Rattle.f11_flx.specs.declared.mode.CopyMode.{CopyMode}
 use Rattle.f11_flx.specs.declared.mode.CopyMode.TheVariants.{Image, Text}
 use Rattle.f11_flx.specs.declared.refusal.FlxRefusal.{FlxRefusal}
@@ -39,7 +39,7 @@ fault-of : (e x : FlxRefusal) (b : Bool) → e ≡ x → is_rt_fault x ≡ b →
 fault-of e x b same is = sym (ap is_rt_fault same ∙ is)
 
 -- where the blocks are counted nothing is met on the RT-11 volume
-count-fault : {V : Type 0} (S : Service V) (who : Who) (lun : ℕ) (name : List ℕ) (m : CopyMode) (attr : List ℕ) (n : ℕ) (e : FlxRefusal) (v w : V) → FailsToCount m S who lun name attr n e v w → is_rt_fault e ≡ false
+count-fault : {V : Type 0} (S : FilesService V) (who : Who) (lun : ℕ) (name : List ℕ) (m : CopyMode) (attr : List ℕ) (n : ℕ) (e : FlxRefusal) (v w : V) → FailsToCountAs m S who lun name attr n e v w → is_rt_fault e ≡ false
 count-fault S who lun name Image attr n e v w h = absurd h
 count-fault S who lun name Text attr n e v w h = by h.2
   where
@@ -58,7 +58,7 @@ module _ {E : Type 0} {met : Ghosts E} (disk : E → Disk) (name : List ℕ) whe
     pieces : List (List ℕ)
     fares : Fares disk (is_rt_fault e) old new
     sound : is_lethal e ≡ false → IsSoundDisk (rt_disk disk old) → IsSoundDisk (rt_disk disk new)
-    replaced : is_lethal e ≡ false → IsSoundDisk (rt_disk disk old) → Replaces name 0 pieces (rt_store disk old) (rt_store disk new)
+    replaced : is_lethal e ≡ false → IsSoundDisk (rt_disk disk old) → ReplacesRtBlocks name 0 pieces (rt_store disk old) (rt_store disk new)
     directory : is_lethal e ≡ false → IsSoundDisk (rt_disk disk old) → HasSameDirectory (rt_store disk old) (rt_store disk new)
 
   fares-as : (b c : Bool) (old new : RtAccepted E met) → b ≡ c → Fares disk b old new → Fares disk c old new
@@ -83,11 +83,11 @@ module _ {E : Type 0} {met : Ghosts E} (disk : E → Disk) (name : List ℕ) whe
         fares = fares-as (is_fault r.refusal) (is_rt_fault e) old new (fault-of e (refusal.Rt r.refusal) (is_fault r.refusal) r.is refl)
             (fares-then disk (is_fault r.refusal) old between new puts.fares r.refused.fares);
         sound = λ c s. stays-sound between new (is_fault r.refusal) r.refused.fares (kept c) (puts.sound s);
-        replaced = λ c s. subst (λ (t : RtStore). Replaces name 0 pieces (rt_store disk old) t) (ap rt_store_of (sym (kept c))) (puts.replaced s);
+        replaced = λ c s. subst (λ (t : RtStore). ReplacesRtBlocks name 0 pieces (rt_store disk old) t) (ap rt_store_of (sym (kept c))) (puts.replaced s);
         directory = λ c s. subst (λ (t : RtStore). HasSameDirectory (rt_store disk old) t) (ap rt_store_of (sym (kept c))) (puts.directory s);
       }
 
-  module _ {V : Type 0} (S : Service V) (who : Who) (lun : ℕ) where
+  module _ {V : Type 0} (S : FilesService V) (who : Who) (lun : ℕ) where
     blocks-some : (count : ℕ) (e : FlxRefusal) (v w : V) (old new : RtAccepted E met) → FailsToCopyBlocks S (rt_takes disk) (rt_refuses disk) who lun name count e v w old new → PutSome e old new
     blocks-some count e v w old new (inl d) = took-some e d.pieces old new (ap is_rt_fault d.is) d.took
     blocks-some count e v w old new (inr k) = refused-some e (length k.pieces) k.last k.pieces old k.between new k.took k.refused
@@ -119,7 +119,7 @@ module _ {E : Type 0} {met : Ghosts E} (disk : E → Disk) (name : List ℕ) whe
   leaves-as e x old new same h = subst (λ y. LeavesRt disk name y old new) (sym same) h
 
   -- a file that was made and written is undone
-  undone : (count day : ℕ) (e x : FlxRefusal) (old made stopped new : RtAccepted E met) → Makes disk name count day old made → PutSome x made stopped → Undoes disk name x e stopped new → LeavesRt disk name e old new
+  undone : (count day : ℕ) (e x : FlxRefusal) (old made stopped new : RtAccepted E met) → Makes disk name count day old made → PutSome x made stopped → UndoesToRt disk name x e stopped new → LeavesRt disk name e old new
   undone count day e x old made stopped new m p (inl h) =
       let lethal = h.lethal in
       leaves-as e x old new h.same (record {
@@ -177,8 +177,8 @@ module _ {E : Type 0} {met : Ghosts E} (disk : E → Disk) (name : List ℕ) whe
         directory = λ c s. absurd (never y.0 s);
       }
 
-  module _ {V : Type 0} (S : Service V) (who : Who) (lun : ℕ) (file : FileId) (day : ℕ) where
-    filled-leaves : (m : CopyMode) (attr : List ℕ) (n count : ℕ) (e : FlxRefusal) (v w : V) (old new : RtAccepted E met) → FailsToFill m S disk who lun name attr n count day e v w old new → LeavesRt disk name e old new
+  module _ {V : Type 0} (S : FilesService V) (who : Who) (lun : ℕ) (file : FileId) (day : ℕ) where
+    filled-leaves : (m : CopyMode) (attr : List ℕ) (n count : ℕ) (e : FlxRefusal) (v w : V) (old new : RtAccepted E met) → FailsToFillToRt m S disk who lun name attr n count day e v w old new → LeavesRt disk name e old new
     filled-leaves m attr n count e v w old new (inl k) =
         let r = k.fails.refused in
         let kept : is_lethal e ≡ false → (rt_disk disk new).image ≡ (rt_disk disk old).image = λ c. r.stays (ap is_lethal (sym k.is) ∙ c) in
@@ -196,7 +196,7 @@ module _ {E : Type 0} {met : Ghosts E} (disk : E → Disk) (name : List ℕ) whe
     locked-leaves m e v w old new (inr (inl k)) = leaves-none e old new (count-fault S who lun name m k.attr k.blocks e k.seen w k.fails) k.left
     locked-leaves m e v w old new (inr (inr k)) = filled-leaves m k.attr k.blocks k.count e k.walked w old new k.fails
 
-    pub file-leaves : (m : CopyMode) (e : FlxRefusal) (v w : V) (old new : RtAccepted E met) → FailsToCopyFile m S disk who lun file name day e v w old new → LeavesRt disk name e old new
+    pub file-leaves : (m : CopyMode) (e : FlxRefusal) (v w : V) (old new : RtAccepted E met) → FailsToCopyFileToRt m S disk who lun file name day e v w old new → LeavesRt disk name e old new
     file-leaves m e v w old new (inl k) = leaves-none e old new (ap is_rt_fault k.is) k.left
     file-leaves m e v w old new (inr (inl k)) = by k.gives
       where
@@ -225,7 +225,7 @@ module _ {E : Type 0} {met : Ghosts E} (disk : E → Disk) (name : List ℕ) whe
         let some = copies-some S who lun m l.attr l.blocks l.fills.taken l.walked k.left l.fills.made k.filled l.fills.copies in
         undone k.count day e (refusal.Files k.refusal) old l.fills.made k.filled new l.fills.makes (took-some (refusal.Files k.refusal) some.0 l.fills.made k.filled refl some.1) k.undoes
 
-    pub file-made : (m : CopyMode) (count : ℕ) (v w : V) (old new : RtAccepted E met) → CopiesFile m S disk who lun file name count day v w old new →
+    pub file-made : (m : CopyMode) (count : ℕ) (v w : V) (old new : RtAccepted E met) → CopiesFileToRt m S disk who lun file name count day v w old new →
         Fares disk false old new × (IsSoundDisk (rt_disk disk old) → IsSoundDisk (rt_disk disk new))
     file-made m count v w old new h =
         let l = h.copies in

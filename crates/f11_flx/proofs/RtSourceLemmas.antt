@@ -13,7 +13,7 @@ use Rattle.rt11_volume.specs.declared.refusal.RtRefusal.TheVariants as rt
 use Rattle.rt11_volume.specs.declared.volume.RtAccepted.{RtAccepted}
 use Rattle.rt11_volume.proofs.Named.Laws.{file-first, no-file}
 use Rattle.rt11_volume.proofs.Verifying.Sound.{sound_from}
-use Rattle.f11_flx.specs.RtSource.{FailsToReadPlace, FindsFile, FindsNoFile, HasContents, Looks, ReadsPlace}
+use Rattle.f11_flx.specs.RtSource.{FailsToReadPlace, FindsRtFile, FindsNoRtFile, HasContents, Looks, ReadsPlace}
 use Rattle.f11_flx.specs.Target.{rt_disk, rt_store}
 use Rattle.f11_flx.proofs.RtBlockLemmas.{contents-whole}
 use Rattle.f11_flx.proofs.TargetLemmas.{alive-of, area-length, as-err, dead-of, unfailed-of}
@@ -45,7 +45,7 @@ module _ {E : Type 0} {met : Ghosts E} (disk : E → Disk) where
 
   pub finds-file : (name : List ℕ) (most start blocks : ℕ) (old new : RtAccepted E met) → AnswersRt {T = ℕ × ℕ} disk (Ok (start, blocks)) old new →
       Looked (rt_disk disk old) (rt_disk disk new) most 0 → (IsSoundDisk (rt_disk disk old) → IsFileAt name (rt_store disk old) start blocks) →
-      IsImage (rt_disk disk old).image → FindsFile disk name blocks old new
+      IsImage (rt_disk disk old).image → FindsRtFile disk name blocks old new
   finds-file name most start blocks old new a w found is = record {
     looks = looks-of most (Ok (start, blocks)) old new a w;
     alive = alive-of disk old new (start, blocks) a;
@@ -96,7 +96,7 @@ module _ {E : Type 0} {met : Ghosts E} (disk : E → Disk) where
   }
 
   pub finds-no-file : (name : List ℕ) (most : ℕ) (e : RtRefusal) (old new : RtAccepted E met) → AnswersRt {T = ℕ × ℕ} disk (Err e) old new →
-      Looked (rt_disk disk old) (rt_disk disk new) most (faults_in (as-err {T = ℕ × ℕ} e)) → FailsToFindFile e name (rt_disk disk old) → FindsNoFile disk name e old new
+      Looked (rt_disk disk old) (rt_disk disk new) most (faults_in (as-err {T = ℕ × ℕ} e)) → FailsToFindFile e name (rt_disk disk old) → FindsNoRtFile disk name e old new
   finds-no-file name most e old new a w why = record {
     looks = looks-of most (as-err {T = ℕ × ℕ} e) old new a w;
     alive = unfailed-of disk old new {T = ℕ × ℕ} e a;

@@ -15,7 +15,7 @@ use Rattle.rt11_volume.specs.Calls.{has_failed}
 use Rattle.rt11_volume.specs.Files.{file_area}
 use Rattle.rt11_volume.specs.declared.refusal.RtRefusal.TheVariants.{Failed}
 use Rattle.rt11_volume.specs.declared.volume.RtAccepted.{RtAccepted}
-use Rattle.f11_flx.specs.Asking.{Fails, Service, Who, asks, told}
+use Rattle.f11_flx.specs.Asking.{Fails, FilesService, Who, asks, told}
 use Rattle.f11_flx.specs.Copies.{FailsToCopyText}
 use Rattle.f11_flx.specs.Copying.{MayRefuseFailed, of_volume}
 use Rattle.f11_flx.specs.CopyFromRt.{FailsToCopySpent, Making, as_file}
@@ -25,7 +25,7 @@ use Rattle.f11_flx.specs.Planning.{FailsToPlan}
 use Rattle.f11_flx.specs.Refusal.{is_lethal}
 use Rattle.f11_flx.specs.Source.{FailsAs, up_to_end}
 use Rattle.f11_flx.specs.Target.{rt_disk}
-use Rattle.f11_flx.specs.ToRt.{CopiesFile, FailsLocked, FailsToCopyFile, FailsToCount, FailsToFill, GaveUp, nowhere_refuses, nowhere_takes}
+use Rattle.f11_flx.specs.ToRt.{CopiesFileToRt, FailsLocked, FailsToCopyFileToRt, FailsToCountAs, FailsToFillToRt, GaveUp, nowhere_refuses, nowhere_takes}
 use Rattle.f11_flx.specs.declared.mode.CopyMode.{CopyMode}
 use Rattle.f11_flx.specs.declared.mode.CopyMode.TheVariants.{Image, Text}
 use Rattle.f11_flx.specs.declared.refusal.FlxRefusal.{FlxRefusal}
@@ -39,10 +39,10 @@ use Rattle.f11_flx.proofs.KeptLemmas.{created-alive, dead-asks, granted-unspent,
 module _ {D E : Type 0} {met : Ghosts D} {met' : Ghosts E} (disk : E → Disk) (who : Who) (lun : ℕ) (name : List ℕ) (file : FileId) (day : ℕ)
     (m : CopyMode) (v w : Volume D met) (a b : RtAccepted E met') (dead : is_spent v ≡ true)
   where
-    pub spent-uncopied : (count : ℕ) → CopiesFile m of_volume disk who lun file name count day v w a b → ⊥
+    pub spent-uncopied : (count : ℕ) → CopiesFileToRt m of_volume disk who lun file name count day v w a b → ⊥
     spent-uncopied count h = true-false (sym dead ∙ granted-unspent who (asks (request.Access file access.Locked lun)) v h.opened h.opens)
 
-    pub spent-refused : (e : FlxRefusal) → FailsToCopyFile m of_volume disk who lun file name day e v w a b → e ≡ Files VolumeFailed
+    pub spent-refused : (e : FlxRefusal) → FailsToCopyFileToRt m of_volume disk who lun file name day e v w a b → e ≡ Files VolumeFailed
     spent-refused e (inl k) = k.is ∙ ap Files (dead-asks who (request.Access file access.Locked lun) k.refusal v w dead k.denied).0
     spent-refused e (inr (inl k)) =
         absurd (true-false (sym dead ∙ granted-unspent who (asks (request.Access file access.Locked lun)) v k.opened k.opens))
@@ -50,7 +50,7 @@ module _ {D E : Type 0} {met : Ghosts D} {met' : Ghosts E} (disk : E → Disk) (
         absurd (true-false (sym dead ∙ granted-unspent who (asks (request.Access file access.Locked lun)) v k.opened k.opens))
 
     -- and nothing is asked of the RT-11 volume
-    pub spent-unasked : (e : FlxRefusal) → FailsToCopyFile m of_volume disk who lun file name day e v w a b → b ≡ a
+    pub spent-unasked : (e : FlxRefusal) → FailsToCopyFileToRt m of_volume disk who lun file name day e v w a b → b ≡ a
     spent-unasked e (inl k) = k.left
     spent-unasked e (inr (inl k)) =
         absurd (true-false (sym dead ∙ granted-unspent who (asks (request.Access file access.Locked lun)) v k.opened k.opens))
@@ -99,7 +99,7 @@ module _ {D E : Type 0} {met : Ghosts D} {met' : Ghosts E} (disk : E → Disk) (
         )
 
 -- a copy of an RT-11 volume that had failed is refused as its file is looked for
-module _ {V E : Type 0} {met : Ghosts E} (S : Service V) (disk : E → Disk) (m : CopyMode) (who : Who) (lun : ℕ) (name : List ℕ) (dir : FileId)
+module _ {V E : Type 0} {met : Ghosts E} (S : FilesService V) (disk : E → Disk) (m : CopyMode) (who : Who) (lun : ℕ) (name : List ℕ) (dir : FileId)
     (to : List ℕ) (protection : ℕ) (a b : RtAccepted E met) (v w : V) (dead : has_failed a ≡ true)
   where
     unfound : (f : FlxRefusal) → FailsToPlan disk m name f a b → f ≡ Rt Failed
@@ -120,7 +120,7 @@ module _ {V E : Type 0} {met : Ghosts E} (S : Service V) (disk : E → Disk) (m 
     failed-unasked f (inr h) = absurd (true-false (sym dead ∙ h.plans.alive))
 
 -- one to such a volume as the source is, or where its file is made
-module _ {V E : Type 0} {met : Ghosts E} (S : Service V) (disk : E → Disk) (m : CopyMode) (who : Who) (lun : ℕ) (name : List ℕ) (file : FileId)
+module _ {V E : Type 0} {met : Ghosts E} (S : FilesService V) (disk : E → Disk) (m : CopyMode) (who : Who) (lun : ℕ) (name : List ℕ) (file : FileId)
     (day : ℕ) (a b : RtAccepted E met) (dead : has_failed a ≡ true)
   where
     abbrev May : FlxRefusal → Type 0
@@ -129,7 +129,7 @@ module _ {V E : Type 0} {met : Ghosts E} (S : Service V) (disk : E → Disk) (m 
     same-may : (e x : FlxRefusal) → e ≡ x → May x → May e
     same-may e x is h = subst (λ y. MayRefuseFailed (refused y)) (sym is) h
 
-    uncounted : (n : CopyMode) (attr : List ℕ) (k : ℕ) (e : FlxRefusal) (v w : V) → FailsToCount n S who lun name attr k e v w → May e
+    uncounted : (n : CopyMode) (attr : List ℕ) (k : ℕ) (e : FlxRefusal) (v w : V) → FailsToCountAs n S who lun name attr k e v w → May e
     uncounted Image attr k e v w h = absurd h
     uncounted Text attr k e v w h = by h.2
       where
@@ -142,7 +142,7 @@ module _ {V E : Type 0} {met : Ghosts E} (S : Service V) (disk : E → Disk) (m 
         by (inl x) = same-may e BadRecord x.is tt
         by (inr x) = text x.0 h.0 h.1 x.2
 
-    unfilled : (attr : List ℕ) (k count : ℕ) (e : FlxRefusal) (v w : V) → FailsToFill m S disk who lun name attr k count day e v w a b → May e
+    unfilled : (attr : List ℕ) (k count : ℕ) (e : FlxRefusal) (v w : V) → FailsToFillToRt m S disk who lun name attr k count day e v w a b → May e
     unfilled attr k count e v w (inl h) = same-may e (Rt h.refusal) h.is (h.fails.dead dead).0
     unfilled attr k count e v w (inr h) = absurd (true-false (sym dead ∙ h.makes.alive))
 
@@ -160,10 +160,10 @@ module _ {V E : Type 0} {met : Ghosts E} (S : Service V) (disk : E → Disk) (m 
         by (inl x) = same-may e (Files h.refusal) x.1 tt
         by (inr x) = same-may e f x.1 may
 
-    pub failed-uncopied : (count : ℕ) (v w : V) → CopiesFile m S disk who lun file name count day v w a b → ⊥
+    pub failed-uncopied : (count : ℕ) (v w : V) → CopiesFileToRt m S disk who lun file name count day v w a b → ⊥
     failed-uncopied count v w h = true-false (sym dead ∙ h.copies.fills.makes.alive)
 
-    pub failed-refused : (e : FlxRefusal) (v w : V) → FailsToCopyFile m S disk who lun file name day e v w a b → MayRefuseFailed (refused e)
+    pub failed-refused : (e : FlxRefusal) (v w : V) → FailsToCopyFileToRt m S disk who lun file name day e v w a b → MayRefuseFailed (refused e)
     failed-refused e v w (inl k) = same-may e (Files k.refusal) k.is tt
     failed-refused e v w (inr (inl k)) = gave k.refusal e k.stopped w (unlocked k.refusal k.opened k.stopped k.fails) k.gives
     failed-refused e v w (inr (inr k)) = absurd (true-false (sym dead ∙ k.copies.fills.makes.alive))

@@ -20,7 +20,7 @@ use Rattle.rt11_volume.specs.declared.refusal.RtRefusal.TheVariants as rt
 use Rattle.rt11_volume.specs.declared.volume.RtAccepted.{RtAccepted}
 use Rattle.rt11_volume.proofs.Named.Laws.{created-made, deleted-gone, written-replaced, file-first, no-file}
 use Rattle.f11_flx.specs.CopyToRt.{HasSameDirectory}
-use Rattle.f11_flx.specs.Target.{Deletes, FailsDeleting, FailsPutting, Fares, HasPlaces, Makes, Puts, Refused, rt_disk, rt_store}
+use Rattle.f11_flx.specs.Target.{DeletesRtFile, FailsDeleting, FailsPutting, Fares, HasRtBlocks, Makes, Puts, Refused, rt_disk, rt_store}
 
 abbrev pub as-ok : {T : Type 0} → T → Result T RtRefusal
 as-ok x = Ok x
@@ -72,7 +72,7 @@ module _ {E : Type 0} {met : Ghosts E} (disk : E → Disk) (old new : RtAccepted
   pub deletes : (name : List ℕ) (P : Image → Type 0) (most : ℕ) (result : Result Unit RtRefusal) → AnswersRt disk result old new →
       Went P (rt_disk disk old) (rt_disk disk new) most (faults_in result) →
       OnOk result (IsSoundDisk (rt_disk disk old) → DeletesFile name (rt_disk disk old).image (rt_disk disk new).image) →
-      OnOk result (Deletes disk name old new)
+      OnOk result (DeletesRtFile disk name old new)
   deletes name P most (Ok x) a w made = record {
     fares = fares-of P most (Ok x) a w;
     sound = λ s. record { honest = w.honest ∙ s.honest; accepted = (made s).accepted };
@@ -127,7 +127,7 @@ module _ {E : Type 0} {met : Ghosts E} (disk : E → Disk) (old new : RtAccepted
 
   -- on a sound volume a block that is refused is none of the file's
   past-of : (name : List ℕ) (place blocks : ℕ) (e : RtRefusal) → FailsToReach e name place (rt_disk disk old) → IsSoundDisk (rt_disk disk old) →
-      e ≢ rt.Failed → is_fault e ≡ false → HasPlaces name blocks (rt_store disk old) → blocks ≤ place
+      e ≢ rt.Failed → is_fault e ≡ false → HasRtBlocks name blocks (rt_store disk old) → blocks ≤ place
   past-of name place blocks rt.Failed h s unfailed none has = absurd (unfailed refl)
   past-of name place blocks rt.NoSuchFile h s unfailed none has =
       let empty : has.file ∷ has.more ≡ [] = sym has.named ∙ no-file name (rt_store disk old) (h s) in absurd (cc)

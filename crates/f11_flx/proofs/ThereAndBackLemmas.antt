@@ -15,7 +15,7 @@ use Rattle.rt11_volume.specs.Named.{files_named}
 use Rattle.rt11_volume.specs.Store.{Area, RtStore}
 use Rattle.rt11_volume.proofs.Named.Laws.{file-first}
 use Rattle.f11_flx.specs.Asking.{Who}
-use Rattle.f11_flx.specs.Conversion.{Copy, Holds, copied_from_rt, copied_lines, copied_to_rt}
+use Rattle.f11_flx.specs.Conversion.{Copy, HoldsCopy, copied_from_rt, copied_lines, copied_to_rt}
 use Rattle.f11_flx.specs.CopyFromRt.{CopiesFromRt, as_file, new_id}
 use Rattle.f11_flx.specs.Lines.{has_long_line, in_whole_blocks, lines_of, text_of, without_zeros}
 use Rattle.f11_flx.specs.MakingLaws.{HasCopyOf}
@@ -45,7 +45,7 @@ record IsCopied (m : CopyMode) (name : List ℕ) (t : RtStore) (blocks : ℕ) (f
   pub source : HasFile name t
   pub copy : Copy
   pub converted : copied_from_rt m (file_area source).contents ≡ Some copy
-  pub holds : Holds file copy
+  pub holds : HoldsCopy file copy
   pub blocks_are : length file.blocks ≡ blocks
   pub whole : All (λ block. length block ≡ 512) file.blocks
 
@@ -90,7 +90,7 @@ module _ (source file : File) (name : List ℕ) (t : RtStore) (content : List �
           record {
             records = records;
             are = are;
-            holds = subst (λ (c : Copy). Holds file c) (sym made.1 ∙ ap (λ (l : List (List ℕ)). copied_lines l) (lines ∙ same)) h.holds;
+            holds = subst (λ (c : Copy). HoldsCopy file c) (sym made.1 ∙ ap (λ (l : List (List ℕ)). copied_lines l) (lines ∙ same)) h.holds;
             lines_are = found ∙ ap Some (lines ∙ same);
             same = λ plain. found ∙ ap Some (lines ∙ lines_come_back records plain);
             blocks_are = h.blocks_are;

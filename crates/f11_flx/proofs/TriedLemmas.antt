@@ -12,22 +12,22 @@ use Rattle.f11_store.specs.declared.requests.Reply.{Reply}
 use Rattle.f11_store.specs.declared.requests.Request.{Request}
 use Rattle.f11_store.specs.declared.requests.Request.TheVariants as request
 use Rattle.rt11_volume.specs.declared.volume.RtAccepted.{RtAccepted}
-use Rattle.f11_flx.specs.Asking.{Asking, BreaksOff, Denies, Fails, Granted, Grants, Service, Tried, Who, asks, told, writes, writes_of}
+use Rattle.f11_flx.specs.Asking.{Asking, BreaksOffAsking, Denies, Fails, Granted, Grants, FilesService, Tried, Who, asks, told, writes, writes_of}
 use Rattle.f11_flx.specs.CopyFromRt.{Making, as_file, creation, entry, giving_up, opening}
 use Rattle.f11_flx.specs.FromRt.{CopiesFrom, FailsToCopyFrom}
-use Rattle.f11_flx.specs.Making.{FailsToFill, FailsToFillFile, FailsToMakeCopy, FillsFile, Undoing, UndoingIf, extension, filling_of, is_created}
+use Rattle.f11_flx.specs.Making.{FailsToFillFromRt, FailsToFillFile, FailsToMakeCopy, FillsFile, Undoing, UndoingIf, extension, filling_of, is_created}
 use Rattle.f11_flx.specs.Refusal.{is_lethal}
 use Rattle.f11_flx.specs.declared.mode.CopyMode.{CopyMode}
 use Rattle.f11_flx.specs.declared.refusal.FlxRefusal.{FlxRefusal}
 use Rattle.f11_flx.specs.declared.refusal.FlxRefusal.TheVariants.{BadRecord, Files, LineTooLong, Rt}
 
 -- Only such things were asked, one after another, whatever was answered.
-pub record Tries {V : Type 0} (S : Service V) (is_one : Asking → Bool) (who : Who) (v w : V) : Type 0 where
+pub record Tries {V : Type 0} (S : FilesService V) (is_one : Asking → Bool) (who : Who) (v w : V) : Type 0 where
   pub asked : List Asking
   pub tried : Tried S who asked v w
   pub only : All (λ x. is_one x ≡ true) asked
 
-module _ {V : Type 0} (S : Service V) (is_one : Asking → Bool) (who : Who) where
+module _ {V : Type 0} (S : FilesService V) (is_one : Asking → Bool) (who : Who) where
   pub tries-none : (v : V) → Tries S is_one who v v
   tries-none v = record { asked = []; tried = refl; only = All-nil (λ x. is_one x ≡ true) }
 
@@ -61,7 +61,7 @@ module _ {V : Type 0} (S : Service V) (is_one : Asking → Bool) (who : Who) whe
   tries-granted [] v w o h = subst (λ x. Tries S is_one who v x) (sym h) (tries-none v)
   tries-granted (x ∷ xs) v w o h = tries-then v h.0 w (tries-grant x v h.0 o.0 h.1) (tries-granted xs h.0 w o.1 h.2)
 
-  pub tries-breaks : (xs : List Asking) (e : Refusal) (v w : V) → Only xs → BreaksOff S who xs e v w → Tries S is_one who v w
+  pub tries-breaks : (xs : List Asking) (e : Refusal) (v w : V) → Only xs → BreaksOffAsking S who xs e v w → Tries S is_one who v w
   tries-breaks [] e v w o h = absurd h
   tries-breaks (x ∷ xs) e v w o (inl h) = tries-deny x e v w o.0 h
   tries-breaks (x ∷ xs) e v w o (inr h) = tries-then v h.0 w (tries-grant x v h.0 o.0 h.1) (tries-breaks xs e h.0 w o.1 h.2)
@@ -86,7 +86,7 @@ pub record IsMaking (is_one : Asking → Bool) : Type 0 where
   pub protect : (id : FileId) (word : ℕ) → is_one (asks (request.WriteAttr id (change.Protect word))) ≡ true
   pub delete : (id : FileId) → is_one (asks (request.Delete id)) ≡ true
 
-module _ {V : Type 0} (S : Service V) (who : Who) (lun : ℕ) (is_one : Asking → Bool) (is : IsMaking is_one) where
+module _ {V : Type 0} (S : FilesService V) (who : Who) (lun : ℕ) (is_one : Asking → Bool) (is : IsMaking is_one) where
   only-writes : (place : ℕ) (pieces : List (List ℕ)) → Only S is_one who (writes_of lun place pieces)
   only-writes place [] = tt
   only-writes place (b ∷ more) = (is.write lun (suc place) b, only-writes (suc place) more)
@@ -116,8 +116,8 @@ module _ {V : Type 0} (S : Service V) (who : Who) (lun : ℕ) (is_one : Asking �
   only-entry : (making : Making) (id : FileId) → Only S is_one who (entry making id)
   only-entry making id = (is.enter making.directory making.name id, (is.protect id making.protection, tt))
 
-module _ {V E : Type 0} {met : Ghosts E} (S : Service V) (disk : E → Disk) (m : CopyMode) (who : Who) (lun : ℕ) (name : List ℕ) (is_one : Asking → Bool) (is : IsMaking is_one) where
-  fill-tries : (f : FlxRefusal) (many n : ℕ) (a b : RtAccepted E met) (v w : V) → FailsToFill S disk m who lun name many n f a b v w → Tries S is_one who v w
+module _ {V E : Type 0} {met : Ghosts E} (S : FilesService V) (disk : E → Disk) (m : CopyMode) (who : Who) (lun : ℕ) (name : List ℕ) (is_one : Asking → Bool) (is : IsMaking is_one) where
+  fill-tries : (f : FlxRefusal) (many n : ℕ) (a b : RtAccepted E met) (v w : V) → FailsToFillFromRt S disk m who lun name many n f a b v w → Tries S is_one who v w
   fill-tries (Files e) many n a b v w h = tries-breaks S is_one who (filling_of lun n h.pieces) e v w (only-filling S who lun is_one is n h.pieces) h.breaks
   fill-tries (Rt e) many n a b v w h = tries-granted S is_one who (extension lun n ++ writes_of lun 0 h.pieces) v w (only-front S who lun is_one is n h.pieces) h.granted
   fill-tries BadRecord many n a b v w h = absurd h

@@ -17,11 +17,11 @@ use Rattle.f11_files.specs.Answers.{is_cause, is_fatal, is_fault, is_refused}
 use Rattle.f11_files.specs.Open.{store_in}
 use Rattle.f11_image_store.proofs.StoreLemmas.{unused-is-empty}
 use Rattle.f11_image_store.specs.StoreOf.{store_of}
-use Rattle.f11_fcp.specs.Accesses.{Entry, HasAccessed, Table, access_of, held_in, mark_kept, mark_there}
+use Rattle.f11_fcp.specs.Accesses.{Entry, HasAccessed, AccessTable, access_of, held_in, mark_kept, mark_there}
 use Rattle.f11_fcp.specs.Handles.{State, faults_in}
 use Rattle.f11_fcp.specs.Lengths.{AnswersLength, Measures}
 use Rattle.f11_fcp.specs.Lists.{ServesCall, failures_of, is_sound, store_of_volume}
-use Rattle.f11_fcp.specs.Places.{table_of}
+use Rattle.f11_fcp.specs.Places.{access_table_of}
 use Rattle.f11_fcp.specs.Serving.{StaysAccepted, is_spent, state_in}
 use Rattle.f11_fcp.specs.declared.volume.Volume.{Volume}
 use Rattle.f11_flx.specs.Asking.{Asking, Denies, Grants, IsMeasured, Who, asks, counts, plain, reads, told, writes}
@@ -49,7 +49,7 @@ there-marked s id m is = by_file (file_of s id) is
     by_file (Some f) h = refl
 
 -- what tasks hold of a sound volume is there
-accessed : (t : Table) (s : Store) → HasAccessed t s → AccessesStand (held_in t s)
+accessed : (t : AccessTable) (s : Store) → HasAccessed t s → AccessesStand (held_in t s)
 accessed t s kept task lun low small = by_entry (t task lun) (kept task lun low small)
   where
     by_entry : (o : Option Entry) → mark_there s o ≡ mark_kept o → is_lost (held_in t s) (option_map access_of o) ≡ false
@@ -85,7 +85,7 @@ module _ {D : Type 0} {met : Ghosts D} where
   pub standing : (v : Volume D met) → is_sound v ≡ true → AccessesStand (store_of_volume v)
   standing v sound =
       let parts = sound-parts (state_in v).disk.honest (is_spent v) sound in
-      accessed (table_of v.accesses) (store_in v.files) (v.kept parts.1 parts.0)
+      accessed (access_table_of v.accesses) (store_in v.files) (v.kept parts.1 parts.0)
 
   -- What answers tell of a volume: whether a transfer failed and whether it failed the volume.
   pub record IsFared (fault fatal : Bool) (old new : Volume D met) : Type 0 where

@@ -8,11 +8,11 @@ use Rattle.std.proofs.lemmas.List.Elements.{All-append, All-cons, All-nil}
 use Rattle.std.proofs.lemmas.List.Folds.{concat-append}
 use Rattle.f11_bytes.proofs.PartLemmas.{length-slice_range}
 use Rattle.f11_store.specs.declared.refusals.Refusal.{Refusal}
-use Rattle.f11_flx.specs.Asking.{Denies, Granted, Service, Who, writes, writes_of}
+use Rattle.f11_flx.specs.Asking.{Denies, Granted, FilesService, Who, writes, writes_of}
 use Rattle.f11_flx.specs.Filling.{Out, pending}
 use Rattle.f11_flx.specs.Puts.{PutsAt}
-use Rattle.f11_flx.specs.ToRecords.{ConvertsText, GoesOn, StopsText, bytes_to_come}
-use Rattle.f11_flx.specs.Writing.{FailsToWrite, Onward, Writes, WritesNext, out_bytes}
+use Rattle.f11_flx.specs.ToRecords.{ConvertsText, GivesBytes, StopsText, bytes_to_come}
+use Rattle.f11_flx.specs.Writing.{FailsToWritePieces, Onward, WritesPieces, WritesNext, out_bytes}
 use Rattle.f11_flx.specs.declared.refusal.FlxRefusal.TheVariants.{Files}
 use Rattle.f11_flx.specs.declared.to_records.ToRecords.{ToRecords}
 use Rattle.f11_flx.proofs.AskingLemmas.{granted-append, writes-append}
@@ -33,7 +33,7 @@ onward-then s t u a b c o p q xs ys h k = record {
 }
 
 -- a block is filled further
-pub onward-fill : (s t : ToRecords) (a b : List ℕ) (o p : Out) → GoesOn s t a b (slice_range p.block o.to p.to) → PutsAt o.block p.block o.to p.to → o.to ≤ p.to → Onward s t a b o p []
+pub onward-fill : (s t : ToRecords) (a b : List ℕ) (o p : Out) → GivesBytes s t a b (slice_range p.block o.to p.to) → PutsAt o.block p.block o.to p.to → o.to ≤ p.to → Onward s t a b o p []
 onward-fill s t a b o p g put order = record {
   bytes =
       let filled : pending o ++ slice_range p.block o.to p.to ≡ pending p =
@@ -54,8 +54,8 @@ onward-give s a o p full size empty = record {
   long = refl;
 }
 
-module _ {V : Type 0} (S : Service V) (who : Who) (lun : ℕ) where
-  pub writes-start : (s : ToRecords) (source : List ℕ) (o : Out) (v : V) → Writes S who lun s s source source o o v v
+module _ {V : Type 0} (S : FilesService V) (who : Who) (lun : ℕ) where
+  pub writes-start : (s : ToRecords) (source : List ℕ) (o : Out) (v : V) → WritesPieces S who lun s s source source o o v v
   writes-start s source o v = record {
     pieces = [];
     granted = refl;
@@ -67,8 +67,8 @@ module _ {V : Type 0} (S : Service V) (who : Who) (lun : ℕ) where
 
   -- bytes are read, and more of the block is filled
   pub writes-read : (s0 s s' : ToRecords) (source : List ℕ) (used read next : ℕ) (o0 o o' : Out) (v w : V) →
-      Writes S who lun s0 s source (drop used source) o0 o v w → ConvertsText s s' (drop used source) read o'.block o.to o'.to → PutsAt o.block o'.block o.to o'.to →
-      o'.place ≡ o.place → next ≡ used + read → Writes S who lun s0 s' source (drop next source) o0 o' v w
+      WritesPieces S who lun s0 s source (drop used source) o0 o v w → ConvertsText s s' (drop used source) read o'.block o.to o'.to → PutsAt o.block o'.block o.to o'.to →
+      o'.place ≡ o.place → next ≡ used + read → WritesPieces S who lun s0 s' source (drop next source) o0 o' v w
   writes-read s0 s s' source used read next o0 o o' v w h c p same is =
       let behind : drop read (drop used source) ≡ drop next source = drop-drop read used source ∙ ap (λ (n : ℕ). drop n source) (sym is) in
       record {
@@ -85,7 +85,7 @@ module _ {V : Type 0} (S : Service V) (who : Who) (lun : ℕ) where
 
   -- a block that is full is written
   pub writes-gave : (s0 s : ToRecords) (source rest : List ℕ) (o0 o o' : Out) (v w u : V) →
-      Writes S who lun s0 s source rest o0 o v w → WritesNext S who lun o o' w u → o.to ≡ 512 → length o.block ≡ 512 → Writes S who lun s0 s source rest o0 o' v u
+      WritesPieces S who lun s0 s source rest o0 o v w → WritesNext S who lun o o' w u → o.to ≡ 512 → length o.block ≡ 512 → WritesPieces S who lun s0 s source rest o0 o' v u
   writes-gave s0 s source rest o0 o o' v w u h n full size = record {
     pieces = h.pieces ++ o.block ∷ [];
     granted = subst (λ l. Granted S who l v u) (sym (writes-append lun o0.place h.pieces (o.block ∷ [])))
@@ -98,16 +98,16 @@ module _ {V : Type 0} (S : Service V) (who : Who) (lun : ℕ) where
   }
 
   -- all bytes were read
-  pub writes-ends-at : (s0 s : ToRecords) (source : List ℕ) (used read : ℕ) (o0 o : Out) (v w : V) → Writes S who lun s0 s source (drop (used + read) source) o0 o v w →
-      StopsText s (drop used source) read o.to → used ≤ length source → o.to < 512 → Writes S who lun s0 s source [] o0 o v w
+  pub writes-ends-at : (s0 s : ToRecords) (source : List ℕ) (used read : ℕ) (o0 o : Out) (v w : V) → WritesPieces S who lun s0 s source (drop (used + read) source) o0 o v w →
+      StopsText s (drop used source) read o.to → used ≤ length source → o.to < 512 → WritesPieces S who lun s0 s source [] o0 o v w
   writes-ends-at s0 s source used read o0 o v w h (inl full) low less = absurd (omega (arith, full, less))
   writes-ends-at s0 s source used read o0 o v w h (inr stops) low less =
       let all : used + read ≡ length source = omega (arith, stops.1, low, length-drop {A = ℕ} used source) in
-      subst (λ r. Writes S who lun s0 s source r o0 o v w) (ap (λ (n : ℕ). drop n source) all ∙ drop-length source) h
+      subst (λ r. WritesPieces S who lun s0 s source r o0 o v w) (ap (λ (n : ℕ). drop n source) all ∙ drop-length source) h
 
   -- a block is refused
-  pub writes-refused : (s0 s : ToRecords) (source rest : List ℕ) (o0 o : Out) (e : Refusal) (v w u : V) → Writes S who lun s0 s source rest o0 o v w → o.to ≡ 512 → length o.block ≡ 512 →
-      Denies S who (writes lun (suc o.place) o.block) e w u → FailsToWrite S who lun s0 source o0 (Files e) v u
+  pub writes-refused : (s0 s : ToRecords) (source rest : List ℕ) (o0 o : Out) (e : Refusal) (v w u : V) → WritesPieces S who lun s0 s source rest o0 o v w → o.to ≡ 512 → length o.block ≡ 512 →
+      Denies S who (writes lun (suc o.place) o.block) e w u → FailsToWritePieces S who lun s0 source o0 (Files e) v u
   writes-refused s0 s source rest o0 o e v w u h full size d = record {
     pieces = h.pieces;
     last = o.block;
@@ -122,7 +122,7 @@ module _ {V : Type 0} (S : Service V) (who : Who) (lun : ℕ) where
   }
 
   -- few blocks are written meanwhile
-  pub writes-few : (s0 s : ToRecords) (source rest : List ℕ) (o0 o : Out) (v w : V) → Writes S who lun s0 s source rest o0 o v w →
+  pub writes-few : (s0 s : ToRecords) (source rest : List ℕ) (o0 o : Out) (v w : V) → WritesPieces S who lun s0 s source rest o0 o v w →
       512 * o.place + length (out_bytes o s rest) ≡ 512 * o0.place + length (out_bytes o0 s0 source)
   writes-few s0 s source rest o0 o v w h =
       let on = (h.onward []).bytes in
@@ -131,7 +131,7 @@ module _ {V : Type 0} (S : Service V) (who : Who) (lun : ℕ) where
       let all = ap (λ (l : List ℕ). length l) (sym front ∙ on ∙ ap (λ b. concat h.pieces ++ b) behind) in
       omega (arith, all, length-append {A = ℕ} (concat h.pieces) (out_bytes o s rest), whole-length h.pieces h.whole, h.place)
 
-  pub writes-few-blocks : (s0 s : ToRecords) (source rest : List ℕ) (o0 o : Out) (v w : V) → Writes S who lun s0 s source rest o0 o v w →
+  pub writes-few-blocks : (s0 s : ToRecords) (source rest : List ℕ) (o0 o : Out) (v w : V) → WritesPieces S who lun s0 s source rest o0 o v w →
       512 * o0.place + length (out_bytes o0 s0 source) < 4294967295 → o.place < 4294967295
   writes-few-blocks s0 s source rest o0 o v w h few = omega (arith, writes-few s0 s source rest o0 o v w h, few)
 

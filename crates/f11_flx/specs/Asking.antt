@@ -30,16 +30,16 @@ pub data Asking : Type 0 where
   counts : ℕ → ℕ → Asking
 
 -- What answers: how it may answer a call, and to a task how many blocks the file has that is accessed by a lun; and what there is then.
-pub record Service (V : Type 0) : Type 1 where
+pub record FilesService (V : Type 0) : Type 1 where
   pub serves : V → Call → Answer → V → Type 0
   pub measures : ℕ → ℕ → Result ℕ Refusal → V → V → Type 0
 
 -- the request was answered so, with this block lent, and this one in its place then
-abbrev pub Answers : {V : Type 0} → Service V → Who → Request → List ℕ → Result Reply Refusal → List ℕ → V → V → Type 0
+abbrev pub Answers : {V : Type 0} → FilesService V → Who → Request → List ℕ → Result Reply Refusal → List ℕ → V → V → Type 0
 Answers S who r lent result given old new = S.serves old (call_with who.task who.caller r lent) (answer_with result given) new
 
 -- it was granted,
-abbrev pub Grants : {V : Type 0} → Service V → Who → Asking → V → V → Type 0
+abbrev pub Grants : {V : Type 0} → FilesService V → Who → Asking → V → V → Type 0
 Grants S who (asks r) old new = (lent : List ℕ) × (reply : Reply) × (given : List ℕ) × Answers S who r lent (Ok reply) given old new
 Grants S who (told r reply) old new = (lent : List ℕ) × (given : List ℕ) × Answers S who r lent (Ok reply) given old new
 Grants S who (reads lun vbn block) old new =
@@ -49,7 +49,7 @@ Grants S who (writes lun vbn block) old new =
 Grants S who (counts lun blocks) old new = S.measures who.task lun (Ok blocks) old new
 
 -- or refused
-abbrev pub Denies : {V : Type 0} → Service V → Who → Asking → Refusal → V → V → Type 0
+abbrev pub Denies : {V : Type 0} → FilesService V → Who → Asking → Refusal → V → V → Type 0
 Denies S who (asks r) e old new = (lent : List ℕ) × (given : List ℕ) × Answers S who r lent (Err e) given old new
 Denies S who (told r reply) e old new = (lent : List ℕ) × (given : List ℕ) × Answers S who r lent (Err e) given old new
 Denies S who (reads lun vbn block) e old new =
@@ -58,23 +58,23 @@ Denies S who (writes lun vbn block) e old new = (given : List ℕ) × Answers S 
 Denies S who (counts lun blocks) e old new = S.measures who.task lun (Err e) old new
 
 -- it was refused, or had a reply of another kind, as no honest device gives: that is Damaged
-abbrev pub Fails : {V : Type 0} → Service V → Who → (Reply → Bool) → Request → Refusal → V → V → Type 0
+abbrev pub Fails : {V : Type 0} → FilesService V → Who → (Reply → Bool) → Request → Refusal → V → V → Type 0
 Fails S who is_right r e old new =
     (Denies S who (asks r) e old new) ⊎ ((reply : Reply) × (is_right reply ≡ false) × (e ≡ Damaged) × (Grants S who (told r reply) old new))
 
 -- all of these were granted, one after another
-abbrev pub Granted : {V : Type 0} → Service V → Who → List Asking → V → V → Type 0
+abbrev pub Granted : {V : Type 0} → FilesService V → Who → List Asking → V → V → Type 0
 Granted S who [] old new = new ≡ old
 Granted {V} S who (x ∷ xs) old new = (between : V) × (Grants S who x old between) × (Granted S who xs between new)
 
 -- those before one were granted, and that one was refused
-abbrev pub BreaksOff : {V : Type 0} → Service V → Who → List Asking → Refusal → V → V → Type 0
-BreaksOff S who [] e old new = ⊥
-BreaksOff {V} S who (x ∷ xs) e old new =
-    (Denies S who x e old new) ⊎ ((between : V) × (Grants S who x old between) × (BreaksOff S who xs e between new))
+abbrev pub BreaksOffAsking : {V : Type 0} → FilesService V → Who → List Asking → Refusal → V → V → Type 0
+BreaksOffAsking S who [] e old new = ⊥
+BreaksOffAsking {V} S who (x ∷ xs) e old new =
+    (Denies S who x e old new) ⊎ ((between : V) × (Grants S who x old between) × (BreaksOffAsking S who xs e between new))
 
 -- each was asked, one after another, and was granted or refused
-abbrev pub Tried : {V : Type 0} → Service V → Who → List Asking → V → V → Type 0
+abbrev pub Tried : {V : Type 0} → FilesService V → Who → List Asking → V → V → Type 0
 Tried S who [] old new = new ≡ old
 Tried {V} S who (x ∷ xs) old new =
     (between : V) × ((Grants S who x old between) ⊎ ((e : Refusal) × Denies S who x e old between)) × (Tried S who xs between new)
@@ -85,7 +85,7 @@ IsMeasured task lun (Ok blocks) s s' = (holds_none s task lun ≡ false) × (blo
 IsMeasured task lun (Err e) s s' = (holds_none s task lun ≡ true) × (e ≡ NoSuchAccess) × (s' ≡ s)
 
 -- the plain store
-abbrev pub plain : Service Store
+abbrev pub plain : FilesService Store
 plain = record { serves = Steps; measures = IsMeasured }
 
 -- blocks of the file accessed by a lun, one after another behind so many: each is given, or written

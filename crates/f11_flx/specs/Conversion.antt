@@ -37,6 +37,6 @@ copied_from_rt Text blocks =
     if has_long_line lines then None else Some (copied_lines lines)
 
 -- The file holds the copy.
-pub record Holds (file : File) (copy : Copy) : Type 0 where
+pub record HoldsCopy (file : File) (copy : Copy) : Type 0 where
   pub content : concat file.blocks ≡ copy.content
   pub attr : file.attr ≡ copy.attr

@@ -2,8 +2,8 @@
 use Rattle.std.specs.Prelude.{◌≡◌, ◌⊎◌, ℕ, ◌*◌, ◌<◌, ◌≤◌, List, ◌++◌, All, length, Some}
 use Rattle.std.specs.List.{concat}
 use Rattle.f11_store.specs.declared.refusals.Refusal.{Refusal}
-use Rattle.f11_flx.specs.Asking.{BreaksOff, Granted, Service, Who, reads_of}
-use Rattle.f11_flx.specs.Filling.{Refusing, Taking, Took}
+use Rattle.f11_flx.specs.Asking.{BreaksOffAsking, Granted, FilesService, Who, reads_of}
+use Rattle.f11_flx.specs.Filling.{Refusing, TakingBlocks, Took}
 use Rattle.f11_flx.specs.Lines.{in_whole_blocks}
 use Rattle.f11_flx.specs.ToText.{HasNoText, rest_of, text_left}
 use Rattle.f11_flx.specs.declared.refusal.FlxRefusal.{FlxRefusal}
@@ -11,7 +11,7 @@ use Rattle.f11_flx.specs.declared.refusal.FlxRefusal.TheVariants.{BadRecord, Fil
 use Rattle.f11_flx.specs.declared.to_text.ToText.{ToText}
 
 -- The first blocks of the file that is accessed were read, and taken as they are.
-pub record CopiesBlocks {V W : Type 0} (S : Service V) (K : Taking W) (who : Who) (lun : ℕ) (name : List ℕ) (count : ℕ)
+pub record CopiesBlocks {V W : Type 0} (S : FilesService V) (K : TakingBlocks W) (who : Who) (lun : ℕ) (name : List ℕ) (count : ℕ)
     (old new : V) (t t' : W) : Type 0 where
   pub given : List (List ℕ)
   pub count_is : length given ≡ count
@@ -20,7 +20,7 @@ pub record CopiesBlocks {V W : Type 0} (S : Service V) (K : Taking W) (who : Who
   pub whole : All (λ b. length b ≡ 512) given
 
 -- They were read, and the blocks of their text were taken.
-pub record CopiesText {V W : Type 0} (S : Service V) (K : Taking W) (who : Who) (lun : ℕ) (name : List ℕ) (text : ToText)
+pub record CopiesText {V W : Type 0} (S : FilesService V) (K : TakingBlocks W) (who : Who) (lun : ℕ) (name : List ℕ) (text : ToText)
     (count blocks : ℕ) (old new : V) (t t' : W) : Type 0 where
   pub given : List (List ℕ)
   pub count_is : length given ≡ count
@@ -35,18 +35,18 @@ pub record CopiesText {V W : Type 0} (S : Service V) (K : Taking W) (who : Who) 
   pub pieces_are : concat pieces ≡ in_whole_blocks bytes
 
 -- A block of the file was refused.
-pub record IsDenied {V W : Type 0} (S : Service V) (K : Taking W) (who : Who) (lun : ℕ) (name : List ℕ) (count : ℕ) (e : FlxRefusal)
+pub record IsDenied {V W : Type 0} (S : FilesService V) (K : TakingBlocks W) (who : Who) (lun : ℕ) (name : List ℕ) (count : ℕ) (e : FlxRefusal)
     (old new : V) (t t' : W) : Type 0 where
   pub refusal : Refusal
   pub is : e ≡ Files refusal
   pub given : List (List ℕ)
   pub few : length given ≤ count
-  pub breaks : BreaksOff S who (reads_of lun 0 given) refusal old new
+  pub breaks : BreaksOffAsking S who (reads_of lun 0 given) refusal old new
   pub pieces : List (List ℕ)
   pub took : Took K name 0 pieces t t'
 
 -- Blocks of the file were read, by which it has no text.
-pub record IsNoText {V W : Type 0} (S : Service V) (K : Taking W) (who : Who) (lun : ℕ) (name : List ℕ) (text : ToText) (count : ℕ)
+pub record IsNoText {V W : Type 0} (S : FilesService V) (K : TakingBlocks W) (who : Who) (lun : ℕ) (name : List ℕ) (text : ToText) (count : ℕ)
     (e : FlxRefusal) (old new : V) (t t' : W) : Type 0 where
   pub is : e ≡ BadRecord
   pub given : List (List ℕ)
@@ -57,7 +57,7 @@ pub record IsNoText {V W : Type 0} (S : Service V) (K : Taking W) (who : Who) (l
   pub took : Took K name 0 pieces t t'
 
 -- Blocks of the file were read, and the target refused one: what was read is longer than those that it took.
-pub record IsNotTaken {V W : Type 0} (S : Service V) (K : Taking W) (R : Refusing W) (who : Who) (lun : ℕ) (name : List ℕ) (count : ℕ)
+pub record IsNotTaken {V W : Type 0} (S : FilesService V) (K : TakingBlocks W) (R : Refusing W) (who : Who) (lun : ℕ) (name : List ℕ) (count : ℕ)
     (IsLonger : List (List ℕ) → ℕ → Type 0) (e : FlxRefusal) (old new : V) (t t' : W) : Type 0 where
   pub given : List (List ℕ)
   pub few : length given ≤ count
@@ -75,12 +75,12 @@ HasLongerText t given blocks =
     (more bytes : List ℕ) → rest_of t ≤ length (concat given ++ more) → text_left t (concat given ++ more) ≡ Some bytes →
     512 * blocks < length bytes
 
-abbrev pub FailsToCopyBlocks : {V W : Type 0} → Service V → Taking W → Refusing W → Who → ℕ → List ℕ → ℕ → FlxRefusal → V → V → W →
+abbrev pub FailsToCopyBlocks : {V W : Type 0} → FilesService V → TakingBlocks W → Refusing W → Who → ℕ → List ℕ → ℕ → FlxRefusal → V → V → W →
     W → Type 0
 FailsToCopyBlocks S K R who lun name count e old new t t' =
     (IsDenied S K who lun name count e old new t t') ⊎ (IsNotTaken S K R who lun name count (λ given blocks. blocks < count) e old new t t')
 
-abbrev pub FailsToCopyText : {V W : Type 0} → Service V → Taking W → Refusing W → Who → ℕ → List ℕ → ToText → ℕ → FlxRefusal → V →
+abbrev pub FailsToCopyText : {V W : Type 0} → FilesService V → TakingBlocks W → Refusing W → Who → ℕ → List ℕ → ToText → ℕ → FlxRefusal → V →
     V → W → W → Type 0
 FailsToCopyText S K R who lun name text count e old new t t' =
     (IsDenied S K who lun name count e old new t t')

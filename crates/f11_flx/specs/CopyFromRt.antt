@@ -17,7 +17,7 @@ use Rattle.f11_dev.specs.Disk.{Disk}
 use Rattle.rt11_volume.specs.Files.{FailsToFindFile, HasFile, file_area}
 use Rattle.rt11_volume.specs.Store.{RtStore, rt_store_of}
 use Rattle.rt11_volume.specs.Verifying.Verdict.{IsSoundDisk}
-use Rattle.f11_flx.specs.Asking.{Asking, BreaksOff, Granted, Who, asks, plain, told, writes_of}
+use Rattle.f11_flx.specs.Asking.{Asking, BreaksOffAsking, Granted, Who, asks, plain, told, writes_of}
 use Rattle.f11_flx.specs.Conversion.{Copy, copied_from_rt}
 use Rattle.f11_flx.specs.declared.mode.CopyMode.{CopyMode}
 use Rattle.f11_flx.specs.declared.refusal.FlxRefusal.{FlxRefusal}
@@ -70,7 +70,7 @@ pub record Undoes (who : Who) (before broken undone : List Asking) (e : Refusal)
   pub reached : Store
   pub left : Store
   pub granted : Granted plain who before s reached
-  pub breaks : BreaksOff plain who broken e reached left
+  pub breaks : BreaksOffAsking plain who broken e reached left
   pub undoes : Granted plain who undone left s'
 
 -- the making is refused as the first request is that is refused, and what was made is undone

@@ -18,7 +18,7 @@ use Rattle.rt11_volume.specs.Store.{Area, RtStore, rt_store_of}
 use Rattle.rt11_volume.specs.Verifying.Verdict.{IsSoundDisk}
 use Rattle.rt11_volume.specs.declared.refusal.RtRefusal.{RtRefusal}
 use Rattle.rt11_volume.specs.declared.refusal.RtRefusal.TheVariants as rt
-use Rattle.f11_flx.specs.Asking.{Asking, Granted, BreaksOff, Who, asks, counts, plain, reads_of, told}
+use Rattle.f11_flx.specs.Asking.{Asking, Granted, BreaksOffAsking, Who, asks, counts, plain, reads_of, told}
 use Rattle.f11_flx.specs.Conversion.{copied_to_rt}
 use Rattle.f11_flx.specs.Spelled.{image_of}
 use Rattle.f11_flx.specs.declared.mode.CopyMode.{CopyMode}
@@ -107,7 +107,7 @@ abbrev pub HasWholeBlocks : File → Type 0
 HasWholeBlocks file = All (λ block. length block ≡ 512) file.blocks
 
 -- The file has a conversion, of which no file is made.
-pub record HasNoPlace (m : CopyMode) (file : File) (name : List ℕ) (e : RtRefusal) (disk : Disk) : Type 0 where
+pub record HasNoRtPlace (m : CopyMode) (file : File) (name : List ℕ) (e : RtRefusal) (disk : Disk) : Type 0 where
   pub content : List ℕ
   pub blocks : ℕ
   pub converted : copied_to_rt m file ≡ Some content
@@ -117,9 +117,9 @@ pub record HasNoPlace (m : CopyMode) (file : File) (name : List ℕ) (e : RtRefu
 -- The copy is refused as the first step is that is refused; the source is given up, if it was accessed.
 abbrev pub FailsToCopyToRt : FlxRefusal → CopyMode → Who → ℕ → FileId → List ℕ → Store → Store → Disk → Type 0
 FailsToCopyToRt (refusal.Files e) m who lun source name s s' disk =
-    BreaksOff plain who (reading_of m source lun (file_named s source)) e s s'
+    BreaksOffAsking plain who (reading_of m source lun (file_named s source)) e s s'
 FailsToCopyToRt (refusal.Rt e) m who lun source name s s' disk =
-    GivesUp who lun source s s' × HasNoPlace m (file_named s source) name e disk
+    GivesUp who lun source s s' × HasNoRtPlace m (file_named s source) name e disk
 FailsToCopyToRt refusal.BadRecord m who lun source name s s' disk =
     GivesUp who lun source s s' × (HasWholeBlocks (file_named s source) → copied_to_rt m (file_named s source) ≡ None)
 FailsToCopyToRt refusal.LineTooLong m who lun source name s s' disk = ⊥

@@ -18,7 +18,7 @@ use Rattle.rt11_volume.specs.Verifying.Verdict.{IsSoundDisk}
 use Rattle.rt11_volume.specs.declared.refusal.RtRefusal.{RtRefusal}
 use Rattle.rt11_volume.specs.declared.refusal.RtRefusal.TheVariants.{Failed}
 use Rattle.rt11_volume.specs.declared.volume.RtAccepted.{RtAccepted}
-use Rattle.f11_flx.specs.Asking.{Asking, Service, Tried, Who, asks, counts, reads, told, writes}
+use Rattle.f11_flx.specs.Asking.{Asking, FilesService, Tried, Who, asks, counts, reads, told, writes}
 use Rattle.f11_flx.specs.CopyFromRt.{IsAsBefore}
 use Rattle.f11_flx.specs.Refusal.{is_lethal}
 use Rattle.f11_flx.specs.RtOutcome.{HasSameFiles, KeepsDirectory}
@@ -30,7 +30,7 @@ abbrev pub IsAskedLength : {D : Type 0} {met : Ghosts D} → ℕ → ℕ → Res
 IsAskedLength task lun result old new = AnswersLength task lun result old new × StaysAccepted (state_in new)
 
 -- what a volume answers
-abbrev pub of_volume : {D : Type 0} {met : Ghosts D} → Service (Volume D met)
+abbrev pub of_volume : {D : Type 0} {met : Ghosts D} → FilesService (Volume D met)
 of_volume = record { serves = ServesCall; measures = IsAskedLength }
 
 -- what a test says of an answer's refusal by the Files-11 volume, if it has one, and of one by the RT-11 volume
@@ -131,7 +131,7 @@ pub record ReadsFiles {D T : Type 0} {met : Ghosts D} (result : Result T FlxRefu
 
 -- A file was made, or not, and then the volume is as before, but for slots that its index file got first, unless a device fault or Damaged
 -- was met; on one that had failed nothing is done, and nothing is asked of it where the RT-11 volume had.
-pub record MakesFile {D T : Type 0} {met : Ghosts D} (result : Result T FlxRefusal) (who : Who) (old new : Volume D met) : Type 0 where
+pub record MayMakeFile {D T : Type 0} {met : Ghosts D} (result : Result T FlxRefusal) (who : Who) (old new : Volume D met) : Type 0 where
   pub fares : FaresFiles result old new
   pub keeps : KeepsSpent result old new
   pub unasked : result ≡ Err (Rt Failed) → new ≡ old

@@ -5,7 +5,7 @@ use Rattle.f11_store.specs.declared.refusals.Refusal.TheVariants.{Damaged}
 use Rattle.f11_store.specs.declared.requests.Reply.{Reply}
 use Rattle.f11_store.specs.declared.requests.Request.{Request}
 use Rattle.f11_store.specs.declared.requests.Request.TheVariants as request
-use Rattle.f11_flx.specs.Asking.{Asking, Denies, Granted, Grants, Service, Who, asks, counts, reads, told, writes}
+use Rattle.f11_flx.specs.Asking.{Asking, Denies, Granted, Grants, FilesService, Who, asks, counts, reads, told, writes}
 use Rattle.f11_flx.specs.Making.{is_created}
 use Rattle.f11_flx.specs.Refusal.{is_lethal}
 use Rattle.f11_flx.specs.Source.{is_attr}
@@ -13,7 +13,7 @@ use Rattle.f11_flx.specs.declared.refusal.FlxRefusal.{FlxRefusal}
 use Rattle.f11_flx.specs.declared.refusal.FlxRefusal.TheVariants as refusal
 
 -- each was asked, one after another, and was granted, or refused but for no device fault or Damaged
-abbrev pub TriedCleanly : {V : Type 0} → Service V → Who → List Asking → V → V → Type 0
+abbrev pub TriedCleanly : {V : Type 0} → FilesService V → Who → List Asking → V → V → Type 0
 TriedCleanly S who [] old new = new ≡ old
 TriedCleanly {V} S who (x ∷ xs) old new =
     (between : V) × ((Grants S who x old between) ⊎ ((e : Refusal) × (is_lethal (refusal.Files e) ≡ false) × Denies S who x e old between))
@@ -26,13 +26,13 @@ is_reply_to (request.ReadAttr id) a = is_attr a
 is_reply_to _ a = true
 
 -- it was refused so, or had a reply of another kind, as no honest device gives
-abbrev pub IsLast : {V : Type 0} → Service V → Who → Asking → Refusal → V → V → Type 0
+abbrev pub IsLast : {V : Type 0} → FilesService V → Who → Asking → Refusal → V → V → Type 0
 IsLast S who x e old new =
     (Denies S who x e old new)
     ⊎ ((r : Request) × (a : Reply) × (x ≡ told r a) × (is_reply_to r a ≡ false) × (e ≡ Damaged) × Grants S who x old new)
 
 -- The volume's refusal is of what was asked last.
-pub record EndsDenied {V : Type 0} (S : Service V) (who : Who) (e : Refusal) (old new : V) : Type 0 where
+pub record EndsDenied {V : Type 0} (S : FilesService V) (who : Who) (e : Refusal) (old new : V) : Type 0 where
   pub asked : List Asking
   pub at : V
   pub tried : TriedCleanly S who asked old at
@@ -54,13 +54,13 @@ is_building (writes lun vbn block) = true
 is_building (counts lun blocks) = false
 
 -- A transfer failed on the other volume: all that was asked was granted, and nothing was given up or deleted.
-pub record EndsUnread {V : Type 0} (S : Service V) (who : Who) (old new : V) : Type 0 where
+pub record EndsUnread {V : Type 0} (S : FilesService V) (who : Who) (old new : V) : Type 0 where
   pub asked : List Asking
   pub granted : Granted S who asked old new
   pub building : All (λ x. is_building x ≡ true) asked
 
 -- how a copy from an RT-11 volume ends by a refusal that is a device fault or Damaged
-abbrev pub Ends : {V : Type 0} → Service V → Who → FlxRefusal → V → V → Type 0
+abbrev pub Ends : {V : Type 0} → FilesService V → Who → FlxRefusal → V → V → Type 0
 Ends S who (refusal.Files e) old new = EndsDenied S who e old new
 Ends S who (refusal.Rt e) old new = EndsUnread S who old new
 Ends S who refusal.BadRecord old new = ⊤

@@ -10,7 +10,7 @@ use Rattle.f11_store.specs.declared.requests.Request.TheVariants as request
 use Rattle.rt11_volume.specs.Laws.{HasMade}
 use Rattle.rt11_volume.specs.Verifying.Verdict.{IsSoundDisk}
 use Rattle.rt11_volume.specs.declared.volume.RtAccepted.{RtAccepted}
-use Rattle.f11_flx.specs.Asking.{Asking, Denies, Granted, Grants, Service, Who, asks, counts, reads, told, writes}
+use Rattle.f11_flx.specs.Asking.{Asking, Denies, Granted, Grants, FilesService, Who, asks, counts, reads, told, writes}
 use Rattle.f11_flx.specs.Ended.{EndsDenied}
 use Rattle.f11_flx.specs.Filling.{Took}
 use Rattle.f11_flx.specs.Refusal.{is_lethal}
@@ -35,16 +35,16 @@ is_holding (writes lun vbn block) = false
 is_holding (counts lun blocks) = true
 
 -- All that was asked was granted, and nothing was given up.
-pub record Holds {V : Type 0} (S : Service V) (who : Who) (old new : V) : Type 0 where
+pub record HoldsAsked {V : Type 0} (S : FilesService V) (who : Who) (old new : V) : Type 0 where
   pub asked : List Asking
   pub granted : Granted S who asked old new
   pub holding : All (λ x. is_holding x ≡ true) asked
 
 -- A transfer failed on the RT-11 volume: all that was asked of the other was granted, but for the last, which may have been refused, and
 -- the source wasn't given up.
-pub record EndsHeld {V : Type 0} (S : Service V) (who : Who) (old new : V) : Type 0 where
+pub record EndsHeld {V : Type 0} (S : FilesService V) (who : Who) (old new : V) : Type 0 where
   pub at : V
-  pub holds : Holds S who old at
+  pub holds : HoldsAsked S who old at
   pub last : (new ≡ at) ⊎ ((x : Asking) × (e : Refusal) × (is_lethal (refusal.Files e) ≡ false) × Denies S who x e at new)
 
 -- A file was made on the RT-11 volume, and its first blocks were written; it stays.
@@ -66,7 +66,7 @@ pub record HasAtMostOneMore {E : Type 0} {met : Ghosts E} (disk : E → Disk) (n
         ⊎ ((blocks : ℕ) × HasMade name blocks day (rt_store disk old) (rt_store disk new))
 
 -- The copy had been refused, for no device fault or Damaged, and its file was undone; giving up the source is what was asked last.
-pub record WasRefused {V E : Type 0} {met : Ghosts E} (m : CopyMode) (S : Service V) (disk : E → Disk) (who : Who) (lun : ℕ)
+pub record WasRefused {V E : Type 0} {met : Ghosts E} (m : CopyMode) (S : FilesService V) (disk : E → Disk) (who : Who) (lun : ℕ)
     (file : FileId) (name : List ℕ) (day : ℕ) (e : Refusal) (old new : V) (rt rt' : RtAccepted E met) : Type 0 where
   pub opened : V
   pub opens : Grants S who (asks (request.Access file access.Locked lun)) old opened
@@ -78,14 +78,14 @@ pub record WasRefused {V E : Type 0} {met : Ghosts E} (m : CopyMode) (S : Servic
 
 -- The Files-11 volume's refusal is of what was asked of it last. Nothing was asked of the RT-11 volume, or a file was made, and wasn't
 -- deleted; or it was undone before that, since the copy had been refused.
-pub record EndsOnFiles {V E : Type 0} {met : Ghosts E} (m : CopyMode) (S : Service V) (disk : E → Disk) (who : Who) (lun : ℕ)
+pub record EndsOnFiles {V E : Type 0} {met : Ghosts E} (m : CopyMode) (S : FilesService V) (disk : E → Disk) (who : Who) (lun : ℕ)
     (file : FileId) (name : List ℕ) (day : ℕ) (e : Refusal) (old new : V) (rt rt' : RtAccepted E met) : Type 0 where
   pub files : EndsDenied S who e old new
   pub target : ((rt' ≡ rt) ⊎ (IsMadeInPart disk name day rt rt')) ⊎ (WasRefused m S disk who lun file name day e old new rt rt')
   pub left : HasAtMostOneMore disk name day rt rt'
 
 -- how a copy to an RT-11 volume ends by a refusal that is a device fault or Damaged
-abbrev pub EndsToRt : {V E : Type 0} {met : Ghosts E} → CopyMode → Service V → (E → Disk) → Who → ℕ → FileId → List ℕ → ℕ → FlxRefusal →
+abbrev pub EndsToRt : {V E : Type 0} {met : Ghosts E} → CopyMode → FilesService V → (E → Disk) → Who → ℕ → FileId → List ℕ → ℕ → FlxRefusal →
     V → V → RtAccepted E met → RtAccepted E met → Type 0
 EndsToRt m S disk who lun file name day (refusal.Files e) old new rt rt' = EndsOnFiles m S disk who lun file name day e old new rt rt'
 EndsToRt m S disk who lun file name day (refusal.Rt e) old new rt rt' = EndsHeld S who old new

@@ -31,15 +31,15 @@ use Rattle.f11_flx.specs.declared.refusal.FlxRefusal.TheVariants.{BadRecord}
 use Rattle.f11_flx.specs.declared.to_text.ToText.{ToText}
 
 -- how a target may take a block for this place of the file of a name
-abbrev pub Taking : Type 0 → Type 1
-Taking V = List ℕ → ℕ → List ℕ → V → V → Type 0
+abbrev pub TakingBlocks : Type 0 → Type 1
+TakingBlocks V = List ℕ → ℕ → List ℕ → V → V → Type 0
 
 -- and how it may refuse it
 abbrev pub Refusing : Type 0 → Type 1
 Refusing V = List ℕ → ℕ → List ℕ → FlxRefusal → V → V → Type 0
 
 -- it took these blocks, one after another, from this place on
-abbrev pub Took : {V : Type 0} → Taking V → List ℕ → ℕ → List (List ℕ) → V → V → Type 0
+abbrev pub Took : {V : Type 0} → TakingBlocks V → List ℕ → ℕ → List (List ℕ) → V → V → Type 0
 Took K name place [] old new = new ≡ old
 Took {V} K name place (block ∷ more) old new = (between : V) × (K name place block old between) × (Took K name (suc place) more between new)
 
@@ -61,13 +61,13 @@ abbrev pub out_text : Out → ToText → List ℕ → Option (List ℕ)
 out_text o t bytes = option_map (λ text. pending o ++ text) (text_left t bytes)
 
 -- The block, which is full, was taken, and another one is begun.
-pub record TakesNext {V : Type 0} (K : Taking V) (name : List ℕ) (o o' : Out) (old new : V) : Type 0 where
+pub record TakesNext {V : Type 0} (K : TakingBlocks V) (name : List ℕ) (o o' : Out) (old new : V) : Type 0 where
   pub took : K name o.place o.block old new
   pub next : o'.place ≡ o.place + 1
   pub empty : o'.to ≡ 0
 
 -- So many bytes of the source were read: the text to come was that of the blocks that were taken, and then what is to come.
-pub record Pouring {V : Type 0} (K : Taking V) (name : List ℕ) (t t' : ToText) (source : List ℕ) (used : ℕ) (o o' : Out)
+pub record Pouring {V : Type 0} (K : TakingBlocks V) (name : List ℕ) (t t' : ToText) (source : List ℕ) (used : ℕ) (o o' : Out)
     (old new : V) : Type 0 where
   pub pieces : List (List ℕ)
   pub took : Took K name o.place pieces old new
@@ -80,7 +80,7 @@ pub record Pouring {V : Type 0} (K : Taking V) (name : List ℕ) (t t' : ToText)
   pub few : 512 * length pieces + (o'.to + ending_of t') ≤ o.to + ending_of t + 3 * used
 
 -- All of the source was read, or as much as the file has.
-pub record Pours {V : Type 0} (K : Taking V) (name : List ℕ) (t t' : ToText) (source : List ℕ) (o o' : Out) (old new : V) : Type 0 where
+pub record Pours {V : Type 0} (K : TakingBlocks V) (name : List ℕ) (t t' : ToText) (source : List ℕ) (o o' : Out) (old new : V) : Type 0 where
   pub pieces : List (List ℕ)
   pub took : Took K name o.place pieces old new
   pub place : o'.place ≡ o.place + length pieces
@@ -92,7 +92,7 @@ pub record Pours {V : Type 0} (K : Taking V) (name : List ℕ) (t t' : ToText) (
   pub ended : ends_record t' ≡ false
 
 -- Blocks were taken, and one was refused: the text is longer than those.
-pub record StopsTaking {V : Type 0} (K : Taking V) (R : Refusing V) (name : List ℕ) (t : ToText) (source : List ℕ) (o : Out)
+pub record StopsTaking {V : Type 0} (K : TakingBlocks V) (R : Refusing V) (name : List ℕ) (t : ToText) (source : List ℕ) (o : Out)
     (e : FlxRefusal) (old new : V) : Type 0 where
   pub pieces : List (List ℕ)
   pub last : List ℕ
@@ -103,21 +103,21 @@ pub record StopsTaking {V : Type 0} (K : Taking V) (R : Refusing V) (name : List
       512 * length pieces < length text
 
 -- A record goes past the end of the file; blocks were taken before that.
-pub record MeetsBadRecord {V : Type 0} (K : Taking V) (name : List ℕ) (t : ToText) (source : List ℕ) (o : Out) (e : FlxRefusal)
+pub record MeetsBadRecord {V : Type 0} (K : TakingBlocks V) (name : List ℕ) (t : ToText) (source : List ℕ) (o : Out) (e : FlxRefusal)
     (old new : V) : Type 0 where
   pub bad : e ≡ BadRecord
   pub none : HasNoText t source
   pub pieces : List (List ℕ)
   pub took : Took K name o.place pieces old new
 
-abbrev pub FailsToPour : {V : Type 0} → Taking V → Refusing V → List ℕ → ToText → List ℕ → Out → FlxRefusal → V → V → Type 0
+abbrev pub FailsToPour : {V : Type 0} → TakingBlocks V → Refusing V → List ℕ → ToText → List ℕ → Out → FlxRefusal → V → V → Type 0
 FailsToPour K R name t source o e old new = (MeetsBadRecord K name t source o e old new) ⊎ (StopsTaking K R name t source o e old new)
 
 -- The last block was taken with zeros behind its bytes, where it has some.
 abbrev pub padded : Out → List ℕ
 padded o = pending o ++ replicate (512 - o.to) 0
 
-pub record FinishesLast {V : Type 0} (K : Taking V) (name : List ℕ) (o : Out) (blocks : ℕ) (old new : V) : Type 0 where
+pub record FinishesLast {V : Type 0} (K : TakingBlocks V) (name : List ℕ) (o : Out) (blocks : ℕ) (old new : V) : Type 0 where
   pub some : 0 < o.to
   pub took : K name o.place (padded o) old new
   pub blocks_are : blocks ≡ o.place + 1
@@ -127,8 +127,8 @@ pub record FinishesNone {V : Type 0} (o : Out) (blocks : ℕ) (old new : V) : Ty
   pub stays : new ≡ old
   pub blocks_are : blocks ≡ o.place
 
-abbrev pub Finishes : {V : Type 0} → Taking V → List ℕ → Out → ℕ → V → V → Type 0
-Finishes K name o blocks old new = (FinishesNone o blocks old new) ⊎ (FinishesLast K name o blocks old new)
+abbrev pub FinishesBlocks : {V : Type 0} → TakingBlocks V → List ℕ → Out → ℕ → V → V → Type 0
+FinishesBlocks K name o blocks old new = (FinishesNone o blocks old new) ⊎ (FinishesLast K name o blocks old new)
 
 -- It was refused.
 pub record FailsToFinish {V : Type 0} (R : Refusing V) (name : List ℕ) (o : Out) (e : FlxRefusal) (old new : V) : Type 0 where

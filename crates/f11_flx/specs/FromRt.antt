@@ -4,7 +4,7 @@ use Rattle.f11_dev.specs.Disk.{Disk}
 use Rattle.f11_dev.specs.declared.device.Device.{Ghosts}
 use Rattle.f11_store.specs.declared.files.FileId.{FileId}
 use Rattle.rt11_volume.specs.declared.volume.RtAccepted.{RtAccepted}
-use Rattle.f11_flx.specs.Asking.{Service, Who}
+use Rattle.f11_flx.specs.Asking.{FilesService, Who}
 use Rattle.f11_flx.specs.CopyFromRt.{as_file}
 use Rattle.f11_flx.specs.Making.{FailsToMakeCopy, MakesCopy}
 use Rattle.f11_flx.specs.Planning.{FailsToPlan, Plans}
@@ -12,7 +12,7 @@ use Rattle.f11_flx.specs.declared.mode.CopyMode.{CopyMode}
 use Rattle.f11_flx.specs.declared.refusal.FlxRefusal.{FlxRefusal}
 
 -- The file was found and its copy judged, of so many blocks, and then it was made.
-pub record CopiesFrom {V E : Type 0} {met : Ghosts E} (S : Service V) (disk : E → Disk) (m : CopyMode) (who : Who) (lun : ℕ) (name : List ℕ)
+pub record CopiesFrom {V E : Type 0} {met : Ghosts E} (S : FilesService V) (disk : E → Disk) (m : CopyMode) (who : Who) (lun : ℕ) (name : List ℕ)
     (dir : FileId) (to : List ℕ) (protection blocks : ℕ) (rt rt' : RtAccepted E met) (old new : V) : Type 0 where
   pub many : ℕ
   pub attr : List ℕ
@@ -28,7 +28,7 @@ pub record HasNoPlan {V E : Type 0} {met : Ghosts E} (disk : E → Disk) (m : Co
   pub unasked : new ≡ old
 
 -- It was judged, and its copy wasn't made.
-pub record HasPlanAlone {V E : Type 0} {met : Ghosts E} (S : Service V) (disk : E → Disk) (m : CopyMode) (who : Who) (lun : ℕ)
+pub record HasPlanAlone {V E : Type 0} {met : Ghosts E} (S : FilesService V) (disk : E → Disk) (m : CopyMode) (who : Who) (lun : ℕ)
     (name : List ℕ) (dir : FileId) (to : List ℕ) (protection : ℕ) (f : FlxRefusal) (rt rt' : RtAccepted E met) (old new : V) : Type 0 where
   pub many : ℕ
   pub blocks : ℕ
@@ -38,7 +38,7 @@ pub record HasPlanAlone {V E : Type 0} {met : Ghosts E} (S : Service V) (disk : 
   pub fails : (pieces : List (List ℕ)) →
       FailsToMakeCopy S disk m who lun name many blocks (as_file to dir protection attr pieces) f between rt' old new
 
-abbrev pub FailsToCopyFrom : {V E : Type 0} {met : Ghosts E} → Service V → (E → Disk) → CopyMode → Who → ℕ → List ℕ → FileId → List ℕ → ℕ →
+abbrev pub FailsToCopyFrom : {V E : Type 0} {met : Ghosts E} → FilesService V → (E → Disk) → CopyMode → Who → ℕ → List ℕ → FileId → List ℕ → ℕ →
     FlxRefusal → RtAccepted E met → RtAccepted E met → V → V → Type 0
 FailsToCopyFrom S disk m who lun name dir to protection f rt rt' old new =
     (HasNoPlan disk m name f rt rt' old new) ⊎ (HasPlanAlone S disk m who lun name dir to protection f rt rt' old new)

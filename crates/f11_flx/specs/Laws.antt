@@ -3,7 +3,7 @@ use Rattle.std.specs.Prelude.{◌≡◌, ℕ, ◌+◌, ◌*◌, ◌<◌, ◌≤�
 use Rattle.std.specs.List.{concat}
 use Rattle.f11_bytes.specs.Words.{word}
 use Rattle.f11_store.specs.File.{File, length_of, stated_end}
-use Rattle.f11_flx.specs.Conversion.{Copy, Holds, copied_from_rt, copied_to_rt}
+use Rattle.f11_flx.specs.Conversion.{Copy, HoldsCopy, copied_from_rt, copied_to_rt}
 use Rattle.f11_flx.specs.Lines.{without_zeros, has_crlf, lines_of, text_of, in_whole_blocks}
 use Rattle.f11_flx.specs.Records.{layout_of, some_of, records_in, records_of}
 use Rattle.f11_flx.specs.Spelled.{image_attributes, text_attributes, variable_records}
@@ -102,7 +102,7 @@ ImageEndsWithBlocks = (blocks : ℕ) → stated_end (image_attributes blocks) �
 
 -- blocks that were copied as they are, and back, are the same
 abbrev pub ImageComesBack : Type 0
-ImageComesBack = (file : File) (copy : Copy) → copied_from_rt Image file.blocks ≡ Some copy → Holds file copy →
+ImageComesBack = (file : File) (copy : Copy) → copied_from_rt Image file.blocks ≡ Some copy → HoldsCopy file copy →
     copied_to_rt Image file ≡ Some (concat file.blocks)
 
 -- and so is a text of lines each of which is one
@@ -110,5 +110,5 @@ abbrev pub TextComesBack : Type 0
 TextComesBack =
     (records blocks : List (List ℕ)) (file : File) (copy : Copy) →
     All IsOneLine records → concat blocks ≡ in_whole_blocks (text_of records) →
-    copied_from_rt Text blocks ≡ Some copy → Holds file copy → length (concat file.blocks) ≡ 512 * length_of file →
+    copied_from_rt Text blocks ≡ Some copy → HoldsCopy file copy → length (concat file.blocks) ≡ 512 * length_of file →
     copied_to_rt Text file ≡ Some (concat blocks)

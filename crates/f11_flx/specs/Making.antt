@@ -12,33 +12,33 @@ use Rattle.f11_store.specs.declared.requests.Request.{Request}
 use Rattle.f11_store.specs.declared.requests.Request.TheVariants as request
 use Rattle.rt11_volume.specs.declared.refusal.RtRefusal.{RtRefusal}
 use Rattle.rt11_volume.specs.declared.volume.RtAccepted.{RtAccepted}
-use Rattle.f11_flx.specs.Asking.{Asking, BreaksOff, Denies, Fails, Granted, Grants, Service, Who, asks, writes_of}
+use Rattle.f11_flx.specs.Asking.{Asking, BreaksOffAsking, Denies, Fails, Granted, Grants, FilesService, Who, asks, writes_of}
 use Rattle.f11_flx.specs.Conversion.{copied_from_rt}
 use Rattle.f11_flx.specs.CopyFromRt.{Making, creation, entry, giving_up, opening}
 use Rattle.f11_flx.specs.Passes.{IsCopied, OfEach}
 use Rattle.f11_flx.specs.Refusal.{is_lethal}
-use Rattle.f11_flx.specs.RtSource.{ReadsFirst, StopsReading}
+use Rattle.f11_flx.specs.RtSource.{ReadsRtBlocks, StopsReadingRt}
 use Rattle.f11_flx.specs.declared.mode.CopyMode.{CopyMode}
 use Rattle.f11_flx.specs.declared.refusal.FlxRefusal.{FlxRefusal}
 use Rattle.f11_flx.specs.declared.refusal.FlxRefusal.TheVariants as refusal
 
 -- What undoes something was asked, and the refusal that is answered then: that of what is undone, or a device fault or Damaged
 -- met in undoing.
-pub record IsUndenied {V : Type 0} (S : Service V) (who : Who) (r : Request) (f f' : FlxRefusal) (old new : V) : Type 0 where
+pub record IsUndenied {V : Type 0} (S : FilesService V) (who : Who) (r : Request) (f f' : FlxRefusal) (old new : V) : Type 0 where
   pub granted : Grants S who (asks r) old new
   pub same : f' ≡ f
 
-pub record IsDeniedUndoing {V : Type 0} (S : Service V) (who : Who) (r : Request) (f f' : FlxRefusal) (old new : V) : Type 0 where
+pub record IsDeniedUndoing {V : Type 0} (S : FilesService V) (who : Who) (r : Request) (f f' : FlxRefusal) (old new : V) : Type 0 where
   pub e : Refusal
   pub denied : Denies S who (asks r) e old new
   pub answer : f' ≡ (if is_lethal (refusal.Files e) then refusal.Files e else f)
 
-abbrev pub UndoingIf : {V : Type 0} → Bool → Service V → Who → Request → FlxRefusal → FlxRefusal → V → V → Type 0
+abbrev pub UndoingIf : {V : Type 0} → Bool → FilesService V → Who → Request → FlxRefusal → FlxRefusal → V → V → Type 0
 UndoingIf true S who r f f' old new = (f' ≡ f) × (new ≡ old)
 UndoingIf false S who r f f' old new = (IsUndenied S who r f f' old new) ⊎ (IsDeniedUndoing S who r f f' old new)
 
 -- unless a device fault or Damaged was met before: then nothing is asked
-abbrev pub Undoing : {V : Type 0} → Service V → Who → Request → FlxRefusal → FlxRefusal → V → V → Type 0
+abbrev pub Undoing : {V : Type 0} → FilesService V → Who → Request → FlxRefusal → FlxRefusal → V → V → Type 0
 Undoing S who r f f' old new = UndoingIf (is_lethal f) S who r f f' old new
 
 -- so many blocks are allocated, where there are any;
@@ -50,10 +50,10 @@ abbrev pub filling_of : ℕ → ℕ → List (List ℕ) → List Asking
 filling_of lun n pieces = extension lun n ++ (writes_of lun 0 pieces ++ giving_up lun)
 
 -- The file was read, and the blocks of its copy were written to the file that is accessed, which was given up.
-pub record Fills {V E : Type 0} {met : Ghosts E} (S : Service V) (disk : E → Disk) (m : CopyMode) (who : Who) (lun : ℕ) (name : List ℕ)
+pub record FillsFromRt {V E : Type 0} {met : Ghosts E} (S : FilesService V) (disk : E → Disk) (m : CopyMode) (who : Who) (lun : ℕ) (name : List ℕ)
     (many n : ℕ) (rt rt' : RtAccepted E met) (old new : V) : Type 0 where
   pub source : List (List ℕ)
-  pub reads : ReadsFirst disk name source rt rt'
+  pub reads : ReadsRtBlocks disk name source rt rt'
   pub count : length source ≡ many
   pub pieces : List (List ℕ)
   pub attr : List ℕ
@@ -61,47 +61,47 @@ pub record Fills {V E : Type 0} {met : Ghosts E} (S : Service V) (disk : E → D
   pub granted : Granted S who (filling_of lun n pieces) old new
 
 -- Something that was asked for that was refused.
-pub record BreaksFilling {V E : Type 0} {met : Ghosts E} (S : Service V) (disk : E → Disk) (m : CopyMode) (who : Who) (lun : ℕ)
+pub record BreaksFilling {V E : Type 0} {met : Ghosts E} (S : FilesService V) (disk : E → Disk) (m : CopyMode) (who : Who) (lun : ℕ)
     (name : List ℕ) (many n : ℕ) (e : Refusal) (rt rt' : RtAccepted E met) (old new : V) : Type 0 where
   pub source : List (List ℕ)
-  pub reads : ReadsFirst disk name source rt rt'
+  pub reads : ReadsRtBlocks disk name source rt rt'
   pub pieces : List (List ℕ)
-  pub breaks : BreaksOff S who (filling_of lun n pieces) e old new
+  pub breaks : BreaksOffAsking S who (filling_of lun n pieces) e old new
   pub whole : OfEach m many source (λ contents. (full : List (List ℕ)) (attr : List ℕ) → IsCopied m contents full attr →
-      BreaksOff S who (filling_of lun n full) e old new)
+      BreaksOffAsking S who (filling_of lun n full) e old new)
 
 -- A block of the RT-11 file wasn't read.
-pub record LacksBlock {V E : Type 0} {met : Ghosts E} (S : Service V) (disk : E → Disk) (who : Who) (lun : ℕ) (name : List ℕ)
+pub record LacksBlock {V E : Type 0} {met : Ghosts E} (S : FilesService V) (disk : E → Disk) (who : Who) (lun : ℕ) (name : List ℕ)
     (many n : ℕ) (e : RtRefusal) (rt rt' : RtAccepted E met) (old new : V) : Type 0 where
   pub pieces : List (List ℕ)
   pub granted : Granted S who (extension lun n ++ writes_of lun 0 pieces) old new
-  pub stops : StopsReading disk name many e rt rt'
+  pub stops : StopsReadingRt disk name many e rt rt'
 
 -- It has no copy.
-pub record LacksCopy {V E : Type 0} {met : Ghosts E} (S : Service V) (disk : E → Disk) (m : CopyMode) (who : Who) (lun : ℕ) (name : List ℕ)
+pub record LacksCopy {V E : Type 0} {met : Ghosts E} (S : FilesService V) (disk : E → Disk) (m : CopyMode) (who : Who) (lun : ℕ) (name : List ℕ)
     (many n : ℕ) (rt rt' : RtAccepted E met) (old new : V) : Type 0 where
   pub source : List (List ℕ)
-  pub reads : ReadsFirst disk name source rt rt'
+  pub reads : ReadsRtBlocks disk name source rt rt'
   pub pieces : List (List ℕ)
   pub granted : Granted S who (extension lun n ++ writes_of lun 0 pieces) old new
   pub none : OfEach m many source (λ contents. copied_from_rt m contents ≡ None)
 
-abbrev pub FailsToFill : {V E : Type 0} {met : Ghosts E} → Service V → (E → Disk) → CopyMode → Who → ℕ → List ℕ → ℕ → ℕ → FlxRefusal →
+abbrev pub FailsToFillFromRt : {V E : Type 0} {met : Ghosts E} → FilesService V → (E → Disk) → CopyMode → Who → ℕ → List ℕ → ℕ → ℕ → FlxRefusal →
     RtAccepted E met → RtAccepted E met → V → V → Type 0
-FailsToFill S disk m who lun name many n (refusal.Files e) rt rt' old new = BreaksFilling S disk m who lun name many n e rt rt' old new
-FailsToFill S disk m who lun name many n (refusal.Rt e) rt rt' old new = LacksBlock S disk who lun name many n e rt rt' old new
-FailsToFill S disk m who lun name many n refusal.BadRecord rt rt' old new = ⊥
-FailsToFill S disk m who lun name many n refusal.LineTooLong rt rt' old new = LacksCopy S disk m who lun name many n rt rt' old new
+FailsToFillFromRt S disk m who lun name many n (refusal.Files e) rt rt' old new = BreaksFilling S disk m who lun name many n e rt rt' old new
+FailsToFillFromRt S disk m who lun name many n (refusal.Rt e) rt rt' old new = LacksBlock S disk who lun name many n e rt rt' old new
+FailsToFillFromRt S disk m who lun name many n refusal.BadRecord rt rt' old new = ⊥
+FailsToFillFromRt S disk m who lun name many n refusal.LineTooLong rt rt' old new = LacksCopy S disk m who lun name many n rt rt' old new
 
 -- The file was accessed to be written, and filled.
-pub record FillsFile {V E : Type 0} {met : Ghosts E} (S : Service V) (disk : E → Disk) (m : CopyMode) (who : Who) (lun : ℕ) (name : List ℕ)
+pub record FillsFile {V E : Type 0} {met : Ghosts E} (S : FilesService V) (disk : E → Disk) (m : CopyMode) (who : Who) (lun : ℕ) (name : List ℕ)
     (many n : ℕ) (id : FileId) (rt rt' : RtAccepted E met) (old new : V) : Type 0 where
   pub between : V
   pub opened : Granted S who (opening lun id) old between
-  pub fills : Fills S disk m who lun name many n rt rt' between new
+  pub fills : FillsFromRt S disk m who lun name many n rt rt' between new
 
 -- It wasn't accessed.
-pub record IsNotOpened {V E : Type 0} {met : Ghosts E} (S : Service V) (who : Who) (lun : ℕ) (id : FileId) (f : FlxRefusal)
+pub record IsNotOpened {V E : Type 0} {met : Ghosts E} (S : FilesService V) (who : Who) (lun : ℕ) (id : FileId) (f : FlxRefusal)
     (rt rt' : RtAccepted E met) (old new : V) : Type 0 where
   pub e : Refusal
   pub is : f ≡ refusal.Files e
@@ -109,16 +109,16 @@ pub record IsNotOpened {V E : Type 0} {met : Ghosts E} (S : Service V) (who : Wh
   pub unread : rt' ≡ rt
 
 -- It was, and wasn't filled; it was given up.
-pub record IsNotFilled {V E : Type 0} {met : Ghosts E} (S : Service V) (disk : E → Disk) (m : CopyMode) (who : Who) (lun : ℕ)
+pub record IsNotFilled {V E : Type 0} {met : Ghosts E} (S : FilesService V) (disk : E → Disk) (m : CopyMode) (who : Who) (lun : ℕ)
     (name : List ℕ) (many n : ℕ) (id : FileId) (f' : FlxRefusal) (rt rt' : RtAccepted E met) (old new : V) : Type 0 where
   pub f : FlxRefusal
   pub between : V
   pub left : V
   pub opened : Granted S who (opening lun id) old between
-  pub fails : FailsToFill S disk m who lun name many n f rt rt' between left
+  pub fails : FailsToFillFromRt S disk m who lun name many n f rt rt' between left
   pub undoes : Undoing S who (request.Deaccess lun) f f' left new
 
-abbrev pub FailsToFillFile : {V E : Type 0} {met : Ghosts E} → Service V → (E → Disk) → CopyMode → Who → ℕ → List ℕ → ℕ → ℕ → FileId →
+abbrev pub FailsToFillFile : {V E : Type 0} {met : Ghosts E} → FilesService V → (E → Disk) → CopyMode → Who → ℕ → List ℕ → ℕ → ℕ → FileId →
     FlxRefusal → RtAccepted E met → RtAccepted E met → V → V → Type 0
 FailsToFillFile S disk m who lun name many n id f rt rt' old new =
     (IsNotOpened S who lun id f rt rt' old new) ⊎ (IsNotFilled S disk m who lun name many n id f rt rt' old new)
@@ -129,7 +129,7 @@ is_created (reply.Created id) = true
 is_created _ = false
 
 -- The file was made: created, filled, entered and protected.
-pub record MakesCopy {V E : Type 0} {met : Ghosts E} (S : Service V) (disk : E → Disk) (m : CopyMode) (who : Who) (lun : ℕ) (name : List ℕ)
+pub record MakesCopy {V E : Type 0} {met : Ghosts E} (S : FilesService V) (disk : E → Disk) (m : CopyMode) (who : Who) (lun : ℕ) (name : List ℕ)
     (many n : ℕ) (making : Making) (rt rt' : RtAccepted E met) (old new : V) : Type 0 where
   pub id : FileId
   pub created : V
@@ -139,7 +139,7 @@ pub record MakesCopy {V E : Type 0} {met : Ghosts E} (S : Service V) (disk : E �
   pub enters : Granted S who (entry making id) filled new
 
 -- It wasn't created.
-pub record IsNotCreated {V E : Type 0} {met : Ghosts E} (S : Service V) (who : Who) (making : Making) (f : FlxRefusal)
+pub record IsNotCreated {V E : Type 0} {met : Ghosts E} (S : FilesService V) (who : Who) (making : Making) (f : FlxRefusal)
     (rt rt' : RtAccepted E met) (old new : V) : Type 0 where
   pub e : Refusal
   pub is : f ≡ refusal.Files e
@@ -147,7 +147,7 @@ pub record IsNotCreated {V E : Type 0} {met : Ghosts E} (S : Service V) (who : W
   pub unread : rt' ≡ rt
 
 -- It was, and wasn't filled; it was deleted.
-pub record IsUnfilled {V E : Type 0} {met : Ghosts E} (S : Service V) (disk : E → Disk) (m : CopyMode) (who : Who) (lun : ℕ) (name : List ℕ)
+pub record IsUnfilled {V E : Type 0} {met : Ghosts E} (S : FilesService V) (disk : E → Disk) (m : CopyMode) (who : Who) (lun : ℕ) (name : List ℕ)
     (many n : ℕ) (making : Making) (f' : FlxRefusal) (rt rt' : RtAccepted E met) (old new : V) : Type 0 where
   pub id : FileId
   pub f : FlxRefusal
@@ -158,7 +158,7 @@ pub record IsUnfilled {V E : Type 0} {met : Ghosts E} (S : Service V) (disk : E 
   pub undoes : Undoing S who (request.Delete id) f f' left new
 
 -- It was filled, and wasn't entered, or not protected; it was deleted.
-pub record IsNotEntered {V E : Type 0} {met : Ghosts E} (S : Service V) (disk : E → Disk) (m : CopyMode) (who : Who) (lun : ℕ)
+pub record IsNotEntered {V E : Type 0} {met : Ghosts E} (S : FilesService V) (disk : E → Disk) (m : CopyMode) (who : Who) (lun : ℕ)
     (name : List ℕ) (many n : ℕ) (making : Making) (f' : FlxRefusal) (rt rt' : RtAccepted E met) (old new : V) : Type 0 where
   pub id : FileId
   pub e : Refusal
@@ -167,10 +167,10 @@ pub record IsNotEntered {V E : Type 0} {met : Ghosts E} (S : Service V) (disk : 
   pub left : V
   pub creates : Granted S who (creation making id) old created
   pub fills : FillsFile S disk m who lun name many n id rt rt' created filled
-  pub breaks : BreaksOff S who (entry making id) e filled left
+  pub breaks : BreaksOffAsking S who (entry making id) e filled left
   pub undoes : Undoing S who (request.Delete id) (refusal.Files e) f' left new
 
-abbrev pub FailsToMakeCopy : {V E : Type 0} {met : Ghosts E} → Service V → (E → Disk) → CopyMode → Who → ℕ → List ℕ → ℕ → ℕ → Making →
+abbrev pub FailsToMakeCopy : {V E : Type 0} {met : Ghosts E} → FilesService V → (E → Disk) → CopyMode → Who → ℕ → List ℕ → ℕ → ℕ → Making →
     FlxRefusal → RtAccepted E met → RtAccepted E met → V → V → Type 0
 FailsToMakeCopy S disk m who lun name many n making f rt rt' old new =
     (IsNotCreated S who making f rt rt' old new)

@@ -14,7 +14,7 @@ use Rattle.f11_store.specs.declared.refusals.Refusal.{Refusal}
 use Rattle.rt11_volume.specs.Files.{HasFile, file_area}
 use Rattle.rt11_volume.specs.Store.{RtStore}
 use Rattle.f11_flx.specs.Asking.{Granted, Who, plain}
-use Rattle.f11_flx.specs.Conversion.{Copy, Holds, copied_from_rt}
+use Rattle.f11_flx.specs.Conversion.{Copy, HoldsCopy, copied_from_rt}
 use Rattle.f11_flx.specs.CopyFromRt.{CopiesFromRt, FailsToCopyFromRt, FailsToMakeFile, IndexAfter, IsAsBefore}
 use Rattle.f11_flx.specs.CopyFromRt.{Making, as_file, making_of, new_id}
 use Rattle.f11_flx.specs.declared.mode.CopyMode.{CopyMode}
@@ -34,7 +34,7 @@ RefusedCopyLeaves =
     (s s' : Store) → FreeIsEmpty s → AccessesStand s → FailsToCopyFromRt f m name who lun dir to protection disk s s' → IsAsBefore s s'
 
 -- A name was entered into a directory as it was before, and nothing else is done to the directory.
-pub record IsEntered (making : Making) (id : FileId) (s s' : Store) : Type 0 where
+pub record IsNameEntered (making : Making) (id : FileId) (s s' : Store) : Type 0 where
   pub before : Store
   pub after : Store
   pub as_before : before.file making.directory.number ≡ s.file making.directory.number
@@ -53,7 +53,7 @@ pub record HasMadeFile (making : Making) (caller : Uic) (id : FileId) (s s' : St
   pub ident_is : file.ident ≡ ident_with making.name
   pub owner_is : file.owner ≡ caller
   pub protection_is : file.protection ≡ making.protection
-  pub entered : IsEntered making id s s'
+  pub entered : IsNameEntered making id s s'
   pub others : (n : ℕ) → (n == id.number) ≡ false → (n == making.directory.number) ≡ false → (n == 1) ≡ false → s'.file n ≡ s.file n
   pub added : ℕ
   pub index : IndexAfter s s' added
@@ -74,7 +74,7 @@ pub record HasCopyOf (m : CopyMode) (name : List ℕ) (making : Making) (caller 
     pub copy : Copy
     pub converted : copied_from_rt m (file_area source).contents ≡ Some copy
     pub made : HasMadeFile making caller id s s'
-    pub holds : Holds made.file copy
+    pub holds : HoldsCopy made.file copy
     pub blocks_are : length made.file.blocks ≡ blocks
     pub whole : All (λ block. length block ≡ 512) made.file.blocks
 

@@ -29,7 +29,7 @@ WhereContents disk name v Holds =
     IsSoundDisk (rt_disk disk v) → (contents : List (List ℕ)) → HasContents name contents (rt_store disk v) → Holds contents
 
 -- The file was found, and has so many blocks.
-pub record FindsFile {E : Type 0} {met : Ghosts E} (disk : E → Disk) (name : List ℕ) (blocks : ℕ)
+pub record FindsRtFile {E : Type 0} {met : Ghosts E} (disk : E → Disk) (name : List ℕ) (blocks : ℕ)
     (old new : RtAccepted E met) : Type 0 where
   pub looks : Looks disk false old new
   pub alive : has_failed old ≡ false
@@ -38,7 +38,7 @@ pub record FindsFile {E : Type 0} {met : Ghosts E} (disk : E → Disk) (name : L
   pub whole : WhereContents disk name old (λ contents. All (λ b. length b ≡ 512) contents)
 
 -- It was not found.
-pub record FindsNoFile {E : Type 0} {met : Ghosts E} (disk : E → Disk) (name : List ℕ) (e : RtRefusal)
+pub record FindsNoRtFile {E : Type 0} {met : Ghosts E} (disk : E → Disk) (name : List ℕ) (e : RtRefusal)
     (old new : RtAccepted E met) : Type 0 where
   pub looks : Looks disk (is_fault e) old new
   pub alive : has_failed old ≡ false → e ≢ Failed
@@ -60,7 +60,7 @@ pub record FailsToReadPlace {E : Type 0} {met : Ghosts E} (disk : E → Disk) (n
   pub past : has_failed old ≡ false → is_fault e ≡ false → WhereContents disk name old (λ contents. length contents ≤ place)
 
 -- Its first blocks were read.
-pub record ReadsFirst {E : Type 0} {met : Ghosts E} (disk : E → Disk) (name : List ℕ) (blocks : List (List ℕ))
+pub record ReadsRtBlocks {E : Type 0} {met : Ghosts E} (disk : E → Disk) (name : List ℕ) (blocks : List (List ℕ))
     (old new : RtAccepted E met) : Type 0
   where
     pub looks : Looks disk false old new
@@ -68,7 +68,7 @@ pub record ReadsFirst {E : Type 0} {met : Ghosts E} (disk : E → Disk) (name : 
     pub are : WhereContents disk name old (λ contents. take (length blocks) contents ≡ blocks)
 
 -- They were, but for the last of so many: on a sound volume the file has fewer, unless a transfer fails.
-pub record StopsReading {E : Type 0} {met : Ghosts E} (disk : E → Disk) (name : List ℕ) (many : ℕ) (e : RtRefusal)
+pub record StopsReadingRt {E : Type 0} {met : Ghosts E} (disk : E → Disk) (name : List ℕ) (many : ℕ) (e : RtRefusal)
     (old new : RtAccepted E met) : Type 0
   where
     pub looks : Looks disk (is_fault e) old new

@@ -8,9 +8,9 @@ use Rattle.f11_store.specs.declared.refusals.Refusal.{Refusal}
 use Rattle.f11_store.specs.declared.requests.Reply.{Reply}
 use Rattle.f11_store.specs.declared.requests.Reply.TheVariants as reply
 use Rattle.f11_store.specs.declared.requests.Request.TheVariants as request
-use Rattle.f11_flx.specs.Asking.{Denies, Fails, Granted, Grants, Service, Who, counts, told}
+use Rattle.f11_flx.specs.Asking.{Denies, Fails, Granted, Grants, FilesService, Who, counts, told}
 use Rattle.f11_flx.specs.Copies.{CopiesBlocks, CopiesText, FailsToCopyBlocks, FailsToCopyText}
-use Rattle.f11_flx.specs.Filling.{Refusing, Taking}
+use Rattle.f11_flx.specs.Filling.{Refusing, TakingBlocks}
 use Rattle.f11_flx.specs.Records.{layout_of}
 use Rattle.f11_flx.specs.ToText.{converted_text, rest_of, text_left}
 use Rattle.f11_flx.specs.declared.mode.CopyMode.{CopyMode}
@@ -34,7 +34,7 @@ pub record StartsText (attr : List ℕ) (blocks : ℕ) (text : ToText) : Type 0 
   pub rest_is : rest_of text ≡ min (stated_end attr) (512 * blocks)
 
 -- The file was copied, as blocks or as a text: so many blocks were taken.
-abbrev pub CopiesAs : {V W : Type 0} → CopyMode → Service V → Taking W → Who → ℕ → List ℕ → List ℕ → ℕ → ℕ → V → V → W → W → Type 0
+abbrev pub CopiesAs : {V W : Type 0} → CopyMode → FilesService V → TakingBlocks W → Who → ℕ → List ℕ → List ℕ → ℕ → ℕ → V → V → W → W → Type 0
 CopiesAs Image S K who lun name attr blocks count old new t t' =
     (count ≡ up_to_end attr blocks) × (CopiesBlocks S K who lun name (up_to_end attr blocks) old new t t')
 CopiesAs Text S K who lun name attr blocks count old new t t' =
@@ -47,7 +47,7 @@ pub record HasNoLayout {V W : Type 0} (attr : List ℕ) (e : FlxRefusal) (old ne
   pub stays : new ≡ old
   pub left : t' ≡ t
 
-abbrev pub FailsAs : {V W : Type 0} → CopyMode → Service V → Taking W → Refusing W → Who → ℕ → List ℕ → List ℕ → ℕ → FlxRefusal →
+abbrev pub FailsAs : {V W : Type 0} → CopyMode → FilesService V → TakingBlocks W → Refusing W → Who → ℕ → List ℕ → List ℕ → ℕ → FlxRefusal →
     V → V → W → W → Type 0
 FailsAs Image S K R who lun name attr blocks e old new t t' = FailsToCopyBlocks S K R who lun name (up_to_end attr blocks) e old new t t'
 FailsAs Text S K R who lun name attr blocks e old new t t' =
@@ -55,19 +55,19 @@ FailsAs Text S K R who lun name attr blocks e old new t t' =
     ⊎ ((text : ToText) × (StartsText attr blocks text) × (FailsToCopyText S K R who lun name text (up_to_end attr blocks) e old new t t'))
 
 -- Attributes and length of the source were told.
-pub record TellsSource {V : Type 0} (S : Service V) (who : Who) (lun : ℕ) (source : FileId) (attr : List ℕ) (blocks : ℕ)
+pub record TellsSource {V : Type 0} (S : FilesService V) (who : Who) (lun : ℕ) (source : FileId) (attr : List ℕ) (blocks : ℕ)
     (old new : V) : Type 0 where
   pub of : Attr
   pub attr_is : of.attr ≡ attr
   pub asked : Granted S who (told (request.ReadAttr source) (reply.Attr of) ∷ counts lun blocks ∷ []) old new
 
 -- They weren't.
-pub record LacksLength {V : Type 0} (S : Service V) (who : Who) (lun : ℕ) (source : FileId) (e : Refusal) (old new : V) : Type 0 where
+pub record LacksLength {V : Type 0} (S : FilesService V) (who : Who) (lun : ℕ) (source : FileId) (e : Refusal) (old new : V) : Type 0 where
   pub of : Attr
   pub between : V
   pub asked : Grants S who (told (request.ReadAttr source) (reply.Attr of)) old between
   pub denied : Denies S who (counts lun 0) e between new
 
-abbrev pub TellsNothing : {V : Type 0} → Service V → Who → ℕ → FileId → Refusal → V → V → Type 0
+abbrev pub TellsNothing : {V : Type 0} → FilesService V → Who → ℕ → FileId → Refusal → V → V → Type 0
 TellsNothing S who lun source e old new =
     (Fails S who is_attr (request.ReadAttr source) e old new) ⊎ (LacksLength S who lun source e old new)

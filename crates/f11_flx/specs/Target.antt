@@ -30,13 +30,13 @@ pub record Fares {E : Type 0} {met : Ghosts E} (disk : E → Disk) (fault : Bool
   pub next : has_failed new ≡ (has_failed old || fault)
 
 -- Blocks of the file of a name were written one after another, from this place on.
-abbrev pub Replaces : List ℕ → ℕ → List (List ℕ) → RtStore → RtStore → Type 0
-Replaces name place [] t t' = t' ≡ t
-Replaces name place (block ∷ more) t t' =
-    (between : RtStore) × (HasReplaced name place block t between) × (Replaces name (suc place) more between t')
+abbrev pub ReplacesRtBlocks : List ℕ → ℕ → List (List ℕ) → RtStore → RtStore → Type 0
+ReplacesRtBlocks name place [] t t' = t' ≡ t
+ReplacesRtBlocks name place (block ∷ more) t t' =
+    (between : RtStore) × (HasReplaced name place block t between) × (ReplacesRtBlocks name (suc place) more between t')
 
 -- The first file of the name has so many blocks.
-pub record HasPlaces (name : List ℕ) (blocks : ℕ) (t : RtStore) : Type 0 where
+pub record HasRtBlocks (name : List ℕ) (blocks : ℕ) (t : RtStore) : Type 0 where
   pub file : Area
   pub more : List Area
   pub named : files_named name t ≡ file ∷ more
@@ -70,7 +70,7 @@ pub record Puts {E : Type 0} {met : Ghosts E} (disk : E → Disk) (name : List �
     (old new : RtAccepted E met) : Type 0 where
   pub fares : Fares disk false old new
   pub sound : IsSoundDisk (rt_disk disk old) → IsSoundDisk (rt_disk disk new)
-  pub replaced : IsSoundDisk (rt_disk disk old) → Replaces name place blocks (rt_store disk old) (rt_store disk new)
+  pub replaced : IsSoundDisk (rt_disk disk old) → ReplacesRtBlocks name place blocks (rt_store disk old) (rt_store disk new)
   pub directory : IsSoundDisk (rt_disk disk old) → HasSameDirectory (rt_store disk old) (rt_store disk new)
 
 -- A block was not written: on a sound volume each of the file's blocks can be, unless a transfer fails.
@@ -78,10 +78,10 @@ pub record FailsPutting {E : Type 0} {met : Ghosts E} (disk : E → Disk) (name 
     (old new : RtAccepted E met) : Type 0 where
   pub refused : Refused disk e old new
   pub past : IsSoundDisk (rt_disk disk old) → has_failed old ≡ false → is_fault e ≡ false →
-      (blocks : ℕ) → HasPlaces name blocks (rt_store disk old) → blocks ≤ place
+      (blocks : ℕ) → HasRtBlocks name blocks (rt_store disk old) → blocks ≤ place
 
 -- The file was deleted.
-pub record Deletes {E : Type 0} {met : Ghosts E} (disk : E → Disk) (name : List ℕ) (old new : RtAccepted E met) : Type 0 where
+pub record DeletesRtFile {E : Type 0} {met : Ghosts E} (disk : E → Disk) (name : List ℕ) (old new : RtAccepted E met) : Type 0 where
   pub fares : Fares disk false old new
   pub sound : IsSoundDisk (rt_disk disk old) → IsSoundDisk (rt_disk disk new)
   pub gone : IsSoundDisk (rt_disk disk old) → HasGone name (rt_store disk old) (rt_store disk new)
@@ -94,7 +94,7 @@ pub record RefusesBlock {E : Type 0} {met : Ghosts E} (disk : E → Disk) (name 
   pub is : e ≡ Rt refusal
   pub refused : Refused disk refusal old new
   pub past : IsSoundDisk (rt_disk disk old) → has_failed old ≡ false → is_fault refusal ≡ false →
-      (blocks : ℕ) → blocks ≤ 65535 → HasPlaces name blocks (rt_store disk old) → blocks ≤ place
+      (blocks : ℕ) → blocks ≤ 65535 → HasRtBlocks name blocks (rt_store disk old) → blocks ≤ place
 
 -- The file was not deleted: on a sound volume one that is there and isn't protected is, unless a transfer fails.
 pub record FailsDeleting {E : Type 0} {met : Ghosts E} (disk : E → Disk) (name : List ℕ) (e : RtRefusal)

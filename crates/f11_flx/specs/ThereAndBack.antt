@@ -9,7 +9,7 @@ use Rattle.rt11_volume.specs.Files.{HasFile, file_area}
 use Rattle.rt11_volume.specs.Named.{files_named}
 use Rattle.rt11_volume.specs.Store.{Area, RtStore}
 use Rattle.f11_flx.specs.Asking.{Who}
-use Rattle.f11_flx.specs.Conversion.{Holds, copied_lines}
+use Rattle.f11_flx.specs.Conversion.{HoldsCopy, copied_lines}
 use Rattle.f11_flx.specs.CopyFromRt.{CopiesFromRt, new_id}
 use Rattle.f11_flx.specs.CopyToRt.{CopiesToRt, HasWholeBlocks}
 use Rattle.f11_flx.specs.Laws.{IsOneLine}
@@ -31,7 +31,7 @@ pub record HasImageOf (source file : File) (blocks back : ℕ) : Type 0 where
 pub record HasLinesOf (source file : File) (back : ℕ) : Type 0 where
   pub records : List (List ℕ)
   pub are : records_of source ≡ Some records
-  pub holds : Holds file (copied_lines (lines_of (without_zeros (text_of records))))
+  pub holds : HoldsCopy file (copied_lines (lines_of (without_zeros (text_of records))))
   pub lines_are : records_of file ≡ Some (lines_of (without_zeros (text_of records)))
   pub same : All IsOneLine records → records_of file ≡ Some records
   pub blocks_are : length file.blocks ≡ back

@@ -54,14 +54,14 @@ open_of s = length (text_so_far s.line.items s.stage)
 
 -- Bytes were read and given: where the file goes on with `after` in place of `before`, what is to come is that without
 -- these bytes; the longest line is the same, and so is whether one is too long.
-pub record GoesOn (old new : ToRecords) (before after given : List ℕ) : Type 0 where
+pub record GivesBytes (old new : ToRecords) (before after given : List ℕ) : Type 0 where
   pub bytes : bytes_to_come old before ≡ given ++ bytes_to_come new after
   pub longest : longest_with new after ≡ longest_with old before
   pub long : is_too_long new after ≡ is_too_long old before
 
 -- So many bytes of the source were read, and bytes were put into the target, whatever follows the source.
 pub record ConvertsText (old new : ToRecords) (source : List ℕ) (used : ℕ) (target : List ℕ) (from to : ℕ) : Type 0 where
-  pub goes_on : (more : List ℕ) → GoesOn old new (source ++ more) (drop used source ++ more) (slice_range target from to)
+  pub goes_on : (more : List ℕ) → GivesBytes old new (source ++ more) (drop used source ++ more) (slice_range target from to)
   pub unended : open_of new ≤ open_of old + used
   pub within : used ≤ length source
   pub order : from ≤ to
@@ -72,7 +72,7 @@ StopsText s source used to = (to ≡ 512) ⊎ ((gives s ≡ false) × (used ≡ 
 
 -- the text has no more bytes, and its last line is ended
 pub record EndsText (old new : ToRecords) : Type 0 where
-  pub goes_on : GoesOn old new [] [] []
+  pub goes_on : GivesBytes old new [] [] []
   pub none_open : open_of new ≡ 0
 
 -- a line is too long, whatever follows the source
@@ -81,7 +81,7 @@ HasLongLine s source = (more : List ℕ) → is_too_long s (source ++ more) ≡ 
 
 -- one step: a byte of the line's record was given, or a byte of the source was read
 pub record StepsText (old new : ToRecords) (source : List ℕ) (used next : ℕ) (given : Option ℕ) : Type 0 where
-  pub goes_on : (more : List ℕ) → GoesOn old new (drop used source ++ more) (drop next source ++ more) (option_to_list given)
+  pub goes_on : (more : List ℕ) → GivesBytes old new (drop used source ++ more) (drop next source ++ more) (option_to_list given)
   pub unended : open_of new + used ≤ open_of old + next
   pub within : next ≤ length source
   pub order : used ≤ next
@@ -89,5 +89,5 @@ pub record StepsText (old new : ToRecords) (source : List ℕ) (used next : ℕ)
 
 -- a byte of the text was read
 pub record ReadsText (old new : ToRecords) (byte : ℕ) : Type 0 where
-  pub goes_on : (bytes : List ℕ) → GoesOn old new (byte ∷ bytes) bytes []
+  pub goes_on : (bytes : List ℕ) → GivesBytes old new (byte ∷ bytes) bytes []
   pub unended : open_of new ≤ open_of old + 1

@@ -88,7 +88,7 @@ abbrev pub RefusesOn : ToText → ℕ → Type 0
 RefusesOn old byte = (bytes : List ℕ) → rest_of old ≤ length bytes + 1 → text_left old (byte ∷ bytes) ≡ None
 
 -- one step: CR or LF was given, or a byte of the source was read
-pub record Steps (old new : ToText) (source : List ℕ) (used next : ℕ) (given : Option ℕ) : Type 0 where
+pub record IsTextStep (old new : ToText) (source : List ℕ) (used next : ℕ) (given : Option ℕ) : Type 0 where
   pub text : (more : List ℕ) → rest_of old ≤ length (drop used source ++ more) →
       text_left old (drop used source ++ more) ≡ option_map (λ text. option_to_list given ++ text)
       (text_left new (drop next source ++ more))

@@ -2,7 +2,7 @@
 use Rattle.std.specs.Prelude.{◌≡◌, ℕ, suc, ◌+◌, ◌≤◌, true, List, [], ◌∷◌, ◌++◌, All, length}
 use Rattle.std.specs.List.{concat}
 use Rattle.f11_store.specs.declared.refusals.Refusal.{Refusal}
-use Rattle.f11_flx.specs.Asking.{Denies, Granted, Service, Who, writes, writes_of}
+use Rattle.f11_flx.specs.Asking.{Denies, Granted, FilesService, Who, writes, writes_of}
 use Rattle.f11_flx.specs.Filling.{Out, pending}
 use Rattle.f11_flx.specs.ToRecords.{bytes_to_come, is_too_long, longest_with, open_of}
 use Rattle.f11_flx.specs.declared.refusal.FlxRefusal.{FlxRefusal}
@@ -20,7 +20,7 @@ pub record Onward (s s' : ToRecords) (before after : List ℕ) (o o' : Out) (pie
   pub long : is_too_long s' after ≡ is_too_long s before
 
 -- The source was read but for the rest, and blocks of the file accessed by the lun were written.
-pub record Writes {V : Type 0} (S : Service V) (who : Who) (lun : ℕ) (s s' : ToRecords) (source rest : List ℕ) (o o' : Out) (old new : V) :
+pub record WritesPieces {V : Type 0} (S : FilesService V) (who : Who) (lun : ℕ) (s s' : ToRecords) (source rest : List ℕ) (o o' : Out) (old new : V) :
     Type 0
   where
     pub pieces : List (List ℕ)
@@ -31,7 +31,7 @@ pub record Writes {V : Type 0} (S : Service V) (who : Who) (lun : ℕ) (s s' : T
     pub unended : open_of s' + length rest ≤ open_of s + length source
 
 -- Blocks were written, and one was refused: these are the first of the bytes to come, whatever follows the source.
-pub record StopsWriting {V : Type 0} (S : Service V) (who : Who) (lun : ℕ) (s : ToRecords) (source : List ℕ) (o : Out) (e : Refusal)
+pub record StopsAtPiece {V : Type 0} (S : FilesService V) (who : Who) (lun : ℕ) (s : ToRecords) (source : List ℕ) (o : Out) (e : Refusal)
     (old new : V) : Type 0 where
   pub pieces : List (List ℕ)
   pub last : List ℕ
@@ -42,7 +42,7 @@ pub record StopsWriting {V : Type 0} (S : Service V) (who : Who) (lun : ℕ) (s 
   pub begins : (more : List ℕ) → (rest : List ℕ) × (out_bytes o s (source ++ more) ≡ concat (pieces ++ last ∷ []) ++ rest)
 
 -- A line is too long, whatever follows; blocks were written before that.
-pub record MeetsLongLine {V : Type 0} (S : Service V) (who : Who) (lun : ℕ) (s : ToRecords) (source : List ℕ) (o : Out) (old new : V) :
+pub record MeetsLongLine {V : Type 0} (S : FilesService V) (who : Who) (lun : ℕ) (s : ToRecords) (source : List ℕ) (o : Out) (old new : V) :
     Type 0
   where
     pub pieces : List (List ℕ)
@@ -50,14 +50,14 @@ pub record MeetsLongLine {V : Type 0} (S : Service V) (who : Who) (lun : ℕ) (s
     pub long : (more : List ℕ) → is_too_long s (source ++ more) ≡ true
 
 -- why not all was written
-abbrev pub FailsToWrite : {V : Type 0} → Service V → Who → ℕ → ToRecords → List ℕ → Out → FlxRefusal → V → V → Type 0
-FailsToWrite S who lun s source o (refusal.Files e) old new = StopsWriting S who lun s source o e old new
-FailsToWrite S who lun s source o (refusal.Rt e) old new = ⊥
-FailsToWrite S who lun s source o refusal.BadRecord old new = ⊥
-FailsToWrite S who lun s source o refusal.LineTooLong old new = MeetsLongLine S who lun s source o old new
+abbrev pub FailsToWritePieces : {V : Type 0} → FilesService V → Who → ℕ → ToRecords → List ℕ → Out → FlxRefusal → V → V → Type 0
+FailsToWritePieces S who lun s source o (refusal.Files e) old new = StopsAtPiece S who lun s source o e old new
+FailsToWritePieces S who lun s source o (refusal.Rt e) old new = ⊥
+FailsToWritePieces S who lun s source o refusal.BadRecord old new = ⊥
+FailsToWritePieces S who lun s source o refusal.LineTooLong old new = MeetsLongLine S who lun s source o old new
 
 -- The block, which is full, was written, and another one is begun.
-pub record WritesNext {V : Type 0} (S : Service V) (who : Who) (lun : ℕ) (o o' : Out) (old new : V) : Type 0 where
+pub record WritesNext {V : Type 0} (S : FilesService V) (who : Who) (lun : ℕ) (o o' : Out) (old new : V) : Type 0 where
   pub granted : Granted S who (writes_of lun o.place (o.block ∷ [])) old new
   pub next : o'.place ≡ o.place + 1
   pub empty : o'.to ≡ 0

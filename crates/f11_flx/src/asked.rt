@@ -2,7 +2,7 @@
 ghost use Rattle.std.specs.Prelude.{◌≡◌, ◌≤◌, length, IfOk, IfErr, OnOk};
 ghost use Rattle.f11_runs.specs.Each.{answer_with, call_with};
 ghost use Rattle.f11_store.specs.declared.requests.Request.TheVariants as request;
-ghost use Rattle.f11_flx.specs.Asking.{Denies, Grants, Service, asks, counts, reads, told, who_asks, writes};
+ghost use Rattle.f11_flx.specs.Asking.{Denies, Grants, FilesService, asks, counts, reads, told, who_asks, writes};
 
 use f11_bytes::{BLOCK_SIZE, Block};
 use f11_store::{Lun, Refusal, Reply, Request, Task, Uic};
@@ -13,7 +13,7 @@ use f11_store::{Lun, Refusal, Reply, Request, Task, Uic};
 /// known of it, on any device; what follows where its device is honest is a matter of that relation alone.
 pub trait Asked {
     /// How it may answer, and the state then.
-    ghost service: { Service Self };
+    ghost service: { FilesService Self };
 
     /// Serves a request of a task for a user, with the caller's block.
     fn serve(

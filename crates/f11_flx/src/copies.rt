@@ -2,7 +2,7 @@
 ghost use Rattle.std.specs.Prelude.{◌≡◌, ◌-◌, ◌+◌, ◌*◌, ◌≤◌, ◌<◌, ◌++◌, false, length, replicate, take, IfErr, IfOk, OnOk};
 ghost use Rattle.f11_flx.specs.Asking.{who_asks};
 ghost use Rattle.f11_flx.specs.Copies.{CopiesBlocks, CopiesText, FailsToCopyBlocks, FailsToCopyText};
-ghost use Rattle.f11_flx.specs.Filling.{FailsToFinish, Finishes, out_of};
+ghost use Rattle.f11_flx.specs.Filling.{FailsToFinish, FinishesBlocks, out_of};
 ghost use Rattle.f11_flx.specs.ToText.{ends_record, rest_of};
 
 use crate::asked::{Asked, Asker, read};
@@ -90,7 +90,7 @@ fn finish<T: Takes>(out: &mut Filling, target: &mut T, name: &RtName) -> Result<
     requires room { out.old.to < 512 }
     requires few { out.old.place < 4294967295 }
     ensures size { length out.old.block ≡ 512 }
-    ensures finishes { IfOk result (λ blocks. Finishes T.took name.now (out_of out.old) blocks
+    ensures finishes { IfOk result (λ blocks. FinishesBlocks T.took name.now (out_of out.old) blocks
         target.old target.new) }
     ensures refused { IfErr result (λ e. FailsToFinish T.refused name.now (out_of out.old) e
         target.old target.new) }

@@ -3,7 +3,7 @@ ghost use Rattle.std.specs.Prelude.{◌≡◌, ℕ, Ok, Result};
 ghost use Rattle.f11_runs.specs.Each.{answer_with, call_with};
 ghost use Rattle.f11_store.specs.declared.refusals.Refusal.{Refusal};
 ghost use Rattle.f11_store.specs.declared.requests.Reply.TheVariants as reply;
-ghost use Rattle.f11_flx.specs.Asking.{Service};
+ghost use Rattle.f11_flx.specs.Asking.{FilesService};
 ghost use Rattle.f11_flx.specs.Dry.{dry};
 
 use crate::asked::Asked;

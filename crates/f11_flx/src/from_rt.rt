@@ -4,7 +4,7 @@ ghost use Rattle.f11_fcp.specs.Lists.{store_of_volume};
 ghost use Rattle.f11_fcp.specs.Serving.{is_spent};
 ghost use Rattle.rt11_volume.specs.Calls.{volume_device};
 ghost use Rattle.rt11_volume.specs.Store.{rt_store_of};
-ghost use Rattle.f11_flx.specs.Copying.{MakesFile, ReadsRt, WhereSound, is_whole, of_volume};
+ghost use Rattle.f11_flx.specs.Copying.{MayMakeFile, ReadsRt, WhereSound, is_whole, of_volume};
 ghost use Rattle.f11_flx.specs.Ended.{Ends};
 ghost use Rattle.f11_flx.specs.Refusal.{is_lethal};
 ghost use Rattle.f11_flx.specs.Asking.{who_asks};
@@ -50,7 +50,7 @@ pub fn copy_from_rt<D: Device, E: Device>(
     mode: CopyMode,
 ) -> Result<u32, FlxRefusal>
     ensures source { ReadsRt E.disk result rt.old rt.new }
-    ensures files { MakesFile result (who_asks task uic) vol.old vol.new }
+    ensures files { MayMakeFile result (who_asks task uic) vol.old vol.new }
     ensures spent { is_spent vol.old ≡ true → IsErrAnd result (λ e.
         FailsToCopySpent e mode name.now (E.disk (volume_device rt.old))) }
     ensures ended { IfErr result (λ e. is_lethal e ≡ true

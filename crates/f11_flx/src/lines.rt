@@ -2,7 +2,7 @@
 ghost use Rattle.std.specs.Prelude.{◌≡◌, ◌+◌, ◌*◌, ◌<◌, ◌≤◌, [], false, length, IfErr, IfOk, OnOk};
 ghost use Rattle.f11_flx.specs.Asking.{who_asks};
 ghost use Rattle.f11_flx.specs.Filling.{out_of};
-ghost use Rattle.f11_flx.specs.Passes.{Begins, EndsLines, FailsToEnd, FailsToFlush, FailsToReadLines, Flushes, ReadsLines};
+ghost use Rattle.f11_flx.specs.Passes.{BeginsLines, EndsLines, FailsToEnd, FailsToFlush, FailsToReadLines, Flushes, ReadsLines};
 ghost use Rattle.f11_flx.specs.Writing.{out_bytes};
 
 use crate::asked::{Asked, Asker};
@@ -35,7 +35,7 @@ pub fn read_lines<E: Device, S: Asked>(
     service: &mut S,
     by: &Asker,
 ) -> Result<(), FlxRefusal>
-    requires begins { Begins lines.old }
+    requires begins { BeginsLines lines.old }
     requires place { out.old.place ≡ 0 }
     requires to { out.old.to ≡ 0 }
     ensures reads { OnOk result (ReadsLines S.service E.disk (who_asks by.now.task by.now.uic)

@@ -3,9 +3,9 @@ ghost use Rattle.std.specs.Prelude.{◌≡◌, ◌≤◌, ℕ, List, IfErr, IfOk
 ghost use Rattle.f11_store.specs.Ident.{ident_with as ident_of};
 ghost use Rattle.f11_store.specs.declared.requests.Reply.TheVariants as reply;
 ghost use Rattle.f11_store.specs.declared.requests.Request.TheVariants as request;
-ghost use Rattle.f11_flx.specs.Asking.{BreaksOff, Fails, Granted, Grants, told, who_asks};
+ghost use Rattle.f11_flx.specs.Asking.{BreaksOffAsking, Fails, Granted, Grants, told, who_asks};
 ghost use Rattle.f11_flx.specs.CopyFromRt.{as_file, entry as entry_of};
-ghost use Rattle.f11_flx.specs.Making.{FailsToFill, FailsToFillFile, FailsToMakeCopy, Fills, FillsFile, MakesCopy, extension, is_created};
+ghost use Rattle.f11_flx.specs.Making.{FailsToFillFromRt, FailsToFillFile, FailsToMakeCopy, FillsFromRt, FillsFile, MakesCopy, extension, is_created};
 ghost use Rattle.f11_flx.specs.Passes.{CopiesFile, FailsToCopyFile};
 
 use crate::asked::{Asked, Asker, ask};
@@ -56,7 +56,7 @@ fn create<S: Asked>(
 fn extend<S: Asked>(service: &mut S, by: &Asker, blocks: u32) -> Result<(), Refusal>
     ensures granted { OnOk result (Granted S.service (who_asks by.now.task by.now.uic)
         (extension by.now.lun blocks) service.old service.new) }
-    ensures denied { IfErr result (λ e. BreaksOff S.service (who_asks by.now.task by.now.uic)
+    ensures denied { IfErr result (λ e. BreaksOffAsking S.service (who_asks by.now.task by.now.uic)
         (extension by.now.lun blocks) e service.old service.new) }
 {
     if blocks == 0 {
@@ -105,10 +105,10 @@ fn fill<E: Device, S: Asked>(
     service: &mut S,
     by: &Asker,
 ) -> Result<(), FlxRefusal>
-    ensures fills { OnOk result (Fills S.service E.disk mode (who_asks by.now.task by.now.uic)
+    ensures fills { OnOk result (FillsFromRt S.service E.disk mode (who_asks by.now.task by.now.uic)
         by.now.lun name.now plan.now.source plan.now.blocks
         rt.old rt.new service.old service.new) }
-    ensures fails { IfErr result (λ e. FailsToFill S.service E.disk mode
+    ensures fails { IfErr result (λ e. FailsToFillFromRt S.service E.disk mode
         (who_asks by.now.task by.now.uic) by.now.lun name.now plan.now.source plan.now.blocks e
         rt.old rt.new service.old service.new) }
 {
@@ -159,7 +159,7 @@ fn enter<S: Asked>(service: &mut S, by: &Asker, entry: &Entry, id: FileId) -> Re
         (who_asks by.now.task by.now.uic)
         (entry_of (as_file entry.now.name entry.now.dir entry.now.protection attr blocks) id)
         service.old service.new) }
-    ensures denied { (attr : List ℕ) (blocks : List (List ℕ)) → IfErr result (λ e. BreaksOff
+    ensures denied { (attr : List ℕ) (blocks : List (List ℕ)) → IfErr result (λ e. BreaksOffAsking
         S.service (who_asks by.now.task by.now.uic)
         (entry_of (as_file entry.now.name entry.now.dir entry.now.protection attr blocks) id) e
         service.old service.new) }

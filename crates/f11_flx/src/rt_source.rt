@@ -1,6 +1,6 @@
 //! A file on an RT-11 volume that is read.
 ghost use Rattle.std.specs.Prelude.{◌≡◌, IfOk, IfErr, OnOk};
-ghost use Rattle.f11_flx.specs.RtSource.{FailsToReadPlace, FindsFile, FindsNoFile, ReadsPlace};
+ghost use Rattle.f11_flx.specs.RtSource.{FailsToReadPlace, FindsRtFile, FindsNoRtFile, ReadsPlace};
 
 use f11_bytes::Block;
 use f11_dev::Device;
@@ -8,8 +8,8 @@ use rt11_volume::{RtAccepted, RtName, RtRefusal};
 
 /// Finds the file of a name: how many blocks it has.
 pub fn find<E: Device>(rt: &mut RtAccepted<E>, name: &RtName) -> Result<u16, RtRefusal>
-    ensures found { IfOk result (λ blocks. FindsFile E.disk name.now blocks rt.old rt.new) }
-    ensures refused { IfErr result (λ e. FindsNoFile E.disk name.now e rt.old rt.new) }
+    ensures found { IfOk result (λ blocks. FindsRtFile E.disk name.now blocks rt.old rt.new) }
+    ensures refused { IfErr result (λ e. FindsNoRtFile E.disk name.now e rt.old rt.new) }
 {
     match rt.find(name) {
         Ok((_, blocks)) => Ok(blocks),

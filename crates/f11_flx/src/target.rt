@@ -1,6 +1,6 @@
 //! A file on an RT-11 volume that a copy makes.
 ghost use Rattle.std.specs.Prelude.{◌≡◌, ℕ, ◌<◌, [], ◌∷◌, IfErr, OnOk};
-ghost use Rattle.f11_flx.specs.Target.{Deletes, FailsDeleting, FailsMaking, FailsPutting, Makes, Puts};
+ghost use Rattle.f11_flx.specs.Target.{DeletesRtFile, FailsDeleting, FailsMaking, FailsPutting, Makes, Puts};
 
 use crate::refusal::FlxRefusal;
 use crate::takes::Takes;
@@ -55,7 +55,7 @@ pub fn put<E: Device>(
 
 /// Deletes the file.
 pub fn delete<E: Device>(rt: &mut RtAccepted<E>, name: &RtName) -> Result<(), RtRefusal>
-    ensures deleted { OnOk result (Deletes E.disk name.now rt.old rt.new) }
+    ensures deleted { OnOk result (DeletesRtFile E.disk name.now rt.old rt.new) }
     ensures refused { IfErr result (λ e. FailsDeleting E.disk name.now e rt.old rt.new) }
 {
     rt.delete(name)

@@ -53,7 +53,7 @@ impl ToRecords {
     ghost use Rattle.std.specs.Prelude.{List, ℕ, drop, true};
     ghost use Rattle.f11_flx.specs.Lines.{lines_of, without_zeros, has_long_line};
     ghost use Rattle.f11_flx.specs.Spelled.{longest_of, variable_records};
-    ghost use Rattle.f11_flx.specs.ToRecords.{bytes_to_come, is_too_long, longest_with, open_of, gives, longest_given, GoesOn, ConvertsText, EndsText, StopsText, HasLongLine, StepsText, ReadsText};
+    ghost use Rattle.f11_flx.specs.ToRecords.{bytes_to_come, is_too_long, longest_with, open_of, gives, longest_given, GivesBytes, ConvertsText, EndsText, StopsText, HasLongLine, StepsText, ReadsText};
 
     /// A conversion of which nothing was read.
     #[tactic(auto, unfolding(crate::specs::Lines::has_crlf))]
@@ -176,7 +176,7 @@ impl ToRecords {
     /// Gives the next byte of the line's record.
     fn give(&mut self, given: usize) -> u8
         requires { self.old.stage ≡ Stage.Giving given }
-        ensures gives { (bytes : List ℕ) → GoesOn self.old self.new bytes bytes (result ∷ []) }
+        ensures gives { (bytes : List ℕ) → GivesBytes self.old self.new bytes bytes (result ∷ []) }
         ensures unended { open_of self.new ≡ 0 }
     {
         let length = self.line.len();

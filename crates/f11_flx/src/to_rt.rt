@@ -4,7 +4,7 @@ ghost use Rattle.f11_files.specs.Answers.{is_fatal};
 ghost use Rattle.f11_flx.specs.Asking.{who_asks};
 ghost use Rattle.f11_flx.specs.Refusal.{is_lethal};
 ghost use Rattle.rt11_volume.specs.Files.{is_fault};
-ghost use Rattle.f11_flx.specs.ToRt.{CountsAs, FailsToCount, FailsToFill, Fills, CopiesLocked, FailsLocked, GaveUp, Undoes, CopiesFile, FailsToCopyFile};
+ghost use Rattle.f11_flx.specs.ToRt.{CountsAs, FailsToCountAs, FailsToFillToRt, FillsToRt, CopiesLocked, FailsLocked, GaveUp, UndoesToRt, CopiesFileToRt, FailsToCopyFileToRt};
 
 use crate::asked::{Asked, Asker, ask};
 use crate::attributes::image_blocks;
@@ -44,7 +44,7 @@ fn is_fault(refusal: &RtRefusal) -> bool
 
 /// Deletes the file that was made, after a refusal that is no device fault or `Damaged`: what is answered then.
 fn undo<E: Device>(rt: &mut RtAccepted<E>, name: &RtName, refusal: FlxRefusal) -> FlxRefusal
-    ensures { Undoes E.disk name.now refusal result rt.old rt.new }
+    ensures { UndoesToRt E.disk name.now refusal result rt.old rt.new }
 {
     if is_lethal(&refusal) {
         return refusal;
@@ -88,7 +88,7 @@ fn count<S: Asked>(
     requires { source.now.blocks ≤ 8323072 }
     ensures counted { IfOk result (λ count. CountsAs mode S.service (who_asks by.now.task by.now.uic)
         by.now.lun name.now source.now.attr source.now.blocks count service.old service.new) }
-    ensures fails { IfErr result (λ e. FailsToCount mode S.service (who_asks by.now.task by.now.uic)
+    ensures fails { IfErr result (λ e. FailsToCountAs mode S.service (who_asks by.now.task by.now.uic)
         by.now.lun name.now source.now.attr source.now.blocks e service.old service.new) }
 {
     match mode {
@@ -115,10 +115,10 @@ fn fill<S: Asked, E: Device>(
     date: u16,
 ) -> Result<(), FlxRefusal>
     requires { source.now.blocks ≤ 8323072 }
-    ensures filled { OnOk result (Fills mode S.service E.disk (who_asks by.now.task by.now.uic)
+    ensures filled { OnOk result (FillsToRt mode S.service E.disk (who_asks by.now.task by.now.uic)
         by.now.lun name.now source.now.attr source.now.blocks count date
         service.old service.new rt.old rt.new) }
-    ensures fails { IfErr result (λ e. FailsToFill mode S.service E.disk
+    ensures fails { IfErr result (λ e. FailsToFillToRt mode S.service E.disk
         (who_asks by.now.task by.now.uic) by.now.lun name.now source.now.attr source.now.blocks
         count date e service.old service.new rt.old rt.new) }
 {
@@ -173,10 +173,10 @@ pub fn copy_file<S: Asked, E: Device>(
     name: &RtName,
     date: u16,
 ) -> Result<u32, FlxRefusal>
-    ensures copied { IfOk result (λ count. CopiesFile mode S.service E.disk
+    ensures copied { IfOk result (λ count. CopiesFileToRt mode S.service E.disk
         (who_asks by.now.task by.now.uic) by.now.lun file name.now count date
         service.old service.new rt.old rt.new) }
-    ensures fails { IfErr result (λ e. FailsToCopyFile mode S.service E.disk
+    ensures fails { IfErr result (λ e. FailsToCopyFileToRt mode S.service E.disk
         (who_asks by.now.task by.now.uic) by.now.lun file name.now date e
         service.old service.new rt.old rt.new) }
 {

@@ -28,7 +28,7 @@ impl ToText {
     ghost use Rattle.std.specs.Prelude.{drop};
     ghost use Rattle.std.specs.List.{concat};
     ghost use Rattle.f11_store.specs.File.{File, stated_end, length_of};
-    ghost use Rattle.f11_flx.specs.ToText.{converted_text, ends_record, rest_of, text_left, Converts, HasNoText, StopsAt, Stops, EndsRecord, ReadsOn, RefusesOn, Steps};
+    ghost use Rattle.f11_flx.specs.ToText.{converted_text, ends_record, rest_of, text_left, Converts, HasNoText, StopsAt, Stops, EndsRecord, ReadsOn, RefusesOn, IsTextStep};
 
     /// The conversion of a file with these attributes (H.UFAT) and so many blocks, of which it may have 8,323,072.
     ///
@@ -93,7 +93,7 @@ impl ToText {
     fn step(&mut self, source: &[u8], used: usize) -> Result<Option<(usize, Option<u8>)>, BadRecord>
         requires { used ≤ length source.now }
         ensures steps { IfOk result (λ answer. IfSome answer (λ step.
-            Steps self.old self.new source.now used step.0 step.1)) }
+            IsTextStep self.old self.new source.now used step.0 step.1)) }
         ensures stops { IfOk result (λ answer. IfNone answer (Stops self.old source.now used)) }
         ensures stays { IfOk result (λ answer. IfNone answer (self.new ≡ self.old)) }
         ensures bad { OnErr result (HasNoText self.old (drop used source.now)) }

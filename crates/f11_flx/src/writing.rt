@@ -3,7 +3,7 @@ ghost use Rattle.std.specs.Prelude.{◌≡◌, ◌+◌, ◌*◌, ◌<◌, ◌≤
 ghost use Rattle.f11_flx.specs.Asking.{Denies, Granted, Grants, who_asks, writes, writes_of};
 ghost use Rattle.f11_flx.specs.Filling.{out_of};
 ghost use Rattle.f11_flx.specs.ToRecords.{gives};
-ghost use Rattle.f11_flx.specs.Writing.{FailsToWrite, Writes, WritesNext, out_bytes};
+ghost use Rattle.f11_flx.specs.Writing.{FailsToWritePieces, WritesPieces, WritesNext, out_bytes};
 
 use crate::asked::{Asked, Asker};
 use crate::filling::Filling;
@@ -61,12 +61,12 @@ pub fn write_lines<S: Asked>(
     requires room { out.old.to < 512 }
     requires few { 512 * out.old.place + length (out_bytes (out_of out.old) lines.old source.now)
         < 4294967295 }
-    ensures writes { OnOk result (Writes S.service (who_asks by.now.task by.now.uic) by.now.lun
+    ensures writes { OnOk result (WritesPieces S.service (who_asks by.now.task by.now.uic) by.now.lun
         lines.old lines.new source.now [] (out_of out.old) (out_of out.new)
         service.old service.new) }
     ensures idle { OnOk result (gives lines.new ≡ false) }
     ensures room { OnOk result (out.new.to < 512) }
-    ensures fails { IfErr result (λ e. FailsToWrite S.service (who_asks by.now.task by.now.uic) by.now.lun
+    ensures fails { IfErr result (λ e. FailsToWritePieces S.service (who_asks by.now.task by.now.uic) by.now.lun
         lines.old source.now (out_of out.old) e service.old service.new) }
 {
     let mut used = 0;

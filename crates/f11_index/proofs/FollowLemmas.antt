@@ -17,7 +17,8 @@ use Rattle.f11_index.specs.Headers.{headers_of}
 use Rattle.f11_index.specs.IndexFile.{index_of, index_file_blocks, blocks_on, bit_of_slot, header_place, header_among, headers_among, most_slots, slots, first_header_lbn}
 use Rattle.f11_index.specs.Sound.{IsPlaced, IsIndexFile}
 use Rattle.f11_index.specs.Table.{table_in, table_of, IsNext}
-use Rattle.f11_index.specs.Walk.{LooksAlong, lbn_due, first_place, headers_with, FitFrom, AddsPlaces, AddsTo, IsDue, MayStep, IsNextDue, Steps, Misfits, IsFileOne, Follows, Strays}
+use Rattle.f11_index.specs.Walk.{lbn_due, first_place, headers_with, FitFrom, AddsPlaces, AddsTo, IsDue, MayStep, IsNextDue, Steps, Misfits, IsFileOne, Follows, Strays}
+use Rattle.f11_index.specs.Calls.{LooksAlong}
 use Rattle.f11_index.specs.declared.blocks.Blocks.{Blocks}
 use Rattle.f11_index.specs.declared.walk.Due.{Due}
 use Rattle.f11_store.specs.declared.files.FileId.{FileId}

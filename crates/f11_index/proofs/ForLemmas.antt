@@ -7,7 +7,7 @@ use Rattle.f11_dev.specs.Disk.{Disk, with_transfer, with_block_at}
 use Rattle.f11_dev.specs.Image.{Image}
 use Rattle.f11_home.specs.Home.{HomeFields}
 use Rattle.f11_index.specs.Calls.{SetsBit, WritesBit, bitmap_place, bitmap_block, with_blocks_behind}
-use Rattle.f11_index.specs.Growth.{GrowsIndexFile, with_header}
+use Rattle.f11_index.specs.Growth.{AddsIndexBlocks, with_header}
 use Rattle.f11_index.specs.IndexFile.{Index, index_of, index_file_blocks, slots, header_lbn}
 use Rattle.f11_index.specs.Kept.{IsIndexFor, IndexLiesWithin}
 use Rattle.f11_index.specs.Laws.{LeadsAlike}
@@ -57,7 +57,7 @@ IsFor-header index home disk passed n block good leads some few is = record {
 
 -- the index file grew
 pub IsFor-grown : (index : Index) (home : HomeFields) (disk : Disk) (passed : Bool) (n : ℕ) (block : List ℕ) (lbn count : ℕ)
-    → (IsTrue disk.honest → GrowsIndexFile home n block lbn count disk.image (with_header disk.image home n block))
+    → (IsTrue disk.honest → AddsIndexBlocks home n block lbn count disk.image (with_header disk.image home n block))
     → lbn + count ≤ length disk.image → IsIndexFor index home disk → IsIndexFor (with_blocks_behind index lbn count) home (with_transfer passed (with_block_at (header_lbn index n) block disk))
 IsFor-grown index home disk passed n block lbn count grows within is = record {
   within = record {

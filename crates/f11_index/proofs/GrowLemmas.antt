@@ -14,7 +14,7 @@ use Rattle.f11_header.specs.Header.{IsHeader}
 use Rattle.f11_home.specs.Home.{HomeFields}
 use Rattle.f11_index.specs.Calls.{with_blocks_behind}
 use Rattle.f11_index.specs.ChangeLaws.{IsAsGood}
-use Rattle.f11_index.specs.Growth.{IsGoodFor, MayNameMore, MayLinkOn, GrowsIndexFile, with_header}
+use Rattle.f11_index.specs.Growth.{IsGoodFor, MayNameMore, MayLinkOn, AddsIndexBlocks, with_header}
 use Rattle.f11_map.specs.HeaderBlock.{segment_number, link_of, blocks_named}
 use Rattle.f11_index.specs.Headers.{IsLastOf}
 use Rattle.f11_index.specs.IndexFile.{Index, index_of, index_file_blocks, blocks_on, header_place, header_among, header_lbn, headers_among, most_slots, slots, slot_bit, is_in_use, first_header_lbn, HasNonePast}
@@ -239,7 +239,7 @@ module _ (image : Image) (home : HomeFields) (good : IsIndexFile image home) whe
         still_live = live_of-header still_of
 
         -- so it is as it should be where it has a last header
-        grows : (m : ℕ) → lbn + count ≤ length image → IsLastOf (table_of new home) 1 m → GrowsIndexFile home n block lbn count image new
+        grows : (m : ℕ) → lbn + count ≤ length image → IsLastOf (table_of new home) 1 m → AddsIndexBlocks home n block lbn count image new
         grows m on_device ends_now = record {
           file = file;
           index = index_new;
@@ -266,7 +266,7 @@ module _ (image : Image) (home : HomeFields) (good : IsIndexFile image home) whe
 
   -- It names more blocks.
   pub grows-at : (n : ℕ) (block : List ℕ) (lbn count : ℕ) → AreApart all → MayNameMore t n block lbn count → lbn + count ≤ length image
-      → GrowsIndexFile home n block lbn count image (with_header image home n block)
+      → AddsIndexBlocks home n block lbn count image (with_header image home n block)
   grows-at n block lbn count apart may on_device =
       let slot = in_use-within image home n (live_of-header may.last.of).in_use in
       let new : Image = set image (header_lbn index n) block in
@@ -286,7 +286,7 @@ module _ (image : Image) (home : HomeFields) (good : IsIndexFile image home) whe
 
   -- It links to a header that does.
   pub grows-by : (n m : ℕ) (block : List ℕ) (lbn count : ℕ) → AreApart all → MayLinkOn t n m block lbn count → lbn + count ≤ length image
-      → GrowsIndexFile home n block lbn count image (with_header image home n block)
+      → AddsIndexBlocks home n block lbn count image (with_header image home n block)
   grows-by n m block lbn count apart may on_device =
       let slot = in_use-within image home n (live_of-header may.last.of).in_use in
       let slot_m = in_use-within image home m may.to.in_use in

@@ -1,15 +1,24 @@
 -- What each call of an index file does to a disk, by its outcome.
-use Rattle.std.specs.Prelude.{◌≡◌, ◌≢◌, ℕ, ◌+◌, ◌-◌, ◌*◌, ◌/◌, ◌<◌, Bool, IsTrue, List, [], ◌++◌}
+use Rattle.std.specs.Prelude.{◌≡◌, ◌≢◌, ℕ, ◌+◌, ◌-◌, ◌*◌, ◌/◌, ◌<◌, ◌≤◌, Bool, IsTrue, List, [], ◌++◌}
 use Rattle.std.specs.Prelude.{length, take, slice_set, slice_index_or, min}
 use Rattle.std.specs.List.{range_with_len}
 use Rattle.f11_dev.specs.Disk.{Disk}
 use Rattle.f11_dev.specs.Image.{Image}
+use Rattle.f11_dev.specs.Looked.{Looked}
 use Rattle.f11_dev.specs.Went.{Went}
 use Rattle.f11_home.specs.Home.{HomeFields}
+use Rattle.f11_index.specs.Headers.{headers_of}
 use Rattle.f11_index.specs.IndexFile.{Index, index_of, slot_bit, is_in_use, IsFirstPast, HasNonePast}
 use Rattle.f11_index.specs.Kept.{IsIndexFor}
 use Rattle.f11_index.specs.Sound.{IsIndexFile}
-use Rattle.f11_index.specs.Walk.{LooksAlong}
+use Rattle.f11_index.specs.Table.{table_of}
+
+-- So many other blocks were read, and then headers of file 1, each once at most; so many transfers failed.
+pub record LooksAlong (home : HomeFields) (others : ℕ) (old new : Disk) (faults : ℕ) : Type 0 where
+  pub headers : ℕ
+  pub few : headers ≤ 256
+  pub each_once : IsTrue old.honest → headers ≤ length (headers_of (table_of old.image home) 1)
+  pub looked : Looked old new (others + headers) faults
 
 -- Blocks of the index bitmap and headers of file 1 were read, each once at most; so many transfers failed.
 abbrev pub LooksThrough : HomeFields → Disk → Disk → ℕ → Type 0

@@ -44,7 +44,7 @@ pub record MayLinkOn (t : Table) (n m : ℕ) (block : List ℕ) (lbn count : ℕ
   pub next_blocks : blocks_named (t.header m) ≡ range_with_len lbn count
 
 -- The index file has these blocks too, behind its others, and header n is this block: all else that it says stays.
-pub record GrowsIndexFile (home : HomeFields) (n : ℕ) (block : List ℕ) (lbn count : ℕ) (old new : Image) : Type 0 where
+pub record AddsIndexBlocks (home : HomeFields) (n : ℕ) (block : List ℕ) (lbn count : ℕ) (old new : Image) : Type 0 where
   pub file : index_file_blocks new home ≡ index_file_blocks old home ++ range_with_len lbn count
   pub index : index_of new home ≡ with_blocks_behind (index_of old home) lbn count
   pub header : (table_of new home).header n ≡ block
@@ -64,7 +64,7 @@ IndexFileGrows =
     (image : Image) (home : HomeFields) (n : ℕ) (block : List ℕ) (lbn count : ℕ) → IsIndexFile image home →
     AreApart (index_file_blocks image home) →
     MayNameMore (table_of image home) n block lbn count → lbn + count ≤ length image →
-    GrowsIndexFile home n block lbn count image (with_header image home n block)
+    AddsIndexBlocks home n block lbn count image (with_header image home n block)
 
 -- and where it links to a header that does
 abbrev pub IndexFileGrowsByHeader : Type 0
@@ -72,12 +72,12 @@ IndexFileGrowsByHeader =
     (image : Image) (home : HomeFields) (n m : ℕ) (block : List ℕ) (lbn count : ℕ) → IsIndexFile image home →
     AreApart (index_file_blocks image home) →
     MayLinkOn (table_of image home) n m block lbn count → lbn + count ≤ length image →
-    GrowsIndexFile home n block lbn count image (with_header image home n block)
+    AddsIndexBlocks home n block lbn count image (with_header image home n block)
 
 -- so what is kept of a disk's index file, with these blocks behind, is for the disk
 abbrev pub GrownStaysFor : Type 0
 GrownStaysFor =
     (index : Index) (home : HomeFields) (disk : Disk) (passed : Bool) (n : ℕ) (block : List ℕ) (lbn count : ℕ) →
-    (IsTrue disk.honest → GrowsIndexFile home n block lbn count disk.image (with_header disk.image home n block)) →
+    (IsTrue disk.honest → AddsIndexBlocks home n block lbn count disk.image (with_header disk.image home n block)) →
     lbn + count ≤ length disk.image → IsIndexFor index home disk →
     IsIndexFor (with_blocks_behind index lbn count) home (with_transfer passed (with_block_at (header_lbn index n) block disk))

@@ -10,20 +10,13 @@ use Rattle.f11_header.specs.Fields.{file_sequence}
 use Rattle.f11_header.specs.Header.{IsHeader}
 use Rattle.f11_home.specs.Home.{HomeFields}
 use Rattle.f11_map.specs.HeaderBlock.{segment_number, link_of, blocks_named}
-use Rattle.f11_index.specs.Headers.{headers_of}
+use Rattle.f11_index.specs.Calls.{LooksAlong}
 use Rattle.f11_index.specs.IndexFile.{most_slots, index_file_blocks, index_of, bit_of_slot}
 use Rattle.f11_index.specs.Sound.{IsPlaced, IsIndexFile}
 use Rattle.f11_index.specs.Table.{table_of, last_sequence, IsWholeFile}
 use Rattle.f11_index.specs.declared.blocks.Blocks.{Blocks}
 use Rattle.f11_index.specs.declared.walk.Due.{Due}
 use Rattle.f11_store.specs.declared.files.FileId.{FileId}
-
--- So many other blocks were read, and then headers of file 1, each once at most; so many transfers failed.
-pub record LooksAlong (home : HomeFields) (others : ℕ) (old new : Disk) (faults : ℕ) : Type 0 where
-  pub headers : ℕ
-  pub few : headers ≤ 256
-  pub each_once : IsTrue old.honest → headers ≤ length (headers_of (table_of old.image home) 1)
-  pub looked : Looked old new (others + headers) faults
 
 -- The blocks of the index bitmap were read.
 pub record ReadsBitmap (home : HomeFields) (bitmap : List (List ℕ)) (old new : Disk) : Type 0 where

@@ -4,7 +4,8 @@ ghost use Rattle.f11_dev.specs.Looked.{Looked};
 ghost use Rattle.f11_home.specs.Home.{IsSound};
 ghost use Rattle.f11_index.specs.IndexFault.{IfPast};
 ghost use Rattle.f11_index.specs.IndexFile.{most_slots, index_of, bit_of_slot};
-ghost use Rattle.f11_index.specs.Walk.{LooksAlong, IsDue, IsNextDue, Steps, Misfits, Follows, Strays};
+ghost use Rattle.f11_index.specs.Walk.{IsDue, IsNextDue, Steps, Misfits, Follows, Strays};
+ghost use Rattle.f11_index.specs.Calls.{LooksAlong};
 
 use crate::bits::is_slot_set;
 use crate::blocks::Blocks;

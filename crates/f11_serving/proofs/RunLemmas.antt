@@ -8,7 +8,7 @@ use Rattle.f11_script.proofs.AskingLemmas.{line_asks_alone}
 use Rattle.f11_serving.specs.Served.{Service, Behind, ServesLine, ServesLines}
 use Rattle.f11_runs.specs.Each.{AddsCost, Each, IsSeenAs, Steps}
 use Rattle.f11_runs.proofs.EachLaws.{steps-are-run as each-is-run}
-use Rattle.f11_serving.specs.Laws.{calls_of, text_with, text_of, Tells, RequestsAreAnswered, StepsAreRun, SoundIsRun}
+use Rattle.f11_serving.specs.Laws.{calls_of, text_with, text_of, TellsAnswers, RequestsAreAnswered, LinesAreRun, SoundIsRun}
 
 -- a line, and what is behind it
 pub record TellsFrom {V : Type 0} (S : Service V) (l : Saying) (rest : List (List ℕ)) (old new : V) (block text : List ℕ) (count : ℕ) : Type 0 where
@@ -18,7 +18,7 @@ pub record TellsFrom {V : Type 0} (S : Service V) (l : Saying) (rest : List (Lis
   pub count_is : count ≡ length answers
 
 line-tells : {V : Type 0} (S : Service V) (l : Saying) (rest : List (List ℕ)) (old new : V) (block text : List ℕ) (count : ℕ) (P : Behind V) →
-    ((v : V) (b t : List ℕ) (k : ℕ) → P v b t k → Tells rest b t k (λ calls answers. Each S v calls answers new)) →
+    ((v : V) (b t : List ℕ) (k : ℕ) → P v b t k → TellsAnswers rest b t k (λ calls answers. Each S v calls answers new)) →
     ServesLine S (line_with l block) old block text count P → TellsFrom S l rest old new block text count
 line-tells S nothing rest old new block text count P behind h =
     let r = behind old block text count h in
@@ -43,7 +43,7 @@ requests-are-answered S (line ∷ rest) old new block block' text count h =
     (subst (λ (l : Line). ServesLine S l old block text count P) (line_asks_alone line block) h) in
     record { answers = r.answers; are = r.each; text_is = r.text_is; count_is = r.count_is }
 
-pub steps-are-run : StepsAreRun
+pub steps-are-run : LinesAreRun
 steps-are-run lines old new block block' text count h =
     let r = requests-are-answered Steps lines old new block block' text count h in
     record { answers = r.answers; are = each-is-run old new _ r.answers r.are; text_is = r.text_is; count_is = r.count_is }

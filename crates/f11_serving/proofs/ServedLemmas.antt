@@ -5,7 +5,7 @@ use Rattle.f11_script.specs.Answers.{answer_line, bad_line_text}
 use Rattle.f11_script.specs.Lines.{Line, no_request, bad_line, request_line, line_of}
 use Rattle.f11_script.specs.Asking.{Saying, nothing, badly, says, saying_of, asked_by, line_with, requests_in}
 use Rattle.f11_script.proofs.AskingLemmas.{line_asks_alone}
-use Rattle.f11_serving.specs.Served.{Service, Behind, ServesLine, IsEnd, ServesLines}
+use Rattle.f11_serving.specs.Served.{Service, Behind, ServesLine, IsScriptEnd, ServesLines}
 use Rattle.f11_serving.specs.Laws.{PartsAreServed, CountIsOfRequests}
 
 -- a line, with more behind what was behind it
@@ -31,7 +31,7 @@ line-more S (request_line call) old block text more count others P Q next h = re
 
 -- from the end of the front on
 from-end : {V : Type 0} (S : Service V) (rest : List (List ℕ)) (old between new : V) (block b block' text more : List ℕ) (count others : ℕ) →
-    IsEnd between b old block text count → ServesLines S rest between b more others new block' →
+    IsScriptEnd between b old block text count → ServesLines S rest between b more others new block' →
     ServesLines S rest old block (text ++ more) (count + others) new block'
 from-end S rest old between new block b block' text more count others h k =
     let number : others ≡ count + others = omega (arith, h.3) in
@@ -53,7 +53,7 @@ parts-are-served S (line ∷ front) rest old between new block b block' text mor
 pub one-request : {V : Type 0} (S : Service V) (line block : List ℕ) (call : Call) (a : Answer) (v w : V) → request_line call ≡ line_of line block →
     S v call a w → ServesLines S (line ∷ []) v block (answer_line call.request a.block a.result) 1 w a.block
 one-request S line block call a v w is serves =
-    subst (λ (l : Line). ServesLine S l v block (answer_line call.request a.block a.result) 1 (λ u b t n. IsEnd w a.block u b t n)) is
+    subst (λ (l : Line). ServesLine S l v block (answer_line call.request a.block a.result) 1 (λ u b t n. IsScriptEnd w a.block u b t n)) is
     (record {
       answer = a;
       next = w;
@@ -69,7 +69,7 @@ one-request S line block call a v w is serves =
 pub one-alike : {V : Type 0} (S : Service V) (given line block block' text : List ℕ) (count : ℕ) (v w : V) → line_of given block ≡ line_of line block →
     ServesLines S (given ∷ []) v block text count w block' → ServesLines S (line ∷ []) v block text count w block'
 one-alike S given line block block' text count v w alike h =
-    subst (λ (l : Line). ServesLine S l v block text count (λ u d t n. IsEnd w block' u d t n)) alike h
+    subst (λ (l : Line). ServesLine S l v block text count (λ u d t n. IsScriptEnd w block' u d t n)) alike h
 
 -- the requests of a line and of those behind it
 line-count : {V : Type 0} (S : Service V) (l : Saying) (rest : List (List ℕ)) (old : V) (block text : List ℕ) (count : ℕ) (P : Behind V) →

@@ -58,7 +58,7 @@ text_of [] answers = []
 text_of (line ∷ rest) answers = text_with (saying_of line) answers (λ more. text_of rest more)
 
 -- The requests of a script have these answers: its text tells each, and so many are counted.
-pub record Tells (lines : List (List ℕ)) (block text : List ℕ) (count : ℕ) (Are : List Call → List Answer → Type 0) : Type 0 where
+pub record TellsAnswers (lines : List (List ℕ)) (block text : List ℕ) (count : ℕ) (Are : List Call → List Answer → Type 0) : Type 0 where
   pub answers : List Answer
   pub are : Are (calls_of (requests_in lines) block answers) answers
   pub text_is : text ≡ text_of lines answers
@@ -68,13 +68,13 @@ pub record Tells (lines : List (List ℕ)) (block text : List ℕ) (count : ℕ)
 abbrev pub RequestsAreAnswered : {V : Type 0} → Service V → Type 0
 RequestsAreAnswered {V = V} S =
     (lines : List (List ℕ)) (old new : V) (block block' text : List ℕ) (count : ℕ) →
-    ServesLines S lines old block text count new block' → Tells lines block text count (λ calls answers. Each S old calls answers new)
+    ServesLines S lines old block text count new block' → TellsAnswers lines block text count (λ calls answers. Each S old calls answers new)
 
 -- lines that are served by steps tell a run
-abbrev pub StepsAreRun : Type 0
-StepsAreRun =
+abbrev pub LinesAreRun : Type 0
+LinesAreRun =
     (lines : List (List ℕ)) (old new : Store) (block block' text : List ℕ) (count : ℕ) →
-    ServesLines Steps lines old block text count new block' → Tells lines block text count (λ calls answers. Run old calls answers new)
+    ServesLines Steps lines old block text count new block' → TellsAnswers lines block text count (λ calls answers. Run old calls answers new)
 
 -- a sound service that makes steps tells a run where nothing failed from the first line to the last
 abbrev pub SoundIsRun : {V : Type 0} → Service V → Type 0
@@ -82,4 +82,4 @@ SoundIsRun {V = V} S =
     (view : V → Store) (failures : V → ℕ) (is_sound : V → Bool) → IsSeenAs S Steps view failures is_sound →
     (lines : List (List ℕ)) (old new : V) (block block' text : List ℕ) (count : ℕ) →
     ServesLines S lines old block text count new block' → is_sound old ≡ true → failures new ≡ failures old →
-    Tells lines block text count (λ calls answers. Run (view old) calls answers (view new))
+    TellsAnswers lines block text count (λ calls answers. Run (view old) calls answers (view new))

@@ -31,13 +31,13 @@ ServesLine S bad_line old block text count Rest = (more : List ℕ) × (text ≡
 ServesLine S (request_line call) old block text count Rest = ServesRequest S call old text count Rest
 
 -- behind the last line nothing is written or asked, and state and block are those of the end
-abbrev pub IsEnd : {V : Type 0} → V → List ℕ → Behind V
-IsEnd new block' old block text count = (new ≡ old) × (block' ≡ block) × (text ≡ []) × (count ≡ 0)
+abbrev pub IsScriptEnd : {V : Type 0} → V → List ℕ → Behind V
+IsScriptEnd new block' old block text count = (new ≡ old) × (block' ≡ block) × (text ≡ []) × (count ≡ 0)
 
 -- the lines of a script are served one after another: from a state and a block, with this text and so many requests, to the state
 -- and the block then
 abbrev pub ServesLines : {V : Type 0} → Service V → List (List ℕ) → V → List ℕ → List ℕ → ℕ → V → List ℕ → Type 0
-ServesLines S [] old block text count new block' = IsEnd new block' old block text count
+ServesLines S [] old block text count new block' = IsScriptEnd new block' old block text count
 ServesLines S (line ∷ rest) old block text count new block' =
     ServesLine S (line_of line block) old block text count (λ next b more others. ServesLines S rest next b more others new block')
 

@@ -26,6 +26,6 @@ pub fn answers<S: Serves>()
 /// A script that is served by steps of the plain store is a run of its requests; so is one of a service that makes such steps
 /// while nothing fails, where nothing failed.
 pub fn runs<S: Serves>()
-    ensures steps { laws.StepsAreRun }
+    ensures steps { laws.LinesAreRun }
     ensures sound { laws.SoundIsRun S.served }
 {}

@@ -13,7 +13,7 @@ use Rattle.f11_vfy.specs.declared.survey.slot.State.TheVariants.{Live}
 use Rattle.f11_vfy.specs.Surveying.Bits.{has}
 use Rattle.f11_vfy.specs.Chain.{IsFit, KeepsTable, NextsTo, IsClosed, points_at, IsLinkedTwice, ShowsChains}
 use Rattle.f11_vfy.specs.Surveying.Count.{within, sum_to, Shows}
-use Rattle.f11_vfy.specs.Surveying.Slot.{KeepsSlot, KeepsHeader}
+use Rattle.f11_vfy.specs.Surveying.Slot.{KeepsSlot, KeepsValidHeader}
 use Rattle.f11_index.specs.Headers.{IsInFile}
 use Rattle.f11_vfy.proofs.Surveying.Slots.{live-from, live-to}
 use Rattle.f11_vfy.proofs.Surveying.Sums.{sum_to-more, two_terms, pair_of_terms, Pair}
@@ -40,8 +40,8 @@ module _ (v : Table) (slots : List Slot) (is : KeepsTable v slots) (k : ℕ) (wi
   unfolding from
   is_next alive some high follows =
       let there : KeepsSlot v from.link.number (get_or slots (from.link.number - 1) d) = kept_at from.link.number (omega (arith, some)) high in
-      let one : KeepsHeader (v.header (k + 1)) from = kept.header alive in
-      let other : KeepsHeader (v.header from.link.number) (get_or slots (from.link.number - 1) d) = there.header follows.0 in
+      let one : KeepsValidHeader (v.header (k + 1)) from = kept.header alive in
+      let other : KeepsValidHeader (v.header from.link.number) (get_or slots (from.link.number - 1) d) = there.header follows.0 in
       let link : from.link ≡ link_of (v.header (k + 1)) = one.link in
       record {
         from = live-from v (k + 1) from.state kept.state alive;
@@ -54,7 +54,7 @@ module _ (v : Table) (slots : List Slot) (is : KeepsTable v slots) (k : ℕ) (wi
   pub next_is : (m : ℕ) → IsNext v (k + 1) m → ((get_or slots k d).state ≡ Live) × ((get_or slots k d).link.number ≡ m) × (1 ≤ m) × (m ≤ length slots)
   next_is m n =
       let alive : (get_or slots k d).state ≡ Live = live-to v (k + 1) _ kept.state n.from in
-      let one : KeepsHeader (v.header (k + 1)) (get_or slots k d) = kept.header alive in
+      let one : KeepsValidHeader (v.header (k + 1)) (get_or slots k d) = kept.header alive in
       let high : m ≤ v.slots = is.fit.high m n.to.in_use in
       (alive, ap (λ (i : FileId). i.number) one.link ∙ n.number, is.fit.low m n.to.in_use, omega (arith, is.keeps.count, high))
 
@@ -63,8 +63,8 @@ module _ (v : Table) (slots : List Slot) (is : KeepsTable v slots) (k : ℕ) (wi
       let at = next_is m n in
       let there : KeepsSlot v m (get_or slots (m - 1) d) = kept_at m at.2 at.3 in
       let alive : (get_or slots (m - 1) d).state ≡ Live = live-to v m _ there.state n.to in
-      let one : KeepsHeader (v.header (k + 1)) (get_or slots k d) = kept.header at.0 in
-      let other : KeepsHeader (v.header m) (get_or slots (m - 1) d) = there.header alive in
+      let one : KeepsValidHeader (v.header (k + 1)) (get_or slots k d) = kept.header at.0 in
+      let other : KeepsValidHeader (v.header m) (get_or slots (m - 1) d) = there.header alive in
       (alive, ap (λ (i : FileId). i.sequence) one.link ∙ n.sequence ∙ sym other.sequence, other.segment ∙ n.segment ∙ ap (λ (s : ℕ). s + 1) (sym one.segment))
 
   pub first_is : ((get_or slots k d).state ≡ Live) × ((get_or slots k d).segment ≡ 0) → IsFile v (k + 1)

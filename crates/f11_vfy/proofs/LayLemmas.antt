@@ -15,7 +15,7 @@ use Rattle.f11_layout.proofs.NoHomeLemmas.{fresh-no-home}
 use Rattle.f11_layout.specs.Fresh.{IsFreshBlock}
 use Rattle.f11_layout.specs.declared.layout.Layout.{Layout}
 use Rattle.f11_volume.specs.Fresh.{used_by, IsFreshVolume, KeepsBehind, MakesNoHome, MayStand}
-use Rattle.f11_vfy.specs.Init.{Lays, FailsToLay, LaysOut, FailsToLayOut}
+use Rattle.f11_vfy.specs.Init.{Lays, FailsToLay, MakesFreshVolume, FailsToMakeFreshVolume}
 
 -- So many blocks were written, but for the home block.
 pub record LaysUpTo (l : Layout) (count : ℕ) (old now : Disk) : Type 0 where
@@ -101,7 +101,7 @@ module _ (l : Layout) (count : ℕ) (old now : Disk) (laid : LaysUpTo l count ol
         went = went_within _ (went_more _ laid.went (went_write _ now new lbn lays.block lays.is (stands lays.block lays.fresh))) costs;
       }
 
-  pub LaysUpTo-failed : (new : Disk) → count - 1 + 1 ≤ used_by l → FailsToLay l lbn now new → FailsToLayOut l old new
+  pub LaysUpTo-failed : (new : Disk) → count - 1 + 1 ≤ used_by l → FailsToLay l lbn now new → FailsToMakeFreshVolume l old new
   LaysUpTo-failed new costs fails = went_within _ (went_more _ laid.went (went_failed_write _ now new lbn fails.block fails.is
       (stands fails.block fails.fresh))) costs
 
@@ -120,12 +120,12 @@ module _ (l : Layout) (old now : Disk) (laid : LaysUpTo l (used_by l) old now) (
   made : (block : List ℕ) → IsFreshBlock l 1 block → MayStand l old.image (slice_set now.image 1 block)
   made block fresh = record { keeps = (whole block fresh).keeps; home = inr (whole block fresh) }
 
-  pub LaysUpTo-home : (new : Disk) → Lays l 1 now new → LaysOut l old new
+  pub LaysUpTo-home : (new : Disk) → Lays l 1 now new → MakesFreshVolume l old new
   LaysUpTo-home new lays = record {
     volume = subst (IsFreshVolume l old.image) (sym (ap (λ (d : Disk). d.image) lays.is)) (whole lays.block lays.fresh);
     went = went_within _ (went_more _ laid.went (went_write _ now new 1 lays.block lays.is (made lays.block lays.fresh))) (omega arith);
   }
 
-  pub LaysUpTo-unmade : (new : Disk) → FailsToLay l 1 now new → FailsToLayOut l old new
+  pub LaysUpTo-unmade : (new : Disk) → FailsToLay l 1 now new → FailsToMakeFreshVolume l old new
   LaysUpTo-unmade new fails = went_within _ (went_more _ laid.went (went_failed_write _ now new 1 fails.block fails.is
       (made fails.block fails.fresh))) (omega arith)

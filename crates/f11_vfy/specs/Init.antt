@@ -25,13 +25,13 @@ pub record FailsToLay (l : Layout) (lbn : ℕ) (old new : Disk) : Type 0 where
 
 -- The front of a fresh volume was written: each block of it once, and no other. Meanwhile no candidate became a home block, until the
 -- whole volume was there.
-pub record LaysOut (l : Layout) (old new : Disk) : Type 0 where
+pub record MakesFreshVolume (l : Layout) (old new : Disk) : Type 0 where
   pub volume : IsFreshVolume l old.image new.image
   pub went : Went (MayStand l old.image) old new (used_by l) 0
 
 -- A transfer failed.
-abbrev pub FailsToLayOut : Layout → Disk → Disk → Type 0
-FailsToLayOut l old new = Went (MayStand l old.image) old new (used_by l) 1
+abbrev pub FailsToMakeFreshVolume : Layout → Disk → Disk → Type 0
+FailsToMakeFreshVolume l old new = Went (MayStand l old.image) old new (used_by l) 1
 
 -- A volume can be made with these on a disk.
 abbrev pub CanInit : InitParams → Disk → Type 0
@@ -42,7 +42,7 @@ pub record Inits (p : InitParams) (old new : Disk) : Type 0 where
   pub can : CanInit p old
   pub layout : Layout
   pub layout_is : IsLayoutOf p (length old.image) layout
-  pub lays_out : LaysOut layout old new
+  pub makes : MakesFreshVolume layout old new
 
 -- None can be made with these, and nothing was done.
 pub record RefusesToInit (p : InitParams) (old new : Disk) : Type 0 where
@@ -54,7 +54,7 @@ pub record FailsToInit (p : InitParams) (old new : Disk) : Type 0 where
   pub can : CanInit p old
   pub layout : Layout
   pub layout_is : IsLayoutOf p (length old.image) layout
-  pub went : FailsToLayOut layout old new
+  pub went : FailsToMakeFreshVolume layout old new
 
 -- why no volume was made, and what was done to the device that comes back
 abbrev pub HasFailed : {D : Type 0} → InitParams → Disk → (D → Disk) → InitError D → Type 0

@@ -1,7 +1,7 @@
 //! Making a fresh volume.
 ghost use Rattle.std.specs.Prelude.{◌≡◌, ◌<◌, length, IfOk, IfErr, OnOk, OnErr};
 ghost use Rattle.f11_volume.specs.Fresh.{used_by};
-ghost use Rattle.f11_vfy.specs.Init.{Lays, FailsToLay, LaysOut, FailsToLayOut, Inits, HasFailed};
+ghost use Rattle.f11_vfy.specs.Init.{Lays, FailsToLay, MakesFreshVolume, FailsToMakeFreshVolume, Inits, HasFailed};
 ghost use Rattle.f11_vfy.specs.Accepted.{device_of};
 
 use crate::accepted::Accepted;
@@ -46,8 +46,8 @@ pub fn init<D: Device>(device: D, params: &InitParams) -> Result<Accepted<D>, In
 /// Writes the front of a fresh volume with this layout, the home block last.
 fn lay_out<D: Device>(device: &mut D, layout: &Layout) -> Result<(), DeviceFault>
     requires { layout.now.blocks ≡ length (D.disk device.old).image }
-    ensures done { OnOk result (LaysOut layout.now (D.disk device.old) (D.disk device.new)) }
-    ensures failed { OnErr result (FailsToLayOut layout.now (D.disk device.old)
+    ensures done { OnOk result (MakesFreshVolume layout.now (D.disk device.old) (D.disk device.new)) }
+    ensures failed { OnErr result (FailsToMakeFreshVolume layout.now (D.disk device.old)
         (D.disk device.new)) }
 {
     let mut block = zeros();

@@ -4,7 +4,7 @@ use Rattle.std.specs.List.{slice_get, range_with_len}
 use Rattle.std.proofs.lemmas.Bool.{cases_lt}
 use Rattle.f11_dev.specs.Image.{Image}
 use Rattle.f11_home.specs.Home.{HomeFields}
-use Rattle.f11_index.specs.Growth.{MayNameMore, MayLinkOn, GrowsIndexFile, with_header}
+use Rattle.f11_index.specs.Growth.{MayNameMore, MayLinkOn, AddsIndexBlocks, with_header}
 use Rattle.f11_index.specs.IndexFile.{index_of, index_file_blocks, slots, header_lbn}
 use Rattle.f11_index.specs.Table.{Table, table_in, table_of, IsHeaderOf, first}
 use Rattle.f11_index.proofs.BitLemmas.{is_in_use-past}
@@ -25,7 +25,7 @@ use Rattle.f11_writes.proofs.OtherSlotLemmas.{own-first}
 use Rattle.f11_writes.proofs.SlotLemmas.{SparesOwn, header-placed-at, slot-keeps}
 
 module _ (image : Image) (home : HomeFields) (is : HasSoundVolume image home) (n : ℕ) (block : List ℕ) (lbn count : ℕ) (of : IsHeaderOf (table_of image home) 1 n)
-    (grows : GrowsIndexFile home n block lbn count image (with_header image home n block)) where
+    (grows : AddsIndexBlocks home n block lbn count image (with_header image home n block)) where
   abbrev t : Table
   t = table_of image home
 

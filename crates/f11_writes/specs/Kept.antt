@@ -4,7 +4,7 @@ use Rattle.std.specs.Prelude.{◌≡◌, ◌≢◌, ℕ, List, [], map}
 use Rattle.f11_bits.specs.Bitmap.{is_free, KeepsBitmap}
 use Rattle.f11_dev.specs.Image.{Image}
 use Rattle.f11_home.specs.Home.{HomeFields}
-use Rattle.f11_index.specs.Growth.{GrowsIndexFile}
+use Rattle.f11_index.specs.Growth.{AddsIndexBlocks}
 use Rattle.f11_index.specs.IndexFile.{Index}
 use Rattle.f11_index.specs.Laws.{KeepsIndexFile, KeepsButBit, KeepsButHeader}
 use Rattle.f11_index.specs.Table.{table_of, IsFile, IsHeaderOf}
@@ -81,4 +81,4 @@ pub record WritesSlotBit (n : ℕ) (after : Index) (home : HomeFields) (old new 
 -- The index file has these blocks more, behind its others, where this was written as header n.
 pub record WritesGrowth (n : ℕ) (block : List ℕ) (lbn count : ℕ) (home : HomeFields) (old new : Image) : Type 0 where
   pub slot : KeepsButSlot n home old new
-  pub index_file : GrowsIndexFile home n block lbn count old new
+  pub index_file : AddsIndexBlocks home n block lbn count old new

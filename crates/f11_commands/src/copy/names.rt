@@ -1,7 +1,7 @@
 //! The names of a copy.
 ghost use Rattle.std.specs.Prelude.{◌≡◌, ◌*◌, List, ℕ, Some, IfOk, IfErr, IfSome};
 ghost use Rattle.f11_commands.specs.Name.{bad_name_line};
-ghost use Rattle.f11_commands.specs.Output.{Takes};
+ghost use Rattle.f11_commands.specs.Output.{WriterTakes};
 ghost use Rattle.f11_rad50.specs.Name.{Spells};
 ghost use Rattle.rt11_volume.specs.RtName.{RtSpells};
 
@@ -33,7 +33,7 @@ pub fn read_names(name: &str, rt_name: &str) -> Option<(Name, RtName)>
 /// [`Failure::CannotWrite`] where the writer takes no more.
 pub fn refuse_names<W: Write>(writer: &mut W) -> Result<Answer, Failure>
     ensures refused { IfOk result (λ answer. (answer ≡ Answer.Fault)
-        × Takes W.contents writer.old writer.new bad_name_line) }
+        × WriterTakes W.contents writer.old writer.new bad_name_line) }
     ensures failures { IfErr result (λ failure. failure ≡ Failure.CannotWrite) }
 {
     writeln!(writer, "bad name")?;

@@ -2,7 +2,7 @@
 ghost use Rattle.std.specs.Prelude.{◌≡◌, false, IsTrue};
 ghost use Rattle.f11_commands.specs.CopyCommand.{EndsBetween};
 ghost use Rattle.f11_commands.specs.Copying.{OutcomeIs};
-ghost use Rattle.f11_commands.specs.Finding.{Answers, WithinDirectory};
+ghost use Rattle.f11_commands.specs.Finding.{FaresAsAnswered, WithinDirectory};
 ghost use Rattle.f11_commands.specs.declared.copy.Direction.TheVariants as direction;
 ghost use Rattle.f11_fcp.specs.Serving.{device_in};
 ghost use Rattle.f11_vfy.specs.Accepted.{device_of};
@@ -71,7 +71,7 @@ fn copy_by_names<D: Device, E: Device>(
     rt: &mut RtAccepted<E>,
     copy: &Copying,
 ) -> Result<u32, FlxRefusal>
-    ensures answers { Answers E.disk copy.now.direction copy.now.rt_name result
+    ensures answers { FaresAsAnswered E.disk copy.now.direction copy.now.rt_name result
         (OutcomeIs copy.now result) volume.old volume.new rt.old rt.new }
 {
     let directory = directory_name(copy.directory);
@@ -92,7 +92,7 @@ fn copy_out<D: Device, E: Device>(
     rt: &mut RtAccepted<E>,
     copy: &Copying,
 ) -> Result<u32, FlxRefusal>
-    ensures answers { Answers E.disk direction.ToRt copy.now.rt_name result
+    ensures answers { FaresAsAnswered E.disk direction.ToRt copy.now.rt_name result
         (WithinDirectory direction.ToRt copy.now dir result) volume.old volume.new rt.old rt.new }
 {
     let source = match find(volume, dir, &copy.name) {
@@ -121,7 +121,7 @@ fn copy_in<D: Device, E: Device>(
     rt: &mut RtAccepted<E>,
     copy: &Copying,
 ) -> Result<u32, FlxRefusal>
-    ensures answers { Answers E.disk direction.FromRt copy.now.rt_name result
+    ensures answers { FaresAsAnswered E.disk direction.FromRt copy.now.rt_name result
         (WithinDirectory direction.FromRt copy.now dir result) volume.old volume.new rt.old rt.new }
 {
     let task = first_task();

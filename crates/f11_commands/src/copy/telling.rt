@@ -1,6 +1,6 @@
 //! How the answer of a copy is told.
 ghost use Rattle.std.specs.Prelude.{◌≡◌};
-ghost use Rattle.f11_commands.specs.CopyCommand.{Tells, TellsRefusal, failure_of_refusal};
+ghost use Rattle.f11_commands.specs.CopyCommand.{TellsCopy, TellsRefusal, failure_of_refusal};
 
 use crate::copy::CopyAnswer;
 use crate::outcome::Failure;
@@ -14,7 +14,7 @@ pub fn tell<W: Write>(
     copied: Result<u32, FlxRefusal>,
     writer: &mut W,
 ) -> Result<CopyAnswer, Failure>
-    ensures tells { Tells copied result W.contents writer.old writer.new }
+    ensures tells { TellsCopy copied result W.contents writer.old writer.new }
 {
     match copied {
         Ok(blocks) => {

@@ -2,7 +2,7 @@
 ghost use Rattle.std.specs.Prelude.{◌≡◌, ◌*◌, false, IfOk, IfErr, OnOk};
 ghost use Rattle.f11_commands.specs.CopyCommand.{EndsFiles, EndsRt, VerifiesFiles, VerifiesRt};
 ghost use Rattle.f11_commands.specs.Lines.{report_lines};
-ghost use Rattle.f11_commands.specs.Output.{Takes};
+ghost use Rattle.f11_commands.specs.Output.{WriterTakes};
 ghost use Rattle.f11_commands.specs.declared.copy.CopyAnswer.TheVariants as answers;
 ghost use Rattle.f11_vfy.specs.Accepted.{device_of};
 ghost use Rattle.rt11_volume.specs.Calls.{has_failed, volume_device};
@@ -72,7 +72,7 @@ fn write_report<W: Write>(
     faults: &Findings,
     notes: &Findings,
 ) -> Result<CopyAnswer, Failure>
-    ensures lines { OnOk result (Takes W.contents writer.old writer.new
+    ensures lines { OnOk result (WriterTakes W.contents writer.old writer.new
         (report_lines system false faults.now notes.now)) }
     ensures answer { IfOk result (λ answer. answer ≡ answers.Faulty system) }
     ensures failed { IfErr result (λ failure. failure ≡ Failure.CannotWrite) }

@@ -16,7 +16,7 @@ use Rattle.f11_files.specs.Extending.Growing.{Taking, IsGrowing, GrowingBy, Grew
 use Rattle.f11_image_store.specs.StoreOf.{store_of}
 use Rattle.f11_files.specs.Structure.{bitmap_in, home_of, store_on, IsStructureFor, StaysFor}
 use Rattle.f11_files.specs.Extending.Tail.{HoldsLast, ownership_of}
-use Rattle.f11_files.specs.Extending.Take.{TakesRun}
+use Rattle.f11_files.specs.Extending.Take.{TakesNextRun}
 use Rattle.f11_files.specs.declared.structure.Structure.{Structure}
 use Rattle.f11_files.specs.declared.extend.tail.Tail.{Tail}
 use Rattle.f11_files.proofs.Removing.Freeing.{breaks-behind, breaks-within, writes-none, writes-then, writes-within}
@@ -50,7 +50,7 @@ fails-take s tail from most old new r breaks = record {
 }
 
 module _ (s t : Structure) (tail : Tail) (from most lbn count : ℕ) (old mid : Disk) (for : IsStructureFor s old) (last : HoldsLast s tail old)
-    (may : IsTrue old.honest → MayGrowAs (store_on s old) tail.file.number most most) (takes : TakesRun s t from most lbn count old mid) (stays : StaysFor false s t mid) where
+    (may : IsTrue old.honest → MayGrowAs (store_on s old) tail.file.number most most) (takes : TakesNextRun s t from most lbn count old mid) (stays : StaysFor false s t mid) where
   abbrev home : HomeFields
   home = home_of s
 

@@ -23,7 +23,7 @@ use Rattle.f11_store.specs.Pieces.{file_numbered, TakesSome, GrowsAs, MayGrowAs,
 use Rattle.f11_image_store.specs.StoreOf.{store_of}
 use Rattle.f11_files.specs.Structure.{bitmap_in, home_of, store_on, IsStructureFor, StaysFor}
 use Rattle.f11_files.specs.Extending.Tail.{HoldsLast, whose, ownership_of}
-use Rattle.f11_files.specs.Extending.Take.{NoneBelow}
+use Rattle.f11_files.specs.Extending.Take.{NoneFreeBelow}
 use Rattle.f11_files.specs.declared.structure.Structure.{Structure}
 use Rattle.f11_files.specs.declared.extend.tail.Tail.{Tail}
 use Rattle.f11_image_store.proofs.AllocationLemmas.{gains-nothing, gains-add}
@@ -52,7 +52,7 @@ pub record GrowingOn (s t : Structure) (tail later : Tail) (n from left : ℕ) (
   pub bitmap : bitmap_in t ≡ bitmap_in s
   pub reserved : IsTrue (tail.file.number == 1) → left ≤ room t.index
   pub within : from ≤ (bitmap_in s).size
-  pub none_below : IsTrue old.honest → NoneBelow now.image (bitmap_in s) from
+  pub none_below : IsTrue old.honest → NoneFreeBelow now.image (bitmap_in s) from
   pub gains :
       IsTrue old.honest → GainsBlocksAs tail.file.number (ownership_of tail) done (volume_of old.image (home_of s)) (volume_of now.image (home_of s))
   pub slots : IsTrue old.honest → AddsZeroSlots (table_of old.image (home_of s)) (table_of now.image (home_of s))
@@ -134,8 +134,8 @@ module _ (s : Structure) (tail : Tail) (n : ℕ) (old : Disk) (for : IsStructure
         subst (λ (h : HomeFields). MayGrowAs (store_of now.image h) later.file.number left left) (sym so_far.stays.home)
         (subst (λ (j : ℕ). MayGrowAs tn j left left) (sym number) (subst (λ (m : ℕ). MayGrowAs tn k m m) rest (others-may st tn k n so_far.done n so_far.done (may before) (has before) few few)))
 
-    pub next-below : IsTrue now.honest → NoneBelow now.image (bitmap_in t) from
-    next-below honest = subst (λ (b : Bitmap). NoneBelow now.image b from) (sym so_far.bitmap) (so_far.none_below (was-honest honest))
+    pub next-below : IsTrue now.honest → NoneFreeBelow now.image (bitmap_in t) from
+    next-below honest = subst (λ (b : Bitmap). NoneFreeBelow now.image b from) (sym so_far.bitmap) (so_far.none_below (was-honest honest))
 
     -- images that stand meanwhile
     lags : IsTrue old.honest → (u : Store) → TakesSome left (need (file_numbered tn k).room left) tn u ⊎ GrowsSome tn k left left u → LagsBy (tail_work s tail n old) u st
@@ -207,7 +207,7 @@ module _ (s : Structure) (tail : Tail) (n : ℕ) (old : Disk) (for : IsStructure
         bitmap = adds.bitmap ∙ so_far.bitmap;
         reserved = λ is. let room = so_far.reserved is in let used = adds.left in omega (arith, room, used);
         within = let same = ap (λ (b : Bitmap). b.size) so_far.bitmap in let inside = adds.within in omega (arith, same, inside);
-        none_below = λ honest. subst (λ (b : Bitmap). NoneBelow new.image b end) so_far.bitmap (adds.none_below (now-honest honest));
+        none_below = λ honest. subst (λ (b : Bitmap). NoneFreeBelow new.image b end) so_far.bitmap (adds.none_below (now-honest honest));
         gains = λ honest.
             gains-add k (ownership_of tail) so_far.done count (volume_of old.image home) (volume_of now.image home) (volume_of new.image home)
             (so_far.gains honest)

@@ -24,8 +24,8 @@ use Rattle.f11_files.specs.Extending.Header.{TakesSlot}
 use Rattle.f11_files.specs.Extending.Slots.{StaysBehind}
 use Rattle.f11_files.specs.Extending.Room.{HoldsEnd}
 use Rattle.f11_files.specs.Structure.{index_in, home_of, ConfinesTo, IsStructureFor, WritesParts, StandsAlike, StandsWithin}
-use Rattle.f11_files.specs.Extending.Tail.{growth_headers, GrowsWithin, WritesGrowth}
-use Rattle.f11_files.specs.Extending.Take.{TakesRun}
+use Rattle.f11_files.specs.Extending.Tail.{growth_headers, GrowthStandsWithin, WritesGrowth}
+use Rattle.f11_files.specs.Extending.Take.{TakesNextRun}
 use Rattle.f11_files.specs.declared.structure.Structure.{Structure}
 use Rattle.f11_files.specs.declared.extend.tail.Tail.{Tail}
 use Rattle.f11_files.proofs.Finding.First.{table-of}
@@ -80,7 +80,7 @@ fewer-behind : (s after : Structure) (headers fewer : ℕ → Bool) (lbn count :
 fewer-behind s after headers fewer lbn count behind may =
     stands-along s after after headers headers fewer (range_with_len lbn count) [] (λ l _. refl) (behind.within headers) (stands-within after after headers fewer [] may (stands-same after))
 
-pub grows-behind : (s after : Structure) (tail later : Tail) (lbn count : ℕ) → later.number ≡ tail.number → StaysBehind s after lbn count → GrowsWithin s tail (range_with_len lbn count) after later
+pub grows-behind : (s after : Structure) (tail later : Tail) (lbn count : ℕ) → later.number ≡ tail.number → StaysBehind s after lbn count → GrowthStandsWithin s tail (range_with_len lbn count) after later
 grows-behind s after tail later lbn count same behind = record {
   grown = fewer-behind s after (growth_headers s tail) (growth_headers after later) lbn count behind (same-headers s after tail later same behind.bits);
   all = behind.within;
@@ -102,28 +102,28 @@ all-taken-behind s t u n lbn count taken behind headers =
     stands-along s t u headers headers headers run run (λ l out. out) (stands-within s t headers headers run (λ m is. is) (taken-alike s t n taken)) (behind.within headers)
 
 -- nothing is done
-pub grows-same : (s t : Structure) (tail later : Tail) (others : List ℕ) → t ≡ s → later.number ≡ tail.number → GrowsWithin s tail others t later
+pub grows-same : (s t : Structure) (tail later : Tail) (others : List ℕ) → t ≡ s → later.number ≡ tail.number → GrowthStandsWithin s tail others t later
 grows-same s t tail later others same number =
-    subst (λ (x : Structure). GrowsWithin s tail others x later) (sym same) (record {
+    subst (λ (x : Structure). GrowthStandsWithin s tail others x later) (sym same) (record {
       grown = stands-within s s (growth_headers s tail) (growth_headers s later) others (same-headers s s tail later number refl) (stands-same s);
       all = λ headers. stands-within s s headers headers others (λ m is. is) (stands-same s);
     })
 
 -- blocks are marked used
-pub grows-marked : (s t : Structure) (tail : Tail) (others : List ℕ) → index_in t ≡ index_in s → StandsAlike s t → GrowsWithin s tail others t tail
+pub grows-marked : (s t : Structure) (tail : Tail) (others : List ℕ) → index_in t ≡ index_in s → StandsAlike s t → GrowthStandsWithin s tail others t tail
 grows-marked s t tail others same alike = record {
   grown = stands-within s t (growth_headers s tail) (growth_headers t tail) others (same-headers s t tail tail refl (ap (λ (x : Index). x.bitmap) same)) alike;
   all = λ headers. stands-within s t headers headers others (λ m is. is) alike;
 }
 
 -- one step of growth, and then another
-pub grows-then : (s t u : Structure) (tail later last : Tail) (others more : List ℕ) → ((l : ℕ) → is_in others l ≡ false → is_in more l ≡ false) → GrowsWithin s tail others t later → GrowsWithin t later more u last → GrowsWithin s tail others u last
+pub grows-then : (s t u : Structure) (tail later last : Tail) (others more : List ℕ) → ((l : ℕ) → is_in others l ≡ false → is_in more l ≡ false) → GrowthStandsWithin s tail others t later → GrowthStandsWithin t later more u last → GrowthStandsWithin s tail others u last
 grows-then s t u tail later last others more fewer one two = record {
   grown = stands-along s t u (growth_headers s tail) (growth_headers t later) (growth_headers u last) others more fewer one.grown two.grown;
   all = λ headers. stands-along s t u headers headers headers others more fewer (one.all headers) (two.all headers);
 }
 
-pub growth-then : (s t : Structure) (tail later : Tail) (others more : List ℕ) {a b c : Disk} → GrowsWithin s tail others t later → ((l : ℕ) → is_in others l ≡ false → is_in more l ≡ false) → WritesGrowth s tail others a b → WritesGrowth t later more b c
+pub growth-then : (s t : Structure) (tail later : Tail) (others more : List ℕ) {a b c : Disk} → GrowthStandsWithin s tail others t later → ((l : ℕ) → is_in others l ≡ false → is_in more l ≡ false) → WritesGrowth s tail others a b → WritesGrowth t later more b c
     → WritesGrowth s tail others a c
 growth-then s t tail later others more stands fewer one two = to-then s t (growth_headers s tail) (growth_headers t later) others more stands.grown fewer one two
 
@@ -168,13 +168,13 @@ tail-listed s f end first last cleared old tail for ends of honest = elim (cases
 ]
 
 -- the blocks that were taken were free
-pub run-free : (s t : Structure) (from most lbn count : ℕ) (old taken : Disk) → IsTrue old.honest → TakesRun s t from most lbn count old taken → (l : ℕ) → is_in (free_list (volume_of old.image (home_of s))) l ≡ false
+pub run-free : (s t : Structure) (from most lbn count : ℕ) (old taken : Disk) → IsTrue old.honest → TakesNextRun s t from most lbn count old taken → (l : ℕ) → is_in (free_list (volume_of old.image (home_of s))) l ≡ false
     → is_in (range_with_len lbn count) l ≡ false
 run-free s t from most lbn count old taken honest takes l out =
     out-front (range_with_len lbn count) (free_list (volume_of taken.image (home_of s))) l (ap (λ (xs : List ℕ). is_in xs l) (sym (takes.lowest honest)) ∙ out)
 
 -- blocks are taken, and then the file grows by them
-pub growth-run : (s t : Structure) (tail : Tail) (from most lbn count : ℕ) (old taken new : Disk) → IsTrue old.honest → TakesRun s t from most lbn count old taken → StandsAlike s t → WritesParts s no_header old taken
+pub growth-run : (s t : Structure) (tail : Tail) (from most lbn count : ℕ) (old taken new : Disk) → IsTrue old.honest → TakesNextRun s t from most lbn count old taken → StandsAlike s t → WritesParts s no_header old taken
     → WritesGrowth t tail (range_with_len lbn count) taken new → WritesGrowth s tail (free_list (volume_of old.image (home_of s))) old new
 growth-run s t tail from most lbn count old taken new honest takes alike one two =
     growth-taken s t tail (free_list (volume_of old.image (home_of s))) (range_with_len lbn count) takes.index alike (run-free s t from most lbn count old taken honest takes) one two

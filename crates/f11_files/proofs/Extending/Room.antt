@@ -27,7 +27,7 @@ use Rattle.f11_files.specs.Answers.{is_among, ReadsAtMost, FailsToRead, faults_o
 use Rattle.f11_image_store.specs.FileLaws.{room_in}
 use Rattle.f11_files.specs.Finding.First.{HoldsFile}
 use Rattle.f11_files.specs.Operations.{held_causes, IsSpaceOf}
-use Rattle.f11_files.specs.Extending.Room.{room_causes, FindsEnd, HoldsEnd}
+use Rattle.f11_files.specs.Extending.Room.{room_causes, FindsFileEnd, HoldsEnd}
 use Rattle.f11_files.specs.Structure.{index_in, home_of, store_on, IsStructureFor}
 use Rattle.f11_files.specs.declared.structure.Structure.{Structure}
 use Rattle.f11_files.proofs.AnswerLemmas.{right-cause}
@@ -141,7 +141,7 @@ module _ (s : Structure) (f : FileId) (block : List ℕ) (old : Disk) (for : IsS
         }
 
 -- what was read is in hand then
-pub ends-then : (s : Structure) (f : FileId) (end : FileEnd) (was last : List ℕ) (old new : Disk) → FindsEnd s f end was last old new → HoldsEnd s f end was last new
+pub ends-then : (s : Structure) (f : FileId) (end : FileEnd) (was last : List ℕ) (old new : Disk) → FindsFileEnd s f end was last old new → HoldsEnd s f end was last new
 ends-then s f end was last old new finds =
     let looked = finds.ends.looked.looked in
     let same = ap (λ (i : Image). table_in i (index_in s)) (sym looked.image) in

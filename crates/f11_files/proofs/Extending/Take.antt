@@ -31,7 +31,7 @@ use Rattle.f11_files.specs.Extending.Growing.{IsTaking, Taking}
 use Rattle.f11_store.specs.Pieces.{TakesSome}
 use Rattle.f11_image_store.specs.StoreOf.{store_of}
 use Rattle.f11_files.specs.Structure.{index_in, bitmap_in, home_of, store_on, IsStructureFor, StaysFor}
-use Rattle.f11_files.specs.Extending.Take.{NoneBelow, TakesRun, with_fewer_free}
+use Rattle.f11_files.specs.Extending.Take.{NoneFreeBelow, TakesNextRun, with_fewer_free}
 use Rattle.f11_files.specs.declared.structure.Structure.{Structure}
 use Rattle.f11_image_store.proofs.AllocationLemmas.{lowest-taken}
 use Rattle.f11_files.proofs.Removing.Freeing.{writes-within}
@@ -119,7 +119,7 @@ module _ (s : Structure) (from most : ℕ) (old : Disk) (for : IsStructureFor s 
   fails-taking new fails = breaks-fault (went-writes (went_weaker (TakingBits old.honest (bitmap_in s) from most old.image) (Taking home most 0 st old) first-moment fails))
 
   -- on an honest disk a block is free, where some are asked for
-  pub finds-none : (new : Disk) → 0 < most → (IsTrue old.honest → most ≤ st.free) → (IsTrue old.honest → NoneBelow old.image (bitmap_in s) from) → FindsNone (bitmap_in s) from old new
+  pub finds-none : (new : Disk) → 0 < most → (IsTrue old.honest → most ≤ st.free) → (IsTrue old.honest → NoneFreeBelow old.image (bitmap_in s) from) → FindsNone (bitmap_in s) from old new
       → Breaks (Taking home most 0 st old) (blocks_from (bitmap_in s) from + 2) Damaged old new
   finds-none new some enough below finds = record {
     fatal = refl;
@@ -134,14 +134,14 @@ module _ (s : Structure) (from most : ℕ) (old : Disk) (for : IsStructureFor s 
     writes = writes-within (λ _. omega arith) (went-writes (went_looked (Taking home most 0 st old) finds.looked));
   }
 
-  module _ (lbn count : ℕ) (new : Disk) (below : IsTrue old.honest → NoneBelow old.image (bitmap_in s) from) (takes : Takes (bitmap_in s) from most lbn count old new) where
+  module _ (lbn count : ℕ) (new : Disk) (below : IsTrue old.honest → NoneFreeBelow old.image (bitmap_in s) from) (takes : Takes (bitmap_in s) from most lbn count old new) where
     went : Went (Taking home most 0 st old) old new (blocks_to (bitmap_in s) from (lbn + count) + blocks_touched lbn count) 0
     went = went_weaker (Changing old.honest false (bitmap_in s) lbn count old.image) (Taking home most 0 st old) (run-moment lbn count takes.within.asked (λ sure. (takes.first sure).each)) takes.marked.went
 
-    none-before : IsTrue old.honest → NoneBelow old.image (bitmap_in s) lbn
+    none-before : IsTrue old.honest → NoneFreeBelow old.image (bitmap_in s) lbn
     none-before honest k before = elim (cases_lt k from) [ inl early ↦ below honest k early | inr late ↦ (takes.first honest).first k late before ]
 
-    none-left : IsTrue old.honest → NoneBelow new.image (bitmap_in s) (lbn + count)
+    none-left : IsTrue old.honest → NoneFreeBelow new.image (bitmap_in s) (lbn + count)
     none-left honest k low = elim (cases_lt k lbn) [
       | inl before ↦ (takes.marked.marks honest).before k before ∙ none-before honest k before
       | inr inside ↦ (takes.marked.marks honest).inside k inside low
@@ -165,7 +165,7 @@ module _ (s : Structure) (from most : ℕ) (old : Disk) (for : IsStructureFor s 
           (takes.marked.marks honest).after
           ∙ ap (λ (b : Bitmap). range_with_len lbn count ++ filter (is_free new.image b) (range_with_len 0 b.size)) (bitmap honest ∙ sym kept.bitmap)
 
-    pub takes-run : (t : Structure) → index_in t ≡ index_in s → bitmap_in t ≡ bitmap_in s → room t.index ≡ room s.index → TakesRun s t from most lbn count old new
+    pub takes-run : (t : Structure) → index_in t ≡ index_in s → bitmap_in t ≡ bitmap_in s → room t.index ≡ room s.index → TakesNextRun s t from most lbn count old new
     takes-run t index bitmaps left = record {
       index = index;
       bitmap = bitmaps;

@@ -18,7 +18,7 @@ use Rattle.f11_files.specs.Extending.Growing.{SameFree}
 use Rattle.f11_image_store.specs.StoreOf.{store_of}
 use Rattle.f11_files.specs.Structure.{bitmap_in, home_of, store_on, IsStructureFor, StaysFor}
 use Rattle.f11_files.specs.Extending.Tail.{HoldsLast}
-use Rattle.f11_files.specs.Extending.Take.{NoneBelow, TakesRun, with_fewer_free}
+use Rattle.f11_files.specs.Extending.Take.{NoneFreeBelow, TakesNextRun, with_fewer_free}
 use Rattle.f11_files.specs.declared.structure.Structure.{Structure}
 use Rattle.f11_files.specs.declared.extend.tail.Tail.{Tail}
 use Rattle.f11_image_store.proofs.AllocationLemmas.{gains-run}
@@ -39,7 +39,7 @@ pub break-cost : (bitmap : Bitmap) (from most lbn count : ℕ) → from ≤ lbn 
 break-cost bitmap from most lbn count above some few asked = omega (arith, above, some, few, asked)
 
 module _ (s t : Structure) (tail : Tail) (from most lbn count : ℕ) (old mid : Disk) (for : IsStructureFor s old) (last : HoldsLast s tail old) (enough : IsTrue old.honest → most ≤ (store_on s old).free)
-    (takes : TakesRun s t from most lbn count old mid) (stays : StaysFor false s t mid) where
+    (takes : TakesNextRun s t from most lbn count old mid) (stays : StaysFor false s t mid) where
   abbrev home : HomeFields
   home = home_of s
 
@@ -95,7 +95,7 @@ module _ (s t : Structure) (tail : Tail) (from most lbn count : ℕ) (old mid : 
 
   -- once it is named, and the free blocks are as they were
   pub none-left : (u : Structure) (new : Disk) → bitmap_in u ≡ bitmap_in t → new.honest ≡ mid.honest → (IsTrue mid.honest → SameFree (home_of t) mid.image new.image) → StaysFor false t u new
-      → IsTrue old.honest → NoneBelow new.image (bitmap_in s) (lbn + count)
+      → IsTrue old.honest → NoneFreeBelow new.image (bitmap_in s) (lbn + count)
   unfolding volume_of
   none-left u new bitmap still free kept honest j low =
       let there = takes.writes.went.honest ∙ honest in

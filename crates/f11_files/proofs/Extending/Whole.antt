@@ -43,7 +43,7 @@ use Rattle.f11_image_store.specs.StoreOf.{store_of}
 use Rattle.f11_image_store.proofs.KeptBlocksLemmas.{held-stored, is-stored}
 use Rattle.f11_files.specs.Answers.{Does, FailsOrWants, FailsToRead, FailsToWrite, IsRight, IsUnderWay, Meanwhile, ReadsAtMost, WritesAtMost, faults_of, is_among, is_fatal}
 use Rattle.f11_files.specs.Extending.Again.{IsEndOf}
-use Rattle.f11_files.specs.Extending.Room.{FindsEnd, HoldsEnd, HoldsRoom}
+use Rattle.f11_files.specs.Extending.Room.{FindsFileEnd, HoldsEnd, HoldsRoom}
 use Rattle.f11_files.specs.Extending.Runs.{headers_for, ExtendsFile, ExtendsInHand, FailsToExtend, FailsToExtendHeld, IsLengthAfter}
 use Rattle.f11_files.specs.GrowingIndex.Headroom.{AllotsSlots, FailsToReady, ReadiesHeaders, ready_work}
 use Rattle.f11_files.specs.Operations.{extend_causes, file_causes, held_causes}
@@ -132,7 +132,7 @@ unfound home f n r old read fails =
         by_test true is = is
         by_test false is = absurd cc
 
-module _ (s : Structure) (f : FileId) (n : ℕ) (end : FileEnd) (was last : List ℕ) (old read : Disk) (for : IsStructureFor s old) (own : 4 ≤ f.number) (finds : FindsEnd s f end was last old read) (room : ℕ) (room_is : room ≡ room_in last) where
+module _ (s : Structure) (f : FileId) (n : ℕ) (end : FileEnd) (was last : List ℕ) (old read : Disk) (for : IsStructureFor s old) (own : 4 ≤ f.number) (finds : FindsFileEnd s f end was last old read) (room : ℕ) (room_is : room ≡ room_in last) where
   abbrev home : HomeFields
   home = home_of s
 

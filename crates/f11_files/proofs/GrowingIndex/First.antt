@@ -22,7 +22,7 @@ use Rattle.f11_store.specs.Store.{Store, index_file}
 use Rattle.f11_store.specs.declared.refusals.Refusal.{Refusal}
 use Rattle.f11_store.specs.declared.refusals.Refusal.TheVariants.{DeviceFull, NoHeader}
 use Rattle.f11_files.specs.Answers.{is_among, faults_of, ReadsAtMost, WritesMoreOf}
-use Rattle.f11_files.specs.Extending.Room.{room_causes, FindsEnd}
+use Rattle.f11_files.specs.Extending.Room.{room_causes, FindsFileEnd}
 use Rattle.f11_files.specs.GrowingIndex.First.{fit_causes, if_fit, slots_causes, FailsToGetSlots, GetsSlotsFirst}
 use Rattle.f11_files.specs.GrowingIndex.Headroom.{ConfinesSlots}
 use Rattle.f11_files.specs.GrowingIndex.Runs.{index_id, FailsToGrowHeld, GrowsHeld, HoldsIndexRoom}
@@ -87,7 +87,7 @@ left-fit count limit left n some is = by_test (nat_le n left) refl
     by_test true fit = grind (arith, nat_tests, some, is, fit)
     by_test false fit = grind (arith, nat_tests, some, is, fit)
 
-module _ (s : Structure) (n slots_more : ℕ) (old : Disk) (for : IsStructureFor s old) (some : 0 < slots_more) (end : FileEnd) (was last : List ℕ) (read : Disk) (finds : FindsEnd s index_id end was last old read)
+module _ (s : Structure) (n slots_more : ℕ) (old : Disk) (for : IsStructureFor s old) (some : 0 < slots_more) (end : FileEnd) (was last : List ℕ) (read : Disk) (finds : FindsFileEnd s index_id end was last old read)
     (fit : Bool) (room left free : ℕ) (room_is : room ≡ room_in last) (left_is : left ≡ slot_limit (home_of s) - slots (index_in s)) (fit_is : fit ≡ (nat_le slots_more room && nat_le slots_more left))
     (space : IsTrue old.honest → IsSpaceOf (store_on s old) free (length (free_slots_in (index_in s))) (slots (index_in s))) where
   abbrev st : Store

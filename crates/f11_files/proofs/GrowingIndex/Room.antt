@@ -17,7 +17,7 @@ use Rattle.f11_store.specs.declared.refusals.Refusal.TheVariants.{NoSuchFile, In
 use Rattle.f11_files.specs.Answers.{FailsToRead, ReadsAtMost, is_among, is_cause, faults_of}
 use Rattle.f11_files.specs.GrowingIndex.Runs.{index_id, HoldsIndexRoom}
 use Rattle.f11_files.specs.Operations.{file_causes, grow_causes, held_causes}
-use Rattle.f11_files.specs.Extending.Room.{FindsEnd}
+use Rattle.f11_files.specs.Extending.Room.{FindsFileEnd}
 use Rattle.f11_files.proofs.Extending.Room.{ends-then}
 use Rattle.f11_image_store.specs.StoreOf.{store_of, slot_limit}
 use Rattle.f11_files.specs.Structure.{index_in, home_of, store_on, IsStructureFor}
@@ -55,7 +55,7 @@ module _ (s : Structure) (old : Disk) (for : IsStructureFor s old) where
     few = λ honest. let few = reads.few honest in let same = ap header_count ((index-is s old for honest index_id refl refl).1) in omega (arith, few, same);
   }
 
-  pub finds-reads : (end : FileEnd) (was last : List ℕ) (read : Disk) → FindsEnd s index_id end was last old read → ReadsAtMost (header_count (index_file whole)) old read 0
+  pub finds-reads : (end : FileEnd) (was last : List ℕ) (read : Disk) → FindsFileEnd s index_id end was last old read → ReadsAtMost (header_count (index_file whole)) old read 0
   finds-reads end was last read finds = reads-index 0 read (reads-along s index_id was old read 0 for finds.holds finds.ends.looked)
 
   -- a transfer failed, or something is damaged
@@ -140,7 +140,7 @@ module _ (s : Structure) (n : ℕ) (old : Disk) (for : IsStructureFor s old) whe
     }
 
     -- or there is room for them
-    pub has-slots : (end : FileEnd) (was last : List ℕ) (read : Disk) → FindsEnd s index_id end was last old read → (IsTrue old.honest → first_of (held_causes st index_id n) ≡ None)
+    pub has-slots : (end : FileEnd) (was last : List ℕ) (read : Disk) → FindsFileEnd s index_id end was last old read → (IsTrue old.honest → first_of (held_causes st index_id n) ≡ None)
         → HoldsIndexRoom s n end was last read
     has-slots end was last read finds none =
         let looked = finds.ends.looked.looked in

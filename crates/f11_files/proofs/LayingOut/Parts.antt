@@ -15,7 +15,7 @@ use Rattle.f11_image_store.specs.Allocation.{free_list}
 use Rattle.f11_image_store.specs.Confines.{either, new_header, no_header, only_header}
 use Rattle.f11_files.specs.Extending.Room.{HoldsEnd}
 use Rattle.f11_files.specs.Extending.Runs.{IsTailOf}
-use Rattle.f11_files.specs.Extending.Tail.{growth_headers, GrowsWithin, WritesGrowth}
+use Rattle.f11_files.specs.Extending.Tail.{growth_headers, GrowthStandsWithin, WritesGrowth}
 use Rattle.f11_files.specs.LayingOut.Take.{TakesWholeRun}
 use Rattle.f11_files.specs.Structure.{bitmap_in, home_of, index_in, ConfinesTo, IsStructureFor, StandsAlike, WritesParts}
 use Rattle.f11_files.specs.declared.structure.Structure.{Structure}
@@ -82,7 +82,7 @@ module _ (s : Structure) (f : FileId) (end : FileEnd) (was last : List ℕ) (old
         (to-parts s all no_header free (of-none all) one) two
 
     -- and then the mark was set, or wasn't
-    pub marking-confined : (u : Structure) (later : Tail) {new : Disk} → GrowsWithin t tail (range_with_len lbn n) u later → WritesParts u (only_header f.number) laid new → ConfinesTo s all free old new
+    pub marking-confined : (u : Structure) (later : Tail) {new : Disk} → GrowthStandsWithin t tail (range_with_len lbn n) u later → WritesParts u (only_header f.number) laid new → ConfinesTo s all free old new
     marking-confined u later grows three =
         to-then s u all (only_header f.number) free []
         (λ l none out.

@@ -26,7 +26,7 @@ use Rattle.f11_files.specs.Changing.Fields.{FailsToAlter}
 use Rattle.f11_files.specs.Extending.Growing.{Taking}
 use Rattle.f11_files.specs.Extending.Runs.{IsTailOf}
 use Rattle.f11_files.specs.LayingOut.Lay.{laying_cost, LayingRun, LaysRun}
-use Rattle.f11_files.specs.LayingOut.Take.{FailsToTakeRun, HasNoRun, TakesWholeRun}
+use Rattle.f11_files.specs.LayingOut.Take.{FailsToTakeWholeRun, HasNoRun, TakesWholeRun}
 use Rattle.f11_files.specs.LayingOut.Whole.{lost, FailsToLayOutHeld, HoldsRunRoom}
 use Rattle.f11_files.specs.Operations.{file_causes}
 use Rattle.f11_files.specs.Structure.{bitmap_in, home_of, store_on, IsStructureFor, StaysFor}
@@ -139,7 +139,7 @@ module _ (s : Structure) (f : FileId) (n : ℕ) (end : FileEnd) (was last : List
   broken-stays u r new same breaks = subst (λ (b : Bool). StaysFor b s u new) (sym breaks.fatal) (held-stays u r new same breaks)
 
   -- as the run was being marked used
-  pub breaks-take : (mid : Disk) → FailsToTakeRun s n old mid → Breaks P most DeviceFault old mid
+  pub breaks-take : (mid : Disk) → FailsToTakeWholeRun s n old mid → Breaks P most DeviceFault old mid
   breaks-take mid went =
       breaks-fault (record {
         transfers = 3 * length (bitmap_in s).places;

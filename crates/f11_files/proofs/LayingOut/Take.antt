@@ -24,7 +24,7 @@ use Rattle.f11_volume.specs.Space.{storage_bitmap}
 use Rattle.f11_volume.specs.Volume.{volume_of}
 use Rattle.f11_writes.specs.Kept.{KeepsButFree}
 use Rattle.f11_files.specs.Extending.Growing.{Taking}
-use Rattle.f11_files.specs.LayingOut.Take.{FailsToTakeRun, HasNoRun, TakesWholeRun, UsesRun}
+use Rattle.f11_files.specs.LayingOut.Take.{FailsToTakeWholeRun, HasNoRun, TakesWholeRun, UsesRun}
 use Rattle.f11_files.specs.Structure.{index_in, bitmap_in, home_of, store_on, IsStructureFor, StaysFor}
 use Rattle.f11_files.specs.declared.structure.Structure.{Structure}
 use Rattle.f11_files.proofs.Extending.Growing.{sound-growing, taking-sound, went-writes}
@@ -45,7 +45,7 @@ module _ (s : Structure) (n : ℕ) (old : Disk) (for : IsStructureFor s old) whe
       → Taking home n 0 st old image
   moment lbn first = run-moment s 0 n old for lbn n (omega arith) (λ honest. (first honest).each)
 
-  pub fails-run : (new : Disk) → FailsToTakeBits (bitmap_in s) n old new → FailsToTakeRun s n old new
+  pub fails-run : (new : Disk) → FailsToTakeBits (bitmap_in s) n old new → FailsToTakeWholeRun s n old new
   fails-run new fails = went_weaker (TakingRun old.honest (bitmap_in s) n old.image) (Taking home n 0 st old) (λ image is. moment is.lbn is.run image is.changing) fails
 
   -- nowhere are so many

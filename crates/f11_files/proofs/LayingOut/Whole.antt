@@ -23,7 +23,7 @@ use Rattle.f11_volume.specs.Volume.{volume_of}
 use Rattle.f11_image_store.specs.FileLaws.{room_in}
 use Rattle.f11_image_store.specs.StoreOf.{store_of}
 use Rattle.f11_files.specs.Answers.{faults_of, is_among, is_clean, is_refused, Does, FailsToRead, FailsToWrite, Meanwhile, ReadsAtMost, WritesAtMost}
-use Rattle.f11_files.specs.Extending.Room.{FindsEnd}
+use Rattle.f11_files.specs.Extending.Room.{FindsFileEnd}
 use Rattle.f11_files.specs.LayingOut.Room.{run_causes}
 use Rattle.f11_files.specs.LayingOut.Whole.{FailsToLayOut, FailsToLayOutHeld, GainsRun, HoldsRunRoom, LaysOutFile, LaysOutHeld}
 use Rattle.f11_files.specs.Operations.{contiguous_causes, file_causes, IsSpaceOf}
@@ -100,7 +100,7 @@ judged false false true d r is = let same : DeviceFull ≡ r = cc in subst IsJud
 judged false false false true r is = let same : NoHeader ≡ r = cc in subst IsJudged same record { not_failed = λ no. omega (arith, no); not_damaged = λ no. omega (arith, no); not_run = λ no. omega (arith, no); no_fault = refl; among = λ s f n. refl }
 judged false false false false r is = absurd cc
 
-module _ (s : Structure) (f : FileId) (n : ℕ) (end : FileEnd) (was last : List ℕ) (old read : Disk) (for : IsStructureFor s old) (own : 4 ≤ f.number) (some : 0 < n) (finds : FindsEnd s f end was last old read)
+module _ (s : Structure) (f : FileId) (n : ℕ) (end : FileEnd) (was last : List ℕ) (old read : Disk) (for : IsStructureFor s old) (own : 4 ≤ f.number) (some : 0 < n) (finds : FindsFileEnd s f end was last old read)
     (room free count slots headers : ℕ) (room_is : room ≡ room_in last) (space : IsTrue old.honest → IsSpaceOf (store_on s old) free count slots) (alike : ltb headers (run_need room n) ≡ ltb count (run_need room n)) where
   abbrev home : HomeFields
   home = home_of s

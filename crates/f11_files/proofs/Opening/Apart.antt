@@ -5,14 +5,14 @@ use Rattle.std.specs.List.{list_any}
 use Rattle.std.proofs.lemmas.Bool.{cases_eq, eq-eqb, eqb-true}
 use Rattle.std.proofs.lemmas.List.{length-take, get_or-take, get_or_default}
 use Rattle.std.proofs.lemmas.List.Folds.{list_any_at, Any-from_list_any}
-use Rattle.f11_files.specs.Opening.Opens.{AreApart}
+use Rattle.f11_files.specs.Opening.Opens.{ArePlacesApart}
 
 -- none of the first i is there twice
 abbrev pub AreApartTo : List ℕ → ℕ → Type 0
 AreApartTo xs i = (a b : ℕ) → a < i → b < i → slice_index xs a ≡ slice_index xs b → a ≡ b
 
 -- one of the first i is the next
-pub not-apart : (xs : List ℕ) (i : ℕ) → i < length xs → list_any (λ y. eqb y (slice_index xs i)) (take i xs) ≡ true → ¬ AreApart xs
+pub not-apart : (xs : List ℕ) (i : ℕ) → i < length xs → list_any (λ y. eqb y (slice_index xs i)) (take i xs) ≡ true → ¬ ArePlacesApart xs
 not-apart xs i within found apart =
     let any = Any-from_list_any (λ y. eqb y (slice_index xs i)) (take i xs) found in
     let count = length-take i xs in

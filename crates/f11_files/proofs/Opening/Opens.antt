@@ -20,13 +20,13 @@ use Rattle.f11_volume.specs.Space.{storage_bitmap}
 use Rattle.f11_volume.specs.Verdict.{IsAccepted, of_frame}
 use Rattle.f11_volume.proofs.AcceptedLemmas.{accepted-sound}
 use Rattle.f11_volume.proofs.FileLemmas.{bitmap-is}
-use Rattle.f11_files.specs.Opening.Opens.{AreApart, FindsDamage, HasNoStructure, OpensStructure, fault_of, opening_reads}
+use Rattle.f11_files.specs.Opening.Opens.{ArePlacesApart, MeetsDamage, HasNoStructure, OpensStructure, fault_of, opening_reads}
 use Rattle.f11_files.specs.Structure.{index_in, home_of}
 use Rattle.f11_files.specs.declared.structure.Structure.{Structure}
 
 module _ (old : Disk) (image_is : IsImage old.image) (accepted : IsTrue old.honest → IsAccepted old.image) where
   -- no home block was found
-  pub no-home : (new : Disk) → FindsNoHome old new → FindsDamage old new
+  pub no-home : (new : Disk) → FindsNoHome old new → MeetsDamage old new
   no-home new finds = record {
     never = λ honest. let sound = (accepted-sound old.image image_is).0 (accepted honest) in home-some old.image sound.home sound.volume.framed.home_is (finds.has_none honest);
     looked = looked_within finds.looked (few (length old.image));
@@ -59,7 +59,7 @@ module _ (old : Disk) (image_is : IsImage old.image) (accepted : IsTrue old.hone
     frame-fails new read.NoMemory failed lacks = looked-behind new 0 (lacks refl)
 
     -- a fault was found
-    pub frame-faulty : (new : Disk) (code a : ℕ) → FindsFrameFault code a mid new → FindsDamage old new
+    pub frame-faulty : (new : Disk) (code a : ℕ) → FindsFrameFault code a mid new → MeetsDamage old new
     frame-faulty new code a fault = record {
       never = λ honest. accepted honest code a 0 (of_frame code a (subst (λ (i : Image). IsFrameFault i code a) same (fault.fault (sure honest))));
       looked = looked-behind new 0 fault.looked;
@@ -78,13 +78,13 @@ module _ (old : Disk) (image_is : IsImage old.image) (accepted : IsTrue old.hone
           subst (λ (h : HomeFields). AreOf old.image h index bitmap) (home-unique old.image reads.home home here.framed.home_is (finds.is_home honest)) here
 
       -- a block of the bitmap is there twice
-      pub not-apart-damage : ¬ AreApart bitmap.places → FindsDamage old now
+      pub not-apart-damage : ¬ ArePlacesApart bitmap.places → MeetsDamage old now
       not-apart-damage not = record {
-        never = λ honest. not (subst (λ (b : Bitmap). AreApart b.places) (sym (are honest).bitmap_is) (bitmap-is old.image home (is-sound honest)).0.apart);
+        never = λ honest. not (subst (λ (b : Bitmap). ArePlacesApart b.places) (sym (are honest).bitmap_is) (bitmap-is old.image home (is-sound honest)).0.apart);
         looked = looked-behind now 0 reads.looked;
       }
 
-      pub is-bitmap : AreApart bitmap.places → IsBitmap bitmap
+      pub is-bitmap : ArePlacesApart bitmap.places → IsBitmap bitmap
       is-bitmap apart = record { some = reads.lie.some; few = reads.lie.few; apart = apart; sized = reads.lie.sized; covered = reads.lie.covered }
 
       pub lies-still : BitmapLiesWithin bitmap (length now.image)

@@ -31,7 +31,7 @@ pub record HoldsEnd (s : Structure) (f : FileId) (end : FileEnd) (first last : L
   pub is_last : IsTrue disk.honest → IsLastOf (table (index_in s) disk) f.number end.number
 
 -- They were read, and its blocks counted.
-pub record FindsEnd (s : Structure) (f : FileId) (end : FileEnd) (first last : List ℕ) (old new : Disk) : Type 0 where
+pub record FindsFileEnd (s : Structure) (f : FileId) (end : FileEnd) (first last : List ℕ) (old new : Disk) : Type 0 where
   pub holds : HoldsFile (index_in s) f first old
   pub ends : ReadsLast (index_in s) f.number 0 end last old new
 

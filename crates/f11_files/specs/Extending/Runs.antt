@@ -28,7 +28,7 @@ use Rattle.f11_store.specs.Pieces.{file_numbered, piece_work_of}
 use Rattle.f11_image_store.specs.StoreOf.{store_of}
 use Rattle.f11_files.specs.Structure.{bitmap_in, home_of, store_on}
 use Rattle.f11_files.specs.Extending.Tail.{HoldsLast, ownership_of, whose}
-use Rattle.f11_files.specs.Extending.Take.{NoneBelow}
+use Rattle.f11_files.specs.Extending.Take.{NoneFreeBelow}
 use Rattle.f11_files.specs.declared.structure.Structure.{Structure}
 use Rattle.f11_files.specs.declared.extend.tail.Tail.{Tail}
 
@@ -50,7 +50,7 @@ pub record AddsRun (s after : Structure) (tail later : Tail) (from most end coun
   pub asked : count ≤ most
   pub above : from + count ≤ end
   pub within : end ≤ (bitmap_in s).size
-  pub none_below : IsTrue old.honest → NoneBelow new.image (bitmap_in s) end
+  pub none_below : IsTrue old.honest → NoneFreeBelow new.image (bitmap_in s) end
   pub gains :
       IsTrue old.honest → GainsBlocksAs tail.file.number (ownership_of tail) count (volume_of old.image (home_of s))
       (volume_of new.image (home_of s))

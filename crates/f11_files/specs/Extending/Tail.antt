@@ -49,7 +49,7 @@ WritesGrowth s tail others old new = ConfinesTo s (growth_headers s tail) others
 
 -- A block that is neither of those headers, of the bitmaps nor one of these is none of those headers, nor of the bitmaps, afterwards; and each
 -- header is where it was, or is one of these.
-pub record GrowsWithin (s : Structure) (tail : Tail) (others : List ℕ) (after : Structure) (later : Tail) : Type 0 where
+pub record GrowthStandsWithin (s : Structure) (tail : Tail) (others : List ℕ) (after : Structure) (later : Tail) : Type 0 where
   pub grown : StandsWithin s (growth_headers s tail) others after (growth_headers after later)
   pub all : (headers : ℕ → Bool) → StandsWithin s headers others after headers
 

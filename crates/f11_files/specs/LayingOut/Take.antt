@@ -43,5 +43,5 @@ pub record HasNoRun (s : Structure) (n : ℕ) (old new : Disk) : Type 0 where
   pub looked : Looked old new (length (bitmap_in s).places) 0
 
 -- A transfer failed.
-abbrev pub FailsToTakeRun : Structure → ℕ → Disk → Disk → Type 0
-FailsToTakeRun s n old new = Went (Taking (home_of s) n 0 (store_on s old) old) old new (3 * length (bitmap_in s).places) 1
+abbrev pub FailsToTakeWholeRun : Structure → ℕ → Disk → Disk → Type 0
+FailsToTakeWholeRun s n old new = Went (Taking (home_of s) n 0 (store_on s old) old) old new (3 * length (bitmap_in s).places) 1

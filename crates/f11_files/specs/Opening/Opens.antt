@@ -11,8 +11,8 @@ use Rattle.f11_files.specs.declared.open.StructureFault.TheVariants.{DeviceFault
 use Rattle.f11_files.specs.declared.structure.Structure.{Structure}
 
 -- no place is there twice
-abbrev pub AreApart : List ℕ → Type 0
-AreApart places = (i j : ℕ) → i < length places → j < length places → slice_index places i ≡ slice_index places j → i ≡ j
+abbrev pub ArePlacesApart : List ℕ → Type 0
+ArePlacesApart places = (i j : ℕ) → i < length places → j < length places → slice_index places i ≡ slice_index places j → i ≡ j
 
 -- at most so many blocks are read: the candidates for the home block, the frame, and the blocks of the storage bitmap
 abbrev pub opening_reads : Disk → ℕ
@@ -29,12 +29,12 @@ fault_of read.DeviceFault = DeviceFault
 fault_of read.NoMemory = NoMemory
 
 -- A structural fault was met, which no honest disk has.
-pub record FindsDamage (old new : Disk) : Type 0 where
+pub record MeetsDamage (old new : Disk) : Type 0 where
   pub never : ¬ IsTrue old.honest
   pub looked : Looked old new (opening_reads old) 0
 
 -- It was not: a transfer failed, a structural fault was met, or there was no memory.
 abbrev pub HasNoStructure : StructureFault → Disk → Disk → Type 0
 HasNoStructure DeviceFault old new = Looked old new (opening_reads old) 1
-HasNoStructure Damaged old new = FindsDamage old new
+HasNoStructure Damaged old new = MeetsDamage old new
 HasNoStructure NoMemory old new = Looked old new (opening_reads old) 0

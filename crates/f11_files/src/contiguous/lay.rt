@@ -5,7 +5,7 @@ ghost use Rattle.f11_image_store.specs.Allocation.{free_list};
 ghost use Rattle.f11_files.specs.Answers.{is_clean, is_fatal, is_refused, Breaks, WritesMoreOf};
 ghost use Rattle.f11_image_store.specs.Confines.{either, new_header};
 ghost use Rattle.f11_files.specs.LayingOut.Lay.{laying_cost, run_free, LayingRun, LaysRun};
-ghost use Rattle.f11_files.specs.Extending.Tail.{GrowsWithin, HoldsLast, WritesGrowth};
+ghost use Rattle.f11_files.specs.Extending.Tail.{GrowthStandsWithin, HoldsLast, WritesGrowth};
 ghost use Rattle.f11_files.specs.LayingOut.Whole.{lost, FailsToLayOut, FailsToLayOutHeld, HoldsRunRoom, LaysOutFile, LaysOutHeld};
 ghost use Rattle.f11_files.specs.Structure.{bitmap_in, counts_of, home_of, index_in, store_on, ConfinesTo, IsStructureFor, StaysFor};
 ghost use Rattle.f11_header.specs.Header.{holds_header};
@@ -89,7 +89,7 @@ impl Structure {
         ensures confined { WritesGrowth self.old tail.old (range_with_len lbn n)
             (D.disk device.old) (D.disk device.new) }
         ensures places { OnOk result
-            (GrowsWithin self.old tail.old (range_with_len lbn n) self.new tail.new) }
+            (GrowthStandsWithin self.old tail.old (range_with_len lbn n) self.new tail.new) }
     {
         let mut left = n;
         while left > 0 {

@@ -1,7 +1,7 @@
 //! A whole run of blocks that is marked used.
 ghost use Rattle.std.specs.Prelude.{◌≡◌, ◌<◌, false, IfNone, IfOk, IfSome, OnErr, OnOk};
 ghost use Rattle.f11_image_store.specs.Confines.{no_header};
-ghost use Rattle.f11_files.specs.LayingOut.Take.{FailsToTakeRun, HasNoRun, TakesWholeRun};
+ghost use Rattle.f11_files.specs.LayingOut.Take.{FailsToTakeWholeRun, HasNoRun, TakesWholeRun};
 ghost use Rattle.f11_files.specs.Structure.{counts_of, home_of, IsStructureFor, StandsAlike, StaysFor, WritesParts};
 
 use crate::structure::Structure;
@@ -28,7 +28,7 @@ impl Structure {
         ensures counts { IfOk result (λ answer. IfNone answer
             (counts_of self.new ≡ counts_of self.old)) }
         ensures failed { OnErr result
-            (FailsToTakeRun self.old n (D.disk device.old) (D.disk device.new)) }
+            (FailsToTakeWholeRun self.old n (D.disk device.old) (D.disk device.new)) }
         ensures stays { OnOk result (StaysFor false self.old self.new (D.disk device.new)) }
         ensures home { home_of self.new ≡ home_of self.old }
         ensures confined { WritesParts self.old no_header (D.disk device.old) (D.disk device.new) }

@@ -10,7 +10,7 @@ ghost use Rattle.f11_files.specs.Extending.Growing.{Taking};
 ghost use Rattle.f11_files.specs.Extending.Slots.{GetsBlocks};
 ghost use Rattle.f11_index.specs.Kept.{room};
 ghost use Rattle.f11_files.specs.Structure.{bitmap_in, home_of, index_in, store_on, IsStructureFor, StaysFor, WritesParts};
-ghost use Rattle.f11_files.specs.Extending.Tail.{GrowsWithin, HoldsLast, MayBeGiven, WritesGrowth};
+ghost use Rattle.f11_files.specs.Extending.Tail.{GrowthStandsWithin, HoldsLast, MayBeGiven, WritesGrowth};
 ghost use Rattle.f11_header.specs.Header.{holds_header};
 ghost use Rattle.f11_map.specs.HeaderBlock.{segment_number};
 ghost use Rattle.f11_store.specs.File.{run_pointers};
@@ -139,7 +139,7 @@ impl Structure {
         ensures confined { WritesGrowth self.old tail.old [] (D.disk device.old)
             (D.disk device.new) }
         ensures places { OnOk result
-            (GrowsWithin self.old tail.old (range_with_len lbn count) self.new tail.new) }
+            (GrowthStandsWithin self.old tail.old (range_with_len lbn count) self.new tail.new) }
     {
         if in_hand::map(&tail.block).segment() == LAST_SEGMENT {
             return Err(Refusal::Damaged);

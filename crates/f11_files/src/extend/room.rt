@@ -3,7 +3,7 @@ ghost use Rattle.std.specs.Prelude.{◌≡◌, ◌+◌, ◌-◌, ◌<◌, ◌≤
 ghost use Rattle.f11_files.specs.Answers.{FailsToRead};
 ghost use Rattle.f11_image_store.specs.FileLaws.{room_in};
 ghost use Rattle.f11_files.specs.Operations.{file_causes};
-ghost use Rattle.f11_files.specs.Extending.Room.{room_causes, FindsEnd};
+ghost use Rattle.f11_files.specs.Extending.Room.{room_causes, FindsFileEnd};
 ghost use Rattle.f11_files.specs.Structure.{index_in, store_on, IsStructureFor};
 ghost use Rattle.f11_header.specs.Header.{holds_header};
 ghost use Rattle.f11_index.specs.IndexFile.{free_slots_in};
@@ -99,7 +99,7 @@ impl Structure {
         last: &mut Block,
     ) -> Result<FileEnd, Refusal>
         requires is_for { IsStructureFor self.now (D.disk device.old) }
-        ensures end { IfOk result (λ end. FindsEnd self.now f end first.new last.new
+        ensures end { IfOk result (λ end. FindsFileEnd self.now f end first.new last.new
             (D.disk device.old) (D.disk device.new)) }
         ensures refused { IfErr result (λ refusal. FailsToRead false
             (file_causes (store_on self.now (D.disk device.old)) f)

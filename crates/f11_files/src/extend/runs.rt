@@ -14,8 +14,8 @@ ghost use Rattle.f11_files.specs.Extending.Growing.{GrowingBy};
 ghost use Rattle.f11_files.specs.Extending.Slots.{GetsBlocks};
 ghost use Rattle.f11_index.specs.Kept.{room};
 ghost use Rattle.f11_files.specs.Structure.{counts_of, bitmap_in, home_of, store_on, index_in, IsStructureFor, StaysFor, ConfinesTo};
-ghost use Rattle.f11_files.specs.Extending.Tail.{GrowsWithin, HoldsLast, WritesGrowth, ownership_of, places_next};
-ghost use Rattle.f11_files.specs.Extending.Take.{NoneBelow};
+ghost use Rattle.f11_files.specs.Extending.Tail.{GrowthStandsWithin, HoldsLast, WritesGrowth, ownership_of, places_next};
+ghost use Rattle.f11_files.specs.Extending.Take.{NoneFreeBelow};
 ghost use Rattle.f11_files.specs.GrowingIndex.Headroom.{WritesAfterSlots};
 ghost use Rattle.f11_header.specs.Header.{holds_header};
 ghost use Rattle.f11_index.specs.Headers.{headers_of};
@@ -89,7 +89,7 @@ impl Structure {
         ensures confined { WritesGrowth self.old tail.old (range_with_len lbn count)
             (D.disk device.old) (D.disk device.new) }
         ensures places { OnOk result
-            (GrowsWithin self.old tail.old (range_with_len lbn count) self.new tail.new) }
+            (GrowthStandsWithin self.old tail.old (range_with_len lbn count) self.new tail.new) }
     {
         match self.zero_run(device, lbn, count) {
             Ok(()) => {}
@@ -126,7 +126,7 @@ impl Structure {
         requires may { IsTrue (D.disk device.old).honest
             → MayGrowAs (store_on self.old (D.disk device.old)) tail.old.file.number most most }
         requires none_below { IsTrue (D.disk device.old).honest
-            → NoneBelow (D.disk device.old).image (bitmap_in self.old) from }
+            → NoneFreeBelow (D.disk device.old).image (bitmap_in self.old) from }
         ensures added { IfOk result (λ run. AddsRun self.old self.new tail.old tail.new from most
             run.0 run.1 (D.disk device.old) (D.disk device.new)) }
         ensures refused { let s = store_on self.old (D.disk device.old) in
@@ -142,9 +142,9 @@ impl Structure {
         ensures places { let free = free_list (volume_of (D.disk device.old).image
             (home_of self.old)) in
             OnOk result (IsTrue (D.disk device.old).honest
-            → GrowsWithin self.old tail.old free self.new tail.new) }
+            → GrowthStandsWithin self.old tail.old free self.new tail.new) }
     {
-        let (lbn, count) = self.take_run(device, from, most)?;
+        let (lbn, count) = self.take_next_run(device, from, most)?;
         self.append_run(device, tail, lbn, count)?;
         Ok((lbn + count, count))
     }

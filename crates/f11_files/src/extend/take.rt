@@ -5,7 +5,7 @@ ghost use Rattle.f11_files.specs.Answers.{is_fatal, is_refused, Breaks};
 ghost use Rattle.f11_image_store.specs.Confines.{no_header};
 ghost use Rattle.f11_files.specs.Extending.Growing.{Taking};
 ghost use Rattle.f11_files.specs.Structure.{bitmap_in, home_of, store_on, IsStructureFor, StaysFor, StandsAlike, WritesParts};
-ghost use Rattle.f11_files.specs.Extending.Take.{NoneBelow, TakesRun};
+ghost use Rattle.f11_files.specs.Extending.Take.{NoneFreeBelow, TakesNextRun};
 
 use crate::structure::Structure;
 use f11_dev::Device;
@@ -19,7 +19,7 @@ impl Structure {
     /// # Errors
     ///
     /// `DeviceFault` where a transfer failed, `Damaged` where no block is free, though there should be.
-    pub(crate) fn take_run<D: Device>(
+    pub(crate) fn take_next_run<D: Device>(
         &mut self,
         device: &mut D,
         from: u32,
@@ -30,8 +30,8 @@ impl Structure {
         requires free { IsTrue (D.disk device.old).honest
             → most ≤ (store_on self.old (D.disk device.old)).free }
         requires none_below { IsTrue (D.disk device.old).honest
-            → NoneBelow (D.disk device.old).image (bitmap_in self.old) from }
-        ensures taken { IfOk result (λ run. TakesRun self.old self.new from most run.0 run.1
+            → NoneFreeBelow (D.disk device.old).image (bitmap_in self.old) from }
+        ensures taken { IfOk result (λ run. TakesNextRun self.old self.new from most run.0 run.1
             (D.disk device.old) (D.disk device.new)) }
         ensures refused { IfErr result (λ refusal. Breaks
             (Taking (home_of self.old) most 0 (store_on self.old (D.disk device.old))

@@ -8,7 +8,7 @@ ghost use Rattle.f11_store.specs.Changes.{is_in};
 ghost use Rattle.f11_volume.specs.Volume.{volume_of};
 ghost use Rattle.f11_files.specs.Answers.{is_fatal, is_clean, is_refused, FailsToRead, WritesMoreOf};
 ghost use Rattle.f11_files.specs.GrowingIndex.Runs.{index_id, FailsToGrow, FailsToGrowHeld, GrowsHeld, GrowsIndexFile, HoldsIndexRoom, IsSlotsAfter};
-ghost use Rattle.f11_files.specs.Extending.Room.{FindsEnd};
+ghost use Rattle.f11_files.specs.Extending.Room.{FindsFileEnd};
 ghost use Rattle.f11_image_store.specs.StoreOf.{slot_limit};
 ghost use Rattle.f11_files.specs.Structure.{counts_of, home_of, store_on, index_in, ConfinesTo, IsStructureFor, StaysFor};
 ghost use Rattle.f11_index.specs.IndexFile.{slots};
@@ -70,7 +70,7 @@ impl Structure {
         last: &mut Block,
     ) -> Result<FileEnd, Refusal>
         requires is_for { IsStructureFor self.now (D.disk device.old) }
-        ensures end { IfOk result (λ end. FindsEnd self.now index_id end first.new last.new
+        ensures end { IfOk result (λ end. FindsFileEnd self.now index_id end first.new last.new
             (D.disk device.old) (D.disk device.new)) }
         ensures refused { IfErr result (λ refusal. FailsToRead false []
             (header_count (index_file (store_on self.now (D.disk device.old)))) refusal

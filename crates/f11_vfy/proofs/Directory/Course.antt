@@ -19,7 +19,7 @@ use Rattle.f11_vfy.specs.Surveying.Bits.{limit_of}
 use Rattle.f11_vfy.specs.Chain.{KeepsTable, KnowsNexts, numbered}
 use Rattle.f11_volume.specs.Contents.{following, blocks_reached, block_or_zeros, file_of}
 use Rattle.f11_vfy.specs.Directory.Blank.{HoldNoRecord}
-use Rattle.f11_vfy.specs.Directory.Reading.{HasBlocks, HoldsBlocks, HoldsHeaderBlocks, TakesBlocks, TakesHeader, TakesHeaders, TakesDirectory, LooksAtHeader, LooksAtHeaders, LooksFor, ComesTo, until, wanted}
+use Rattle.f11_vfy.specs.Directory.Reading.{HasBlocks, HoldsDirectoryBlocks, HoldsHeaderBlocks, TakesBlocks, TakesHeader, TakesHeaders, TakesDirectory, LooksAtHeader, LooksAtHeaders, LooksFor, ComesTo, until, wanted}
 use Rattle.f11_vfy.specs.Directory.Later.{Begins, TakesRecords}
 use Rattle.f11_vfy.specs.Surveying.Headers.{ReadsSlot, reads_of}
 use Rattle.f11_vfy.specs.declared.directories.contents.Directory.{Directory}
@@ -121,7 +121,7 @@ module _ (index : Index) (slots : List Slot) (dir : Directory) (at n : ℕ) (s :
     pub header-taken : (count : ℕ) (after : Later) (new : Disk) → count ≡ length (blocks_named b) → count ≤ 32512 → TakesBlocks slots dir at (blocks_named b) before after now new
         → TakesHeader index slots dir at n count before after old new
     header-taken count after new is few takes = record {
-      takes = takes-same slots dir.d (HoldsBlocks now (blocks_named b) at) (HoldsHeaderBlocks index n at old) _ _ _ _ before after takes.takes refl (ap (λ (k : ℕ). until dir.end (at + k)) (sym is))
+      takes = takes-same slots dir.d (HoldsDirectoryBlocks now (blocks_named b) at) (HoldsHeaderBlocks index n at old) _ _ _ _ before after takes.takes refl (ap (λ (k : ℕ). until dir.end (at + k)) (sym is))
           (λ image blocks holds. (
             still old now image reads.looked holds.holds.0,
             subst (λ (x : List ℕ). HasBlocks image (blocks_named x) at blocks) (sym (reads.block_is holds.holds.0.0 live)) holds.holds.1,

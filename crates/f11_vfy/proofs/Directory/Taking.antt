@@ -17,7 +17,7 @@ use Rattle.f11_vfy.specs.Surveying.Bits.{has}
 use Rattle.f11_vfy.specs.Chain.{KeepsTable}
 use Rattle.f11_vfy.specs.Directory.Blank.{HoldNoRecord}
 use Rattle.f11_vfy.specs.Directory.Reading.{until}
-use Rattle.f11_vfy.specs.Directory.Flaws.{EntersAt, HasFlaw, has_name}
+use Rattle.f11_vfy.specs.Directory.Flaws.{NamesFileAt, HasFlaw, has_name}
 use Rattle.f11_vfy.specs.Directory.Later.{Begins, FindsFlaws, TakesOn, TakesRecords}
 use Rattle.f11_volume.specs.Notes.{IsIdOf}
 use Rattle.f11_vfy.specs.declared.directories.contents.Directory.{Directory}
@@ -119,7 +119,7 @@ module _ (slots : List Slot) (d i : ℕ) (r : Record) (file added named : Bool) 
     not_empty : is_empty (record_at blocks i) ≡ false
     not_empty = ne_eqb _ _ (λ none. some (ap (λ (x : FileId). x.number) id-is ∙ none))
 
-    here : (n : ℕ) → has new.entered n ≡ true ↔ ((has old.entered n ≡ true) ⊎ EntersAt t blocks i n)
+    here : (n : ℕ) → has new.entered n ≡ true ↔ ((has old.entered n ≡ true) ⊎ NamesFileAt t blocks i n)
     here n = (
       λ h. elim ((enters t keeps n).0 h) [ inl a ↦ inl a | inr e ↦ inr (not_empty, subst (λ (x : FileId). IsIdOf t x n) id-is e) ],
       λ s. (enters t keeps n).1 (elim s [ inl a ↦ inl a | inr e ↦ inr (subst (λ (x : FileId). IsIdOf t x n) (sym id-is) e.1) ]),

@@ -20,7 +20,7 @@ use Rattle.f11_store.specs.Directory.{is_empty, record_in, record_at}
 use Rattle.f11_volume.specs.Contents.{block_or_zeros}
 use Rattle.f11_vfy.specs.Surveying.Bits.{has}
 use Rattle.f11_vfy.specs.Directory.Blank.{AddsBlank, HasAll}
-use Rattle.f11_vfy.specs.Directory.Reading.{HasBlocks, HasImage, HoldsBlock, HoldsBlocks, TakesBlocks, until, wanted}
+use Rattle.f11_vfy.specs.Directory.Reading.{HasBlocks, HasImage, HoldsDirectoryBlock, HoldsDirectoryBlocks, TakesBlocks, until, wanted}
 use Rattle.f11_vfy.specs.Directory.Later.{TakesOn}
 use Rattle.f11_vfy.specs.declared.directories.contents.Directory.{Directory}
 use Rattle.f11_vfy.specs.declared.directories.later.Later.{Later}
@@ -64,7 +64,7 @@ still old now image {most} looked has = (looked.honest ∙ has.0, looked.image �
 -- one block
 module _ (slots : List Slot) (dir : Directory) (at lbn : ℕ) (old : Disk) where
   abbrev pub Block : Image → List (List ℕ) → Type 0
-  Block = HoldsBlock old lbn at
+  Block = HoldsDirectoryBlock old lbn at
 
   -- that is known to hold no record
   pub known-taken : (now : Later) → has now.blank lbn ≡ true → TakesOn slots dir.d Block (until dir.end at) (until dir.end (at + 1)) now now
@@ -97,7 +97,7 @@ module _ (slots : List Slot) (dir : Directory) (at lbn : ℕ) (old : Disk) where
 -- a run of blocks
 module _ (slots : List Slot) (dir : Directory) (at lbn count : ℕ) (old : Disk) (before : Later) where
   abbrev pub Run : Image → List (List ℕ) → Type 0
-  Run = HoldsBlocks old (range_with_len lbn count) at
+  Run = HoldsDirectoryBlocks old (range_with_len lbn count) at
 
   -- block k of it
   run-block : (image : Image) (blocks : List (List ℕ)) → Run image blocks → (k : ℕ) → k < count → get_or blocks (at + k) [] ≡ block_or_zeros image (lbn + k)
@@ -105,7 +105,7 @@ module _ (slots : List Slot) (dir : Directory) (at lbn count : ℕ) (old : Disk)
 
   -- one block more
   pub run-more : (k : ℕ) (now after : Later) (disk : Disk) → k < count → TakesOn slots dir.d Run (until dir.end at) (until dir.end (at + k)) before now → Looked old disk k 0
-      → TakesOn slots dir.d (HoldsBlock disk (lbn + k) (at + k)) (until dir.end (at + k)) (until dir.end (at + k + 1)) now after
+      → TakesOn slots dir.d (HoldsDirectoryBlock disk (lbn + k) (at + k)) (until dir.end (at + k)) (until dir.end (at + k + 1)) now after
       → TakesOn slots dir.d Run (until dir.end at) (until dir.end (at + (k + 1))) before after
   run-more k now after disk below taken looked here =
       let next : at + k + 1 ≡ at + (k + 1) = omega arith in
@@ -152,14 +152,14 @@ module _ (slots : List Slot) (dir : Directory) (at lbn count : ℕ) (old : Disk)
 module _ (slots : List Slot) (dir : Directory) (at : ℕ) (b : List ℕ) (old : Disk) (before : Later) where
   -- the blocks of one pointer more
   pub pointers-more : (i behind : ℕ) (run : ℕ × ℕ) (now after : Later) (disk new : Disk) → slice_get (runs_of (map_area b)) i ≡ Some run → behind ≡ at + length (blocks_in (take i (runs_of (map_area b))))
-      → TakesOn slots dir.d (HoldsBlocks old (blocks_named b) at) (until dir.end at) (until dir.end behind) before now → {most : ℕ} → Looked old disk most 0
+      → TakesOn slots dir.d (HoldsDirectoryBlocks old (blocks_named b) at) (until dir.end at) (until dir.end behind) before now → {most : ℕ} → Looked old disk most 0
       → TakesBlocks slots dir behind (range_with_len run.0 run.1) now after disk new
-      → TakesOn slots dir.d (HoldsBlocks old (blocks_named b) at) (until dir.end at) (until dir.end (behind + run.1)) before after
+      → TakesOn slots dir.d (HoldsDirectoryBlocks old (blocks_named b) at) (until dir.end at) (until dir.end (behind + run.1)) before after
   unfolding blocks_named
   pointers-more i behind run now after disk new here is taken {most} looked takes =
       let next : behind + length (range_with_len run.0 run.1) ≡ behind + run.1 = omega (arith, length-range_with_len run.0 run.1) in
-      takes-more slots dir.d (HoldsBlocks old (blocks_named b) at) (HoldsBlocks old (blocks_named b) at) (HoldsBlocks old (blocks_named b) at) _ _ _ before now after taken
-      (takes-same slots dir.d (HoldsBlocks disk (range_with_len run.0 run.1) behind) (HoldsBlocks old (blocks_named b) at) _ _ _ _ now after takes.takes refl (ap (until dir.end) next)
+      takes-more slots dir.d (HoldsDirectoryBlocks old (blocks_named b) at) (HoldsDirectoryBlocks old (blocks_named b) at) (HoldsDirectoryBlocks old (blocks_named b) at) _ _ _ before now after taken
+      (takes-same slots dir.d (HoldsDirectoryBlocks disk (range_with_len run.0 run.1) behind) (HoldsDirectoryBlocks old (blocks_named b) at) _ _ _ _ now after takes.takes refl (ap (until dir.end) next)
       (λ image blocks holds. (
         still old disk image looked holds.0,
         subst (λ (n : ℕ). HasBlocks image (range_with_len run.0 run.1) n blocks) (sym is) (has-run image (runs_of (map_area b)) i run at blocks here holds.1),
@@ -185,7 +185,7 @@ module _ (slots : List Slot) (dir : Directory) (at : ℕ) (b : List ℕ) (old : 
   pointers-looked i behind run disk new faults here is before after = looked_within (looked_more before after) (omega (arith, pointers-within i behind run here is, is))
 
   pub pointers-taken : (behind : ℕ) (now : Later) (disk : Disk) → behind ≡ at + length (blocks_named b)
-      → TakesOn slots dir.d (HoldsBlocks old (blocks_named b) at) (until dir.end at) (until dir.end behind) before now → Looked old disk (wanted dir.end at (behind - at)) 0
+      → TakesOn slots dir.d (HoldsDirectoryBlocks old (blocks_named b) at) (until dir.end at) (until dir.end behind) before now → Looked old disk (wanted dir.end at (behind - at)) 0
       → TakesBlocks slots dir at (blocks_named b) before now old disk
   pointers-taken behind now disk is taken looked = record {
     takes = takes-same slots dir.d _ _ _ _ _ _ before now taken refl (ap (until dir.end) is) (λ image blocks holds. holds);

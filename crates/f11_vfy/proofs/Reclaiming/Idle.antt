@@ -21,7 +21,7 @@ use Rattle.f11_index.proofs.LawLemmas.{at as block-at}
 use Rattle.f11_image_store.proofs.ConfinesLemmas.{spares-other}
 use Rattle.f11_image_store.proofs.FreeingLemmas.{dead-freed, bit-wrote}
 use Rattle.f11_vfy.specs.Reclaiming.Moments.{any_header, IsReclaiming, KeepsPlaces, Moment}
-use Rattle.f11_vfy.specs.Reclaiming.Slots.{Counts, HasNoOrphan, IsIdle, ClearsUpTo, as_it_was, none, such, other}
+use Rattle.f11_vfy.specs.Reclaiming.Slots.{CountsUpTo, HasNoOrphan, IsIdle, ClearsUpTo, as_it_was, none, such, other}
 use Rattle.f11_vfy.specs.Reclaiming.Steps.{IsSwept, SamePlaces, HasClearedUpTo, ClearsIdle, FailsToClear}
 use Rattle.f11_vfy.specs.Surveying.Bits.{has}
 use Rattle.f11_vfy.specs.declared.findings.reading.Reading.{Reading}
@@ -212,7 +212,7 @@ module _ (index : Index) (r : Reading) (k : ℕ) (mid : Index) (old now : Disk) 
           table = table;
         }
 
-    count-more : (honest : IsTrue old.honest) (home : HomeFields) (swept : IsSwept index r home old.image) → Counts (IsIdle (table_of old.image home)) (k + 1) (so_far.count + 1)
+    count-more : (honest : IsTrue old.honest) (home : HomeFields) (swept : IsSwept index r home old.image) → CountsUpTo (IsIdle (table_of old.image home)) (k + 1) (so_far.count + 1)
     count-more honest home swept = such k so_far.count (so_far.counts honest home swept) (idle honest home swept)
 
     abbrev P : Image → Type 0

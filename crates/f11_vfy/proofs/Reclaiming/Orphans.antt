@@ -23,7 +23,7 @@ use Rattle.f11_map.specs.HeaderBlock.{blocks_named}
 use Rattle.f11_vfy.specs.Chain.{IsFit}
 use Rattle.f11_vfy.specs.Frames.Earlier.{Puts}
 use Rattle.f11_vfy.specs.Reclaiming.Moments.{any_header, IsReclaiming, KeepsPlaces, Moment}
-use Rattle.f11_vfy.specs.Reclaiming.Slots.{Counts, IsOrphan, IsOfOrphan, as_it_was, killed_orphan, none, such, other}
+use Rattle.f11_vfy.specs.Reclaiming.Slots.{CountsUpTo, IsOrphan, IsOfOrphan, as_it_was, killed_orphan, none, such, other}
 use Rattle.f11_vfy.specs.Reclaiming.Steps.{header_at, HasDead, HasKilled, KillsHeader, FailsToKill, IsShown, HasKilledUpTo, KillsOrphans, FailsToKillOrphans}
 use Rattle.f11_vfy.specs.Scanning.Reading.{ShowsVolume}
 use Rattle.f11_vfy.specs.declared.findings.reading.Reading.{Reading}
@@ -204,7 +204,7 @@ module _ (index : Index) (r : Reading) (k : ℕ) (before mid : Bits) (old now : 
           reclaiming-then home old.image now.image image so.places
           (subst (IsReclaiming home now.image) (sym (dead-image image is)) (reclaiming (dead-block image is)))
 
-    count-more : (honest : IsTrue old.honest) (home : HomeFields) (shown : IsShown index r home old.image) → Counts (IsOrphan (table_of old.image home)) (k + 1) (so_far.count + 1)
+    count-more : (honest : IsTrue old.honest) (home : HomeFields) (shown : IsShown index r home old.image) → CountsUpTo (IsOrphan (table_of old.image home)) (k + 1) (so_far.count + 1)
     count-more honest home shown = such k so_far.count (so_far.counts honest home shown) (orphan honest home shown)
 
     abbrev P : Image → Type 0

@@ -18,7 +18,7 @@ use Rattle.f11_index.specs.Table.{Table, table_of}
 use Rattle.f11_image_store.proofs.ConfinesLemmas.{spares-bitmap}
 use Rattle.f11_image_store.proofs.FreeingLemmas.{unnamed-freed}
 use Rattle.f11_vfy.specs.Reclaiming.Moments.{any_header, IsReclaiming, KeepsPlaces, KeepsPast, Moment}
-use Rattle.f11_vfy.specs.Reclaiming.Slots.{Counts, UsedAreOfFiles, none, such, other}
+use Rattle.f11_vfy.specs.Reclaiming.Slots.{CountsUpTo, UsedAreOfFiles, none, such, other}
 use Rattle.f11_vfy.specs.Reclaiming.Steps.{may_be_free, IsToChange, IsTold, IsChangedBlock, HasFreedUpTo, FreesUnnamed, FailsToFree}
 use Rattle.f11_vfy.specs.Surveying.Bits.{has}
 use Rattle.f11_vfy.specs.declared.survey.bits.Bits.{Bits}
@@ -222,7 +222,7 @@ module _ (bitmap : Bitmap) (known named unreferenced : Bits) (i : ℕ) (wanted :
 
   -- how many were other than they were before this one
   counts-before : (image : Image) → ((j : ℕ) → j < i → ¬ BitmapBlockChanges bitmap j now.image image) → IsTrue old.honest → (home : HomeFields)
-      → IsTold bitmap known named unreferenced home old.image → Counts (IsChangedBlock bitmap old.image image) i so_far.count
+      → IsTold bitmap known named unreferenced home old.image → CountsUpTo (IsChangedBlock bitmap old.image image) i so_far.count
   counts-before image stay honest home told = counts-on bitmap old.image now.image image i so_far.count stay (so_far.counts honest home told)
 
   others-stay : (image : Image) → Replaces bitmap i wanted now.image image → (j : ℕ) → j < i → ¬ BitmapBlockChanges bitmap j now.image image

@@ -6,7 +6,7 @@ use Rattle.f11_bits.proofs.LawLemmas.{KeepsBitmap-write, bitmap_bit-same}
 use Rattle.f11_dev.specs.Image.{Image}
 use Rattle.f11_home.specs.Home.{HomeFields}
 use Rattle.f11_vfy.specs.Reclaiming.Moments.{KeepsPast}
-use Rattle.f11_vfy.specs.Reclaiming.Slots.{Counts, none, such, other}
+use Rattle.f11_vfy.specs.Reclaiming.Slots.{CountsUpTo, none, such, other}
 use Rattle.f11_vfy.specs.Reclaiming.Steps.{IsChangedBlock}
 use Rattle.f11_volume.specs.Sound.{HasSoundVolume}
 use Rattle.f11_volume.specs.Space.{storage_bitmap}
@@ -16,7 +16,7 @@ use Rattle.f11_writes.proofs.SlotLemmas.{IsPlacedAt}
 
 -- a property that holds of the same numbers
 pub counts-same : (P Q : ℕ → Type 0) (n count : ℕ) → ((m : ℕ) → m < n → P (m + 1) → Q (m + 1)) → ((m : ℕ) → m < n → Q (m + 1) → P (m + 1))
-    → Counts P n count → Counts Q n count
+    → CountsUpTo P n count → CountsUpTo Q n count
 counts-same P Q n count to from none = none
 counts-same P Q n count to from (such k c counts holds) =
     such k c (counts-same P Q k c (λ m low. to m (omega (arith, low))) (λ m low. from m (omega (arith, low))) counts) (to k (omega arith) holds)
@@ -50,21 +50,21 @@ changed-block bitmap a b i = subst (λ (j : ℕ). BitmapBlockChanges bitmap j a 
 -- as many changed from a to b as from c to d, where the same did
 counts-blocks : (bitmap : Bitmap) (a b c d : Image) (n count : ℕ) → ((i : ℕ) → i < n → BitmapBlockChanges bitmap i a b → BitmapBlockChanges bitmap i c d)
     → ((i : ℕ) → i < n → BitmapBlockChanges bitmap i c d → BitmapBlockChanges bitmap i a b)
-    → Counts (IsChangedBlock bitmap a b) n count → Counts (IsChangedBlock bitmap c d) n count
+    → CountsUpTo (IsChangedBlock bitmap a b) n count → CountsUpTo (IsChangedBlock bitmap c d) n count
 counts-blocks bitmap a b c d n count to from = counts-same (IsChangedBlock bitmap a b) (IsChangedBlock bitmap c d) n count
     (λ i low changes. block-changed bitmap c d i (to i low (changed-block bitmap a b i changes)))
     (λ i low changes. block-changed bitmap a b i (from i low (changed-block bitmap c d i changes)))
 
 -- as many changed since an image in which they were the same
 pub counts-since : (bitmap : Bitmap) (a b c : Image) (n count : ℕ) → n ≤ length bitmap.places → KeepsBitmap bitmap a b
-    → Counts (IsChangedBlock bitmap b c) n count → Counts (IsChangedBlock bitmap a c) n count
+    → CountsUpTo (IsChangedBlock bitmap b c) n count → CountsUpTo (IsChangedBlock bitmap a c) n count
 counts-since bitmap a b c n count few keeps = counts-blocks bitmap b c a c n count
     (λ m low changes same. changes (same ∙ sym (keeps m (omega (arith, low, few)))))
     (λ m low changes same. changes (same ∙ keeps m (omega (arith, low, few))))
 
 -- as many changed where they stay then
 pub counts-on : (bitmap : Bitmap) (a b c : Image) (n count : ℕ) → ((i : ℕ) → i < n → ¬ BitmapBlockChanges bitmap i b c)
-    → Counts (IsChangedBlock bitmap a b) n count → Counts (IsChangedBlock bitmap a c) n count
+    → CountsUpTo (IsChangedBlock bitmap a b) n count → CountsUpTo (IsChangedBlock bitmap a c) n count
 counts-on bitmap a b c n count stay = counts-blocks bitmap a b a c n count
     (λ m low. changed-stays bitmap m a b c (stay m low)) (λ m low. changed-before bitmap m a b c (stay m low))
 

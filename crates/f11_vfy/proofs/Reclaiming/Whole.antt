@@ -9,7 +9,7 @@ use Rattle.f11_home.specs.Home.{HomeFields}
 use Rattle.f11_index.specs.IndexFile.{Index, slots}
 use Rattle.f11_index.specs.Table.{table_of}
 use Rattle.f11_vfy.specs.Reclaiming.Moments.{Moment}
-use Rattle.f11_vfy.specs.Reclaiming.Slots.{Counts, IsOrphan, IsIdle, none}
+use Rattle.f11_vfy.specs.Reclaiming.Slots.{CountsUpTo, IsOrphan, IsIdle, none}
 use Rattle.f11_vfy.specs.Reclaiming.Steps.{IsShown, HasKilledUpTo, KillsOrphans, FailsToKillOrphans, IsSwept, HasClearedUpTo, ClearsIdle, FailsToClear, IsTold, IsChangedBlock, FreesUnnamed, FailsToFree}
 use Rattle.f11_vfy.specs.Reclaiming.Whole.{Costs, GoesOn, GivesBack, IsReadAs}
 use Rattle.f11_vfy.specs.Surveying.Bits.{has, limit_of}
@@ -27,8 +27,8 @@ module _ (index : Index) (bitmap : Bitmap) (r : Reading) (before : Bits) (d0 : D
   P = Moment K d0
 
   costs : (home : HomeFields) → K home d0.image → (new : Image) (n orphans m idle blocks changed faults most : ℕ)
-      → Counts (IsOrphan (table_of d0.image home)) n orphans → n ≤ slots index → Counts (IsIdle (table_of d0.image home)) m idle → m ≤ slots index
-      → Counts (IsChangedBlock bitmap d0.image new) blocks changed → blocks ≤ length bitmap.places
+      → CountsUpTo (IsOrphan (table_of d0.image home)) n orphans → n ≤ slots index → CountsUpTo (IsIdle (table_of d0.image home)) m idle → m ≤ slots index
+      → CountsUpTo (IsChangedBlock bitmap d0.image new) blocks changed → blocks ≤ length bitmap.places
       → most ≤ 2 * orphans + idle + 2 * changed + 2 * faults → Costs home d0.image new 0 faults most
   costs home is new n orphans m idle blocks changed faults most orphans_are low idle_are high changed_are within few =
       let count = slot-count index bitmap r home d0.image is in
@@ -44,7 +44,7 @@ module _ (index : Index) (bitmap : Bitmap) (r : Reading) (before : Bits) (d0 : D
         idle_within = omega (arith, high, count);
         bitmap_blocks = blocks;
         changed = changed;
-        changed_are = subst (λ (b : Bitmap). Counts (IsChangedBlock b d0.image new) blocks changed) is.frame.bitmap_is changed_are;
+        changed_are = subst (λ (b : Bitmap). CountsUpTo (IsChangedBlock b d0.image new) blocks changed) is.frame.bitmap_is changed_are;
         changed_within = omega (arith, within, size);
         few = omega (arith, few);
       }
@@ -76,14 +76,14 @@ module _ (index : Index) (bitmap : Bitmap) (r : Reading) (before : Bits) (d0 : D
     stands-two image stands honest home is =
         reclaiming-then home d0.image d1.image image (so-one home honest is).places (stands (still-one honest) home (swept home honest is))
 
-    idle-count : (home : HomeFields) (honest : IsTrue d0.honest) (is : K home d0.image) (n count : ℕ) → Counts (IsIdle (table_of d1.image home)) n count
-        → Counts (IsIdle (table_of d0.image home)) n count
+    idle-count : (home : HomeFields) (honest : IsTrue d0.honest) (is : K home d0.image) (n count : ℕ) → CountsUpTo (IsIdle (table_of d1.image home)) n count
+        → CountsUpTo (IsIdle (table_of d0.image home)) n count
     idle-count home honest is n count =
         counts-same (IsIdle (table_of d1.image home)) (IsIdle (table_of d0.image home)) n count
         (λ m low. idle-was index bitmap r home d0.image is before unreferenced d1.image (so-one home honest is) (m + 1))
         (λ m low. was-idle index bitmap r home d0.image is before unreferenced d1.image (so-one home honest is) (m + 1))
 
-    orphan-count : (home : HomeFields) → IsTrue d0.honest → K home d0.image → Counts (IsOrphan (table_of d0.image home)) (slots index) one.count
+    orphan-count : (home : HomeFields) → IsTrue d0.honest → K home d0.image → CountsUpTo (IsOrphan (table_of d0.image home)) (slots index) one.count
     orphan-count home honest is = one.counts honest home (shown-so index bitmap r home d0.image is)
 
     -- all were; not all idle slots left use
@@ -123,7 +123,7 @@ module _ (index : Index) (bitmap : Bitmap) (r : Reading) (before : Bits) (d0 : D
       -- some of them were then
       goes : (d3 : Disk) (faults blocks changed most : ℕ) → Went (Moment (IsTold bitmap r.free r.survey.tally.once unreferenced) d2) d2 d3 most faults
           → ((home : HomeFields) → IsTrue d2.honest → IsTold bitmap r.free r.survey.tally.once unreferenced home d2.image
-          → Counts (IsChangedBlock bitmap d2.image d3.image) blocks changed)
+          → CountsUpTo (IsChangedBlock bitmap d2.image d3.image) blocks changed)
           → blocks ≤ length bitmap.places → most ≤ 2 * changed + 2 * faults → GoesOn K (λ home. 0) d0 d3 faults
       goes d3 faults blocks changed most went counts within few = record {
         most = 2 * one.count + two.count + most;

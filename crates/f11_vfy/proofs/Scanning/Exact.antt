@@ -20,7 +20,7 @@ use Rattle.f11_volume.specs.Notes.{IsVolumeNote, blocks_lost, header_dead, orpha
 use Rattle.f11_vfy.specs.Scanning.Parts.{IsReading}
 use Rattle.f11_vfy.specs.Scanning.Reading.{ShowsVolume, IsFirstNote}
 use Rattle.f11_vfy.specs.Scanning.Scans.{Holds, code_of, is_lost, ends_lost, start_of}
-use Rattle.f11_vfy.specs.Surveying.Slot.{KeepsSlot, KeepsHeader, IsBadSlot, kept_slot, unused_slot}
+use Rattle.f11_vfy.specs.Surveying.Slot.{KeepsSlot, KeepsValidHeader, IsBadSlot, kept_slot, unused_slot}
 use Rattle.f11_vfy.specs.Surveying.Headers.{OutsideUpTo}
 use Rattle.f11_volume.specs.Volume.{Volume, IsLinked}
 use Rattle.f11_index.specs.Headers.{IsInFile}
@@ -96,7 +96,7 @@ module _ (v : Volume) (r : Reading) (is : ShowsVolume v r) where
       }
 
   -- a header of a file, as it is kept
-  held-kept : (n : ℕ) → IsInFile v.table n → KeepsHeader (v.table.header n) (kept_slot r.survey.slots.items (n - 1))
+  held-kept : (n : ℕ) → IsInFile v.table n → KeepsValidHeader (v.table.header n) (kept_slot r.survey.slots.items (n - 1))
   held-kept n held =
       let live : IsLive v.table n = held_live v.table held.file n held.of in
       let here : KeepsSlot v.table n (kept_slot r.survey.slots.items (n - 1)) = kept-at n (low-of n live.in_use) (high-of n live.in_use) in
@@ -105,7 +105,7 @@ module _ (v : Volume) (r : Reading) (is : ShowsVolume v r) where
   held-used : (n : ℕ) → IsInFile v.table n → v.table.in_use n ≡ true
   held-used n held = (held_live v.table held.file n held.of).in_use
 
-  held-here : (k : ℕ) → k < length r.survey.slots.items → has r.chains.in_file (k + 1) ≡ true → IsInFile v.table (k + 1) × KeepsHeader (v.table.header (k + 1)) (kept_slot r.survey.slots.items k)
+  held-here : (k : ℕ) → k < length r.survey.slots.items → has r.chains.in_file (k + 1) ≡ true → IsInFile v.table (k + 1) × KeepsValidHeader (v.table.header (k + 1)) (kept_slot r.survey.slots.items k)
   held-here k below file =
       let held : IsInFile v.table (k + 1) = (is.chains.in_file (k + 1)).0 file in
       let here : KeepsSlot v.table (k + 1) (kept_slot r.survey.slots.items k) = kept k below in
@@ -301,7 +301,7 @@ module _ (v : Volume) (r : Reading) (is : ShowsVolume v r) where
       let alive : (kept_slot r.survey.slots.items (n - 1)).state ≡ Live = live-to v.table n _ here.state file.live in
       (alive, (here.header alive).segment ∙ file.first)
 
-  file-kept : (n : ℕ) → IsFile v.table n → KeepsHeader (v.table.header n) (kept_slot r.survey.slots.items (n - 1))
+  file-kept : (n : ℕ) → IsFile v.table n → KeepsValidHeader (v.table.header n) (kept_slot r.survey.slots.items (n - 1))
   file-kept n file = (kept-at n (low-of n file.live.in_use) (high-of n file.live.in_use)).header (file-there n file).0
 
   notes-complete : (image : Image) (code a b : ℕ) → IsVolumeNote image v code a b → code ≤ 5 → NotesFound code a b

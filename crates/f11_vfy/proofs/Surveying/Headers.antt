@@ -8,7 +8,7 @@ use Rattle.f11_index.specs.Table.{Table, IsLive}
 use Rattle.f11_index.specs.Headers.{is_live}
 use Rattle.f11_vfy.specs.Surveying.Count.{Shows, times_among, times_by, times_named}
 use Rattle.f11_vfy.specs.Scanning.Found.{Finds}
-use Rattle.f11_vfy.specs.Surveying.Slot.{HasState, KeepsHeader, KeepsSlot, KeepsSlots}
+use Rattle.f11_vfy.specs.Surveying.Slot.{HasState, KeepsValidHeader, KeepsSlot, KeepsSlots}
 use Rattle.f11_vfy.specs.Surveying.Headers.{IsOutside, OutsideOf, OutsideUpTo, TakesSlot, IsSurvey, Surveys, IsNewSurvey}
 use Rattle.f11_volume.specs.Volume.{HasPointer}
 use Rattle.f11_vfy.specs.declared.survey.slot.Slot.{Slot}
@@ -67,7 +67,7 @@ module _ (k : ℕ) (state : State) (block : List ℕ) (size : ℕ) (old new : Su
     kept : KeepsSlot t (k + 1) takes.slot
     kept = record {
       state = subst (HasState t (k + 1)) (sym takes.state_is) has;
-      header = λ is. let alive : state ≡ Live = sym takes.state_is ∙ is in subst (λ (b : List ℕ). KeepsHeader b takes.slot) (block_is alive) (takes.keeps alive);
+      header = λ is. let alive : state ≡ Live = sym takes.state_is ∙ is in subst (λ (b : List ℕ). KeepsValidHeader b takes.slot) (block_is alive) (takes.keeps alive);
     }
 
     slots-more : KeepsSlots t (k + 1) new.slots.items

@@ -42,11 +42,11 @@ abbrev pub KeepsNames : List (List ℕ) → ℕ → BTreeSet (List ℕ) → Type
 KeepsNames blocks count names = (name : List ℕ) → has_name names name ≡ true ↔ HasNameIn blocks count name
 
 -- record i names file n
-abbrev pub EntersAt : Table → List (List ℕ) → ℕ → ℕ → Type 0
-EntersAt t blocks i n = (is_empty (record_at blocks i) ≡ false) × IsIdOf t (record_id (record_at blocks i)) n
+abbrev pub NamesFileAt : Table → List (List ℕ) → ℕ → ℕ → Type 0
+NamesFileAt t blocks i n = (is_empty (record_at blocks i) ≡ false) × IsIdOf t (record_id (record_at blocks i)) n
 
 -- one of the first so many records names file n
 pub record EntersIn (t : Table) (blocks : List (List ℕ)) (count n : ℕ) : Type 0 where
   pub place : ℕ
   pub below : place < count
-  pub enters : EntersAt t blocks place n
+  pub enters : NamesFileAt t blocks place n

@@ -52,16 +52,16 @@ abbrev pub HasImage : Disk → Image → Type 0
 HasImage disk image = IsTrue disk.honest × (disk.image ≡ image)
 
 -- the blocks at these LBNs of an honest disk are a directory's from its block `at` on
-abbrev pub HoldsBlocks : Disk → List ℕ → ℕ → Image → List (List ℕ) → Type 0
-HoldsBlocks disk lbns at image blocks = HasImage disk image × HasBlocks image lbns at blocks
+abbrev pub HoldsDirectoryBlocks : Disk → List ℕ → ℕ → Image → List (List ℕ) → Type 0
+HoldsDirectoryBlocks disk lbns at image blocks = HasImage disk image × HasBlocks image lbns at blocks
 
 -- the block at this LBN of an honest disk is a directory's block `at`
-abbrev pub HoldsBlock : Disk → ℕ → ℕ → Image → List (List ℕ) → Type 0
-HoldsBlock disk lbn at image blocks = HasImage disk image × (slice_index_or blocks at [] ≡ block_or_zeros image lbn)
+abbrev pub HoldsDirectoryBlock : Disk → ℕ → ℕ → Image → List (List ℕ) → Type 0
+HoldsDirectoryBlock disk lbn at image blocks = HasImage disk image × (slice_index_or blocks at [] ≡ block_or_zeros image lbn)
 
 -- The blocks at these LBNs, which are a directory's from block `at` on, were taken, and read where they may hold a record before its end.
 pub record TakesBlocks (slots : List Slot) (dir : Directory) (at : ℕ) (lbns : List ℕ) (before after : Later) (old new : Disk) : Type 0 where
-  pub takes : TakesOn slots dir.d (HoldsBlocks old lbns at) (until dir.end at) (until dir.end (at + length lbns)) before after
+  pub takes : TakesOn slots dir.d (HoldsDirectoryBlocks old lbns at) (until dir.end at) (until dir.end (at + length lbns)) before after
   pub looked : Looked old new (wanted dir.end at (length lbns)) 0
 
 -- Header n of a directory was read, and blocks that it names; so many transfers failed.
@@ -73,7 +73,7 @@ pub record LooksAtHeader (index : Index) (end at n : ℕ) (old new : Disk) (faul
 -- the blocks that header n names are a directory's from its block `at` on
 pub record HoldsHeaderBlocks (index : Index) (n at : ℕ) (disk : Disk) (image : Image) (blocks : List (List ℕ)) : Type 0 where
   pub live : IsLive (table_in disk.image index) n
-  pub holds : HoldsBlocks disk (blocks_named ((table_in disk.image index).header n)) at image blocks
+  pub holds : HoldsDirectoryBlocks disk (blocks_named ((table_in disk.image index).header n)) at image blocks
 
 -- Header n of a directory was read, and its blocks, so many, were taken.
 pub record TakesHeader (index : Index) (slots : List Slot) (dir : Directory) (at n count : ℕ) (before after : Later)

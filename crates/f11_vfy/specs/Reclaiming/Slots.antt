@@ -7,10 +7,10 @@ use Rattle.f11_index.specs.Headers.{IsInFile}
 use Rattle.f11_index.specs.Table.{Table, IsLive}
 
 -- so many of the numbers from 1 to n are such
-pub data Counts (P : ℕ → Type 0) : ℕ → ℕ → Type 0 where
-  none : Counts P 0 0
-  such : (n count : ℕ) → Counts P n count → P (n + 1) → Counts P (n + 1) (count + 1)
-  other : (n count : ℕ) → Counts P n count → ¬ P (n + 1) → Counts P (n + 1) count
+pub data CountsUpTo (P : ℕ → Type 0) : ℕ → ℕ → Type 0 where
+  none : CountsUpTo P 0 0
+  such : (n count : ℕ) → CountsUpTo P n count → P (n + 1) → CountsUpTo P (n + 1) (count + 1)
+  other : (n count : ℕ) → CountsUpTo P n count → ¬ P (n + 1) → CountsUpTo P (n + 1) count
 
 -- header n is an orphan: it is live, and one of no file
 pub record IsOrphan (t : Table) (n : ℕ) : Type 0 where

@@ -15,7 +15,7 @@ use Rattle.f11_index.specs.IndexFile.{Index, index_of, header_lbn}
 use Rattle.f11_index.specs.Table.{table_in, table_of}
 use Rattle.f11_vfy.specs.Frames.Earlier.{Puts}
 use Rattle.f11_vfy.specs.Reclaiming.Moments.{KeepsPlaces, Where, Moment}
-use Rattle.f11_vfy.specs.Reclaiming.Slots.{Counts, IsOrphan, HasNoOrphan, UsedAreOfFiles, IsIdle, IsOfOrphan, KillsUpTo, ClearsUpTo}
+use Rattle.f11_vfy.specs.Reclaiming.Slots.{CountsUpTo, IsOrphan, HasNoOrphan, UsedAreOfFiles, IsIdle, IsOfOrphan, KillsUpTo, ClearsUpTo}
 use Rattle.f11_vfy.specs.Scanning.Reading.{ShowsVolume}
 use Rattle.f11_vfy.specs.Surveying.Bits.{has}
 use Rattle.f11_vfy.specs.declared.findings.reading.Reading.{Reading}
@@ -70,7 +70,7 @@ pub record HasKilledUpTo (n : ℕ) (before after : Bits) (home : HomeFields) (ol
 pub record KillsOrphans (index : Index) (r : Reading) (n : ℕ) (before after : Bits) (old new : Disk) : Type 0 where
   pub kills : Where (IsShown index r) old (λ home. HasKilledUpTo n before after home old.image new.image)
   pub count : ℕ
-  pub counts : Where (IsShown index r) old (λ home. Counts (IsOrphan (table_of old.image home)) n count)
+  pub counts : Where (IsShown index r) old (λ home. CountsUpTo (IsOrphan (table_of old.image home)) n count)
   pub went : Went (Moment (IsShown index r) old) old new (2 * count) 0
 
 -- A transfer failed, at one among the first so many.
@@ -78,7 +78,7 @@ pub record FailsToKillOrphans (index : Index) (r : Reading) (slots : ℕ) (old n
   pub upto : ℕ
   pub within : upto ≤ slots
   pub count : ℕ
-  pub counts : Where (IsShown index r) old (λ home. Counts (IsOrphan (table_of old.image home)) upto count)
+  pub counts : Where (IsShown index r) old (λ home. CountsUpTo (IsOrphan (table_of old.image home)) upto count)
   pub went : Went (Moment (IsShown index r) old) old new (2 * count) 1
 
 -- A volume without orphans is sound, this is its index file, and a reading tells which headers are those of files.
@@ -106,7 +106,7 @@ pub record ClearsIdle (index : Index) (r : Reading) (n : ℕ) (after : Index) (o
   pub same : SamePlaces index after
   pub clears : Where (IsSwept index r) old (λ home. HasClearedUpTo n after home old.image new.image)
   pub count : ℕ
-  pub counts : Where (IsSwept index r) old (λ home. Counts (IsIdle (table_of old.image home)) n count)
+  pub counts : Where (IsSwept index r) old (λ home. CountsUpTo (IsIdle (table_of old.image home)) n count)
   pub went : Went (Moment (IsSwept index r) old) old new count 0
 
 -- A transfer failed, at one among the first so many.
@@ -114,7 +114,7 @@ pub record FailsToClear (index : Index) (r : Reading) (slots : ℕ) (old new : D
   pub upto : ℕ
   pub within : upto ≤ slots
   pub count : ℕ
-  pub counts : Where (IsSwept index r) old (λ home. Counts (IsIdle (table_of old.image home)) upto count)
+  pub counts : Where (IsSwept index r) old (λ home. CountsUpTo (IsIdle (table_of old.image home)) upto count)
   pub went : Went (Moment (IsSwept index r) old) old new count 1
 
 -- block lbn may become free: it isn't among those named, or it is unreferenced
@@ -154,7 +154,7 @@ pub record HasFreedUpTo (n : ℕ) (bitmap : Bitmap) (home : HomeFields) (old new
 pub record FreesUnnamed (bitmap : Bitmap) (free named unreferenced : Bits) (n : ℕ) (old new : Disk) : Type 0 where
   pub frees : Where (IsTold bitmap free named unreferenced) old (λ home. HasFreedUpTo n bitmap home old.image new.image)
   pub count : ℕ
-  pub counts : Where (IsTold bitmap free named unreferenced) old (λ home. Counts (IsChangedBlock bitmap old.image new.image) n count)
+  pub counts : Where (IsTold bitmap free named unreferenced) old (λ home. CountsUpTo (IsChangedBlock bitmap old.image new.image) n count)
   pub went : Went (Moment (IsTold bitmap free named unreferenced) old) old new (2 * count) 0
 
 -- A transfer failed: the read or the write of the bitmap block behind the first so many.
@@ -162,5 +162,5 @@ pub record FailsToFree (bitmap : Bitmap) (free named unreferenced : Bits) (old n
   pub upto : ℕ
   pub within : upto < length bitmap.places
   pub count : ℕ
-  pub counts : Where (IsTold bitmap free named unreferenced) old (λ home. Counts (IsChangedBlock bitmap old.image new.image) upto count)
+  pub counts : Where (IsTold bitmap free named unreferenced) old (λ home. CountsUpTo (IsChangedBlock bitmap old.image new.image) upto count)
   pub went : Went (Moment (IsTold bitmap free named unreferenced) old) old new (2 * count + 2) 1

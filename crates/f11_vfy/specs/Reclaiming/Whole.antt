@@ -10,7 +10,7 @@ use Rattle.f11_index.specs.IndexFile.{Index, index_of}
 use Rattle.f11_index.specs.Table.{table_of}
 use Rattle.f11_vfy.specs.Frames.Frame.{frame_reads}
 use Rattle.f11_vfy.specs.Reclaiming.Moments.{IsReclaiming, Where, Moment}
-use Rattle.f11_vfy.specs.Reclaiming.Slots.{Counts, IsOrphan, UsedAreOfFiles, IsIdle}
+use Rattle.f11_vfy.specs.Reclaiming.Slots.{CountsUpTo, IsOrphan, UsedAreOfFiles, IsIdle}
 use Rattle.f11_vfy.specs.Reclaiming.Steps.{IsChangedBlock}
 use Rattle.f11_vfy.specs.Scanning.Reading.{most_read, ShowsVolume}
 use Rattle.f11_vfy.specs.declared.findings.reading.Reading.{Reading}
@@ -45,15 +45,15 @@ pub record HasReclaimed (home : HomeFields) (old new : Image) : Type 0 where
 pub record Costs (home : HomeFields) (image new : Image) (reads faults most : ℕ) : Type 0 where
   pub orphan_slots : ℕ
   pub orphans : ℕ
-  pub orphans_are : Counts (IsOrphan (table_of image home)) orphan_slots orphans
+  pub orphans_are : CountsUpTo (IsOrphan (table_of image home)) orphan_slots orphans
   pub orphans_within : orphan_slots ≤ (table_of image home).slots
   pub idle_slots : ℕ
   pub idle : ℕ
-  pub idle_are : Counts (IsIdle (table_of image home)) idle_slots idle
+  pub idle_are : CountsUpTo (IsIdle (table_of image home)) idle_slots idle
   pub idle_within : idle_slots ≤ (table_of image home).slots
   pub bitmap_blocks : ℕ
   pub changed : ℕ
-  pub changed_are : Counts (IsChangedBlock (storage_bitmap image home) image new) bitmap_blocks changed
+  pub changed_are : CountsUpTo (IsChangedBlock (storage_bitmap image home) image new) bitmap_blocks changed
   pub changed_within : bitmap_blocks ≤ length (storage_bitmap image home).places
   pub few : most ≤ reads + 2 * orphans + idle + 2 * changed + 2 * faults
 

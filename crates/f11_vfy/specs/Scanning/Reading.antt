@@ -47,12 +47,12 @@ pub record ReadsVolume (index : Index) (bitmap : Bitmap) (r : Reading) (old new 
   pub looked : Looked old new (most_read index bitmap) 0
 
 -- A transfer failed.
-abbrev pub FailsToRead : Index → Bitmap → Disk → Disk → Type 0
-FailsToRead index bitmap old new = Looked old new (most_read index bitmap) 1
+abbrev pub FailsToScan : Index → Bitmap → Disk → Disk → Type 0
+FailsToScan index bitmap old new = Looked old new (most_read index bitmap) 1
 
 -- There was no memory, and no transfer failed.
-abbrev pub LacksMemory : Index → Bitmap → Disk → Disk → Type 0
-LacksMemory index bitmap old new = Looked old new (most_read index bitmap) 0
+abbrev pub LacksMemoryToScan : Index → Bitmap → Disk → Disk → Type 0
+LacksMemoryToScan index bitmap old new = Looked old new (most_read index bitmap) 0
 
 -- a note of blocks or headers, by its code, which is one of the first five
 pub record IsFirstNote (image : Image) (v : Volume) (code a b : ℕ) : Type 0 where

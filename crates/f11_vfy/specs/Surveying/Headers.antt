@@ -13,7 +13,7 @@ use Rattle.f11_map.specs.MapArea.{runs_of}
 use Rattle.f11_vfy.specs.Surveying.Bits.{limit_of}
 use Rattle.f11_vfy.specs.Surveying.Count.{Shows, times_among, times_named, sum_to}
 use Rattle.f11_vfy.specs.Scanning.Found.{Finds}
-use Rattle.f11_vfy.specs.Surveying.Slot.{HasState, KeepsHeader, KeepsSlots}
+use Rattle.f11_vfy.specs.Surveying.Slot.{HasState, KeepsValidHeader, KeepsSlots}
 use Rattle.f11_volume.specs.Volume.{HasPointer}
 use Rattle.f11_vfy.specs.declared.survey.slot.Slot.{Slot}
 use Rattle.f11_vfy.specs.declared.survey.slot.State.{State}
@@ -63,7 +63,7 @@ pub record TakesSlot (n : ℕ) (state : State) (block : List ℕ) (size : ℕ) (
   pub slot : Slot
   pub slots : new.slots.items ≡ old.slots.items ++ slot ∷ []
   pub state_is : slot.state ≡ state
-  pub keeps : state ≡ Live → KeepsHeader block slot
+  pub keeps : state ≡ Live → KeepsValidHeader block slot
   pub named : state ≡ Live → (c : ℕ → ℕ) → Shows old.tally c → Shows new.tally (λ l. c l + times_among (blocks_named block) l)
   pub outside : state ≡ Live → Finds (OutsideOf block n size) old.outside new.outside
   pub tally_stays : state ≢ Live → new.tally ≡ old.tally

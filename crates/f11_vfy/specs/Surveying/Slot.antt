@@ -16,7 +16,7 @@ unfoldable pub says_directory : List ℕ → Bool
 says_directory b = (word (ident_area b) 6 == 6778) && (slice_index (attributes b) 0 == 1) && (word (attributes b) 2 == 16)
 
 -- what is kept of a valid header
-pub record KeepsHeader (b : List ℕ) (s : Slot) : Type 0 where
+pub record KeepsValidHeader (b : List ℕ) (s : Slot) : Type 0 where
   pub segment : s.segment ≡ segment_number b
   pub sequence : s.sequence ≡ file_sequence b
   pub characteristics_are : s.characteristics ≡ characteristics b
@@ -40,7 +40,7 @@ pub data HasState (t : Table) (n : ℕ) : State → Type 0 where
 -- what is kept of slot n
 pub record KeepsSlot (t : Table) (n : ℕ) (s : Slot) : Type 0 where
   pub state : HasState t n s.state
-  pub header : s.state ≡ Live → KeepsHeader (t.header n) s
+  pub header : s.state ≡ Live → KeepsValidHeader (t.header n) s
 
 -- a slot not in use
 abbrev pub unused_slot : Slot

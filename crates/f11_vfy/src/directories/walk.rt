@@ -24,7 +24,7 @@ const MOST_HEADERS: u32 = 256;
 impl Later {
     ghost use Rattle.f11_vfy.specs.Surveying.Bits.{limit_of};
     ghost use Rattle.f11_vfy.specs.Directory.Later.{TakesOn};
-    ghost use Rattle.f11_vfy.specs.Directory.Reading.{until, wanted, HoldsBlock, TakesBlocks, TakesHeader, TakesHeaders, TakesDirectory};
+    ghost use Rattle.f11_vfy.specs.Directory.Reading.{until, wanted, HoldsDirectoryBlock, TakesBlocks, TakesHeader, TakesHeaders, TakesDirectory};
     ghost use Rattle.f11_vfy.specs.Directory.Reading.{LooksAtHeader, LooksAtHeaders, LooksFor};
 
     /// Takes the block at an LBN, which is block `at` of a directory, where those before it are taken. It reads it into `into`, unless an
@@ -45,7 +45,7 @@ impl Later {
         requires limit { limit_of self.old.entered ≡ length slots.now + 1 }
         requires few { at < 8323072 }
         requires within { lbn < length (D.disk device.old).image }
-        ensures takes { OnOk result (TakesOn slots.now dir.d (HoldsBlock (D.disk device.old) lbn at)
+        ensures takes { OnOk result (TakesOn slots.now dir.d (HoldsDirectoryBlock (D.disk device.old) lbn at)
             (until dir.end at) (until dir.end (at + 1)) self.old self.new) }
         ensures looked { OnOk result (Looked (D.disk device.old) (D.disk device.new) 1 0) }
         ensures failed { IsErrOf result ReadFault.DeviceFault

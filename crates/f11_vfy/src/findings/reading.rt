@@ -41,7 +41,7 @@ impl Reading {
     ghost use Rattle.f11_dev.specs.Image.{Image};
     ghost use Rattle.f11_findings.specs.Finding.{IsExactly};
     ghost use Rattle.f11_volume.specs.Faults.{IsVolumeFault};
-    ghost use Rattle.f11_vfy.specs.Scanning.Reading.{bitmap_at, ReadsVolume, FailsToRead, LacksMemory, ShowsVolume, IsFirstNote};
+    ghost use Rattle.f11_vfy.specs.Scanning.Reading.{bitmap_at, ReadsVolume, FailsToScan, LacksMemoryToScan, ShowsVolume, IsFirstNote};
     ghost use Rattle.f11_volume.specs.Volume.{Volume};
 
     /// Reads a volume of `size` blocks whose bitmap blocks are at these places: at most 126 places, with a bit for each block; one
@@ -69,10 +69,10 @@ impl Reading {
             ReadsVolume (index_kept index.now) (bitmap_at places.now size) reading
             (D.disk device.old) (D.disk device.new)) }
         ensures failed { IsErrOf result ReadFault.DeviceFault
-            → FailsToRead (index_kept index.now) (bitmap_at places.now size)
+            → FailsToScan (index_kept index.now) (bitmap_at places.now size)
             (D.disk device.old) (D.disk device.new) }
         ensures no_memory { IsErrOf result ReadFault.NoMemory
-            → LacksMemory (index_kept index.now) (bitmap_at places.now size)
+            → LacksMemoryToScan (index_kept index.now) (bitmap_at places.now size)
             (D.disk device.old) (D.disk device.new) }
     {
         let free = free_blocks(alloc, device, places, size)?;

@@ -3,7 +3,7 @@ ghost use Rattle.std.specs.Prelude.{◌≡◌, ◌≢◌, ◌↔◌, ◌≤◌, 
 ghost use Rattle.f11_bytes.specs.Words.{word};
 ghost use Rattle.f11_header.specs.Header.{IsHeader, IsDead, holds_header};
 ghost use Rattle.f11_map.specs.HeaderBlock.{segment_number, link_of};
-ghost use Rattle.f11_vfy.specs.Surveying.Slot.{KeepsHeader, says_directory};
+ghost use Rattle.f11_vfy.specs.Surveying.Slot.{KeepsValidHeader, says_directory};
 
 use crate::survey::extent::{Extent, extent_of};
 use f11_bytes::{Block, read_word};
@@ -75,7 +75,7 @@ pub(crate) fn judge(block: &Block, n: u16) -> State
 pub(crate) fn keep(state: State, block: &Block) -> Slot
     requires { state ≡ State.Live → IsTrue (holds_header block.now) }
     ensures state { result.state ≡ state }
-    ensures header { state ≡ State.Live → KeepsHeader block.now result }
+    ensures header { state ≡ State.Live → KeepsValidHeader block.now result }
 {
     match state {
         State::Live => keep_header(block),
@@ -99,7 +99,7 @@ pub(crate) fn keep(state: State, block: &Block) -> Slot
 fn keep_header(block: &Block) -> Slot
     requires { IsTrue (holds_header block.now) }
     ensures state { result.state ≡ State.Live }
-    ensures header { KeepsHeader block.now result }
+    ensures header { KeepsValidHeader block.now result }
 {
     let header = Header::new(block);
     let segment = segment(block);

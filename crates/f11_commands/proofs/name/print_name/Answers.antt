@@ -2,7 +2,7 @@ use Rattle.std.proofs.Common.{◌≡◌, ◌∙◌, List, ℕ, Result, Ok, Err, 
 use Rattle.f11_rad50.specs.Name.{Spells}
 use Rattle.f11_rad50.specs.declared.errors.BadName.{BadName}
 use Rattle.f11_commands.specs.Name.{words_line}
-use Rattle.f11_commands.specs.Output.{Takes}
+use Rattle.f11_commands.specs.Output.{WriterTakes}
 use Rattle.f11_commands.proofs.name.print_name.Goals as goal
 
 -- a text that isn't read as a name spells none
@@ -21,7 +21,7 @@ returns-in_ok-write_words-in-Ok-clause-every g c words spells =
     let same = c.words.ensures.value ∙ same_words c.parse.result c.as_bytes.result.now words c.in-Ok.name c.in-Ok.is c.parse.ensures.every here in
     record {
       done = refl;
-      takes = subst (λ ws. Takes g.W.Write.contents c.args.writer.now c.write_words.new.writer (words_line ws)) same c.in_ok-write_words-in-Ok.ensures;
+      takes = subst (λ ws. WriterTakes g.W.Write.contents c.args.writer.now c.write_words.new.writer (words_line ws)) same c.in_ok-write_words-in-Ok.ensures;
     }
 
 pub returns-in_ok-writeln-in-Err-clause-fault : goal.returns-in_ok-writeln-in-Err-clause-fault

@@ -3,7 +3,7 @@ use Rattle.f11_files.specs.Open.{disk_in, home_in}
 use Rattle.f11_image_store.specs.StoreOf.{store_of}
 use Rattle.f11_home.specs.Home.{HomeFields}
 use Rattle.f11_store.specs.Directory.{record_bytes}
-use Rattle.f11_fcp.specs.Entries.{IsTailOf}
+use Rattle.f11_fcp.specs.Entries.{IsDirectoryTail}
 use Rattle.f11_fcp.proofs.RowLemmas.{leaves-behind}
 use Rattle.f11_fcp.proofs.AppendLemmas.{appends-at-home, breaks-at-home, end-appended, end-not-appended, end-tail, end-unread, fatal-alone}
 use Rattle.f11_fcp.proofs.append.append_in_block.Goals as goal
@@ -15,7 +15,7 @@ returns-in-Err-clause-refused g c =
 pub append_entry-requires-clause-there : goal.append_entry-requires-clause-there
 append_entry-requires-clause-there g c =
     let t = c.tail_at-tail in
-    λ sure. subst (λ (h : HomeFields). IsTailOf t.result (store_of (disk_in c.end_block.new.files).image h) c.args.directory) (sym c.in-Ok.ensures.home)
+    λ sure. subst (λ (h : HomeFields). IsDirectoryTail t.result (store_of (disk_in c.end_block.new.files).image h) c.args.directory) (sym c.in-Ok.ensures.home)
     (end-tail (home_in c.args.files.now) c.args.directory (record_bytes c.args.file c.args.name.now) (disk_in c.args.files.now) c.args.found.now c.requires.full (disk_in c.end_block.new.files) c.in-Ok.ensures.reads
     t.result c.in-Ok.block t.ensures.number t.ensures.place t.ensures.block t.ensures.attr t.ensures.length c.in-Ok.ensures.block sure)
 

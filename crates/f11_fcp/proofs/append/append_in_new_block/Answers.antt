@@ -5,7 +5,7 @@ use Rattle.f11_image_store.specs.StoreOf.{store_of}
 use Rattle.f11_home.specs.Home.{HomeFields}
 use Rattle.f11_store.specs.Directory.{record_bytes}
 use Rattle.f11_store.specs.declared.refusals.Refusal.{Refusal}
-use Rattle.f11_fcp.specs.Entries.{FailsToPut, IsTailOf}
+use Rattle.f11_fcp.specs.Entries.{FailsToPut, IsDirectoryTail}
 use Rattle.f11_fcp.proofs.RowLemmas.{extended-honest, extended-leaves, leaves-then}
 use Rattle.f11_fcp.proofs.AppendLemmas.{appends-at-home, breaks-at-home, new-appended, new-not-appended, new-tail, not-extended-by-one, not-index}
 use Rattle.f11_fcp.proofs.KnownLemmas.{known-clean, known-leaves}
@@ -27,7 +27,7 @@ returns-in-Err-clause-alive g c = λ clean.
 pub append_entry-requires-clause-there : goal.append_entry-requires-clause-there
 append_entry-requires-clause-there g c =
     let t = c.tail_at-tail in
-    λ sure. subst (λ (h : HomeFields). IsTailOf t.result (store_of (disk_in c.extend.new.self).image h) c.args.directory) (sym c.in-Ok.ensures.answers.home)
+    λ sure. subst (λ (h : HomeFields). IsDirectoryTail t.result (store_of (disk_in c.extend.new.self).image h) c.args.directory) (sym c.in-Ok.ensures.answers.home)
     (new-tail (home_in c.args.files.now) c.args.directory (record_bytes c.args.file c.args.name.now) (disk_in c.args.files.now) (disk_in c.extend.new.self) c.args.found.now (not-index c.args.directory c.requires.id.number) c.requires.full c.in-Ok.ensures.extended.1
     t.result t.ensures.number t.ensures.place (t.ensures.block ∙ c.zeros.ensures) t.ensures.attr t.ensures.length sure)
 

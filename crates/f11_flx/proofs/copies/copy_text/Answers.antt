@@ -2,7 +2,7 @@ use Rattle.std.proofs.Common.{◌≡◌, arith, subst}
 use Rattle.std.proofs.lemmas.Result.{IfErr-weaker, IfOk-weaker}
 use Rattle.f11_flx.specs.Asking.{who_asks}
 use Rattle.f11_flx.specs.Copies.{CopiesText, FailsToCopyText}
-use Rattle.f11_flx.specs.Filling.{FailsToFinish, Finishes, out_of}
+use Rattle.f11_flx.specs.Filling.{FailsToFinish, FinishesBlocks, out_of}
 use Rattle.f11_flx.proofs.CopiesLemmas.{TextSoFar, text-denied, text-fails, text-finishes, text-more, text-start, text-unfinished}
 use Rattle.f11_flx.proofs.copies.copy_text.Goals as goal
 
@@ -34,7 +34,7 @@ returns-clause-copied g c =
     let who = who_asks c.args.by.now.task c.args.by.now.uic in
     let all : c.loop-k.k ≡ c.args.count = omega (arith, c.loop-k.auto.k-end, c.loop-k-test.false) in
     let h = subst (λ k. TextSoFar g.S.Asked.service g.T.Takes.took who c.args.by.now.lun c.args.name.now c.args.text c.loop-k.text k (out_of c.loop-k.out) c.args.service.now c.loop-k.service c.args.target.now c.loop-k.target) all c.loop-k.invariant in
-    IfOk-weaker c.finish.result (λ blocks. Finishes g.T.Takes.took c.args.name.now (out_of c.loop-k.out) blocks c.loop-k.target c.finish.new.target)
+    IfOk-weaker c.finish.result (λ blocks. FinishesBlocks g.T.Takes.took c.args.name.now (out_of c.loop-k.out) blocks c.loop-k.target c.finish.new.target)
     (λ blocks. CopiesText g.S.Asked.service g.T.Takes.took who c.args.by.now.lun c.args.name.now c.args.text c.args.count blocks c.args.service.now c.loop-k.service c.args.target.now c.finish.new.target)
     (λ blocks f. text-finishes g.S.Asked.service g.T.Takes.took g.T.Takes.refused who c.args.by.now.lun c.args.name.now c.args.text
     c.loop-k.text c.args.count (out_of c.loop-k.out) c.args.service.now c.loop-k.service c.args.target.now c.loop-k.target h c.requires.whole c.finish.ensures.size blocks c.finish.new.target f)

@@ -1,7 +1,7 @@
 use Rattle.std.proofs.Common.{arith}
 use Rattle.f11_flx.specs.Asking.{Who, who_asks}
 use Rattle.f11_flx.specs.Filling.{out_of}
-use Rattle.f11_flx.specs.Passes.{Begins}
+use Rattle.f11_flx.specs.Passes.{BeginsLines}
 use Rattle.f11_flx.proofs.PassedLemmas.{text-copies, text-end-fails, text-fails, text-few}
 use Rattle.f11_flx.proofs.pass.copy_lines.Goals as goal
 
@@ -9,7 +9,7 @@ pub returns-in-Err-clause-fails : goal.returns-in-Err-clause-fails
 returns-in-Err-clause-fails g c =
     let who : Who = who_asks c.args.by.now.task c.args.by.now.uic in
     let n = c.new-lines in
-    let begins : Begins n.result = record { bytes = n.ensures.bytes; longest = n.ensures.longest; long = n.ensures.long } in
+    let begins : BeginsLines n.result = record { bytes = n.ensures.bytes; longest = n.ensures.longest; long = n.ensures.long } in
     text-fails g.S.Asked.service g.E.Device.disk who c.args.by.now.lun c.args.name.now c.args.many _ n.result (out_of c.new-out.result) c.args.rt.now c.read_lines.new.rt c.args.service.now c.read_lines.new.service
     begins c.new-out.ensures.to c.new-out.ensures.place c.in-Err.ensures.fails
 
@@ -17,7 +17,7 @@ pub end_lines-requires-clause-few : goal.end_lines-requires-clause-few
 end_lines-requires-clause-few g c =
     let who : Who = who_asks c.args.by.now.task c.args.by.now.uic in
     let n = c.new-lines in
-    let begins : Begins n.result = record { bytes = n.ensures.bytes; longest = n.ensures.longest; long = n.ensures.long } in
+    let begins : BeginsLines n.result = record { bytes = n.ensures.bytes; longest = n.ensures.longest; long = n.ensures.long } in
     text-few g.S.Asked.service g.E.Device.disk who c.args.by.now.lun c.args.name.now c.args.many n.result c.read_lines.new.lines (out_of c.new-out.result) (out_of c.read_lines.new.out) c.args.rt.now c.read_lines.new.rt
     c.args.service.now c.read_lines.new.service begins c.new-out.ensures.to c.new-out.ensures.place c.in-Ok.ensures.reads (omega (arith, c.ranges.many.fits))
 
@@ -25,7 +25,7 @@ pub returns-in-Ok-end_lines-clause-copied : goal.returns-in-Ok-end_lines-clause-
 returns-in-Ok-end_lines-clause-copied g c =
     let who : Who = who_asks c.args.by.now.task c.args.by.now.uic in
     let n = c.new-lines in
-    let begins : Begins n.result = record { bytes = n.ensures.bytes; longest = n.ensures.longest; long = n.ensures.long } in
+    let begins : BeginsLines n.result = record { bytes = n.ensures.bytes; longest = n.ensures.longest; long = n.ensures.long } in
     text-copies g.S.Asked.service g.E.Device.disk who c.args.by.now.lun c.args.name.now c.args.many n.result c.read_lines.new.lines (out_of c.new-out.result) (out_of c.read_lines.new.out) _ _ _ c.args.rt.now
     c.read_lines.new.rt c.args.service.now c.read_lines.new.service c.end_lines.new.service begins c.new-out.ensures.to c.new-out.ensures.place c.in-Ok.ensures.reads c.in-Ok-end_lines.ensures.ends
 
@@ -33,6 +33,6 @@ pub returns-in-Err-end_lines-clause-fails : goal.returns-in-Err-end_lines-clause
 returns-in-Err-end_lines-clause-fails g c =
     let who : Who = who_asks c.args.by.now.task c.args.by.now.uic in
     let n = c.new-lines in
-    let begins : Begins n.result = record { bytes = n.ensures.bytes; longest = n.ensures.longest; long = n.ensures.long } in
+    let begins : BeginsLines n.result = record { bytes = n.ensures.bytes; longest = n.ensures.longest; long = n.ensures.long } in
     text-end-fails g.S.Asked.service g.E.Device.disk who c.args.by.now.lun c.args.name.now c.args.many _ n.result c.read_lines.new.lines (out_of c.new-out.result) (out_of c.read_lines.new.out) c.args.rt.now
     c.read_lines.new.rt c.args.service.now c.read_lines.new.service c.end_lines.new.service begins c.new-out.ensures.to c.new-out.ensures.place c.in-Ok.ensures.reads c.in-Err-end_lines.ensures.fails

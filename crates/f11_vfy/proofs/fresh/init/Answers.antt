@@ -15,7 +15,7 @@ returns-in-Ok-clause-made g c = record {
   can = rw c.blocks-2.ensures.count at (c.in-Some.ensures.some.0 refl);
   layout = c.in-Some.layout;
   layout_is = rw c.blocks-2.ensures.count at c.in-Some.ensures.layout;
-  lays_out = rw c.again.ensures c.in-Ok.ensures.done;
+  makes = rw c.again.ensures c.in-Ok.ensures.done;
 }
 
 pub returns-in-Err-clause-refused : goal.returns-in-Err-clause-refused

@@ -9,8 +9,8 @@ use Rattle.f11_home.specs.Home.{HomeFields}
 use Rattle.f11_store.specs.Cost.{header_count}
 use Rattle.f11_store.specs.Store.{file_named}
 use Rattle.f11_store.specs.declared.refusals.Refusal.{Refusal}
-use Rattle.f11_fcp.specs.Directories.{IsDirectoryOf, LooksThrough, opening_causes}
-use Rattle.f11_fcp.specs.Places.{table_of}
+use Rattle.f11_fcp.specs.Directories.{IsDirectoryOf, LooksThroughDirectory, opening_causes}
+use Rattle.f11_fcp.specs.Places.{access_table_of}
 use Rattle.f11_fcp.proofs.AppendLemmas.{fatal-alone}
 use Rattle.f11_fcp.proofs.DirectoryLemmas.{fails-within, first-read, search-directory, search-files, search-uncounted, search-unread, searched}
 use Rattle.f11_fcp.proofs.KnownLemmas.{known-fails, known-file, known-clean}
@@ -21,7 +21,7 @@ returns-in-Err-clause-refused g c = fails-within (first-read (file_named (store_
 
 pub returns-in-Err-length-clause-refused : goal.returns-in-Err-length-clause-refused
 returns-in-Err-length-clause-refused g c =
-    let t = table_of c.args.self.now in
+    let t = access_table_of c.args.self.now in
     let home = home_in c.args.files.now in
     let s = store_in c.args.files.now in
     let d = c.args.directory in
@@ -43,7 +43,7 @@ look_through-requires-clause-there g c =
     let after = disk_in c.length.new.self in
     λ sure.
     subst (λ (h : HomeFields). IsDirectoryOf c.entry_count-count.result (store_of after.image h) d) (sym (c.in-Ok-length.ensures.answers.home ∙ c.in-Ok.ensures.home))
-    (search-directory c.args.purpose (table_of c.args.self.now) c.args.caller d c.args.name.now home c.in-Ok.attr c.in-Ok.ensures.opened c.in-Ok-length.length c.entry_count-count.result
+    (search-directory c.args.purpose (access_table_of c.args.self.now) c.args.caller d c.args.name.now home c.in-Ok.attr c.in-Ok.ensures.opened c.in-Ok-length.length c.entry_count-count.result
     (subst (λ (h : HomeFields). CountsBlocks h d c.in-Ok-length.length mid after) c.in-Ok.ensures.home c.in-Ok-length.ensures.counts) c.entry_count-count.ensures.count sure)
 
 pub returns-in-Ok-look_through-clause-searched : goal.returns-in-Ok-look_through-clause-searched
@@ -52,9 +52,9 @@ returns-in-Ok-look_through-clause-searched g c =
     let d = c.args.directory in
     let mid = disk_in c.open_directory.new.files in
     let after = disk_in c.length.new.self in
-    searched c.args.purpose (table_of c.args.self.now) c.args.caller d c.args.name.now home c.in-Ok.attr c.in-Ok.ensures.opened c.in-Ok-length.length c.entry_count-count.result
+    searched c.args.purpose (access_table_of c.args.self.now) c.args.caller d c.args.name.now home c.in-Ok.attr c.in-Ok.ensures.opened c.in-Ok-length.length c.entry_count-count.result
     (subst (λ (h : HomeFields). CountsBlocks h d c.in-Ok-length.length mid after) c.in-Ok.ensures.home c.in-Ok-length.ensures.counts) c.entry_count-count.ensures.count _ refl refl refl
-    (subst (λ (h : HomeFields). LooksThrough h d c.args.name.now c.in-Ok-look_through.looked c.look_through.new.block (reading_cost (file_named (store_of after.image h) d) c.entry_count-count.result) after (disk_in c.look_through.new.files))
+    (subst (λ (h : HomeFields). LooksThroughDirectory h d c.args.name.now c.in-Ok-look_through.looked c.look_through.new.block (reading_cost (file_named (store_of after.image h) d) c.entry_count-count.result) after (disk_in c.look_through.new.files))
     (c.in-Ok-length.ensures.answers.home ∙ c.in-Ok.ensures.home) c.in-Ok-look_through.ensures.looked)
 
 pub returns-in-Err-look_through-clause-refused : goal.returns-in-Err-look_through-clause-refused
@@ -63,7 +63,7 @@ returns-in-Err-look_through-clause-refused g c =
     let d = c.args.directory in
     let mid = disk_in c.open_directory.new.files in
     let after = disk_in c.length.new.self in
-    search-unread c.args.purpose (table_of c.args.self.now) c.args.caller d c.args.name.now home c.in-Ok.attr c.in-Ok.ensures.opened c.in-Ok-length.length c.entry_count-count.result
+    search-unread c.args.purpose (access_table_of c.args.self.now) c.args.caller d c.args.name.now home c.in-Ok.attr c.in-Ok.ensures.opened c.in-Ok-length.length c.entry_count-count.result
     (subst (λ (h : HomeFields). CountsBlocks h d c.in-Ok-length.length mid after) c.in-Ok.ensures.home c.in-Ok-length.ensures.counts) c.entry_count-count.ensures.count
     (subst (λ (h : HomeFields). FailsToRead false [] (reading_cost (file_named (store_of after.image h) d) c.entry_count-count.result) c.in-Err-look_through.refusal after (disk_in c.look_through.new.files))
     (c.in-Ok-length.ensures.answers.home ∙ c.in-Ok.ensures.home) c.in-Err-look_through.ensures.refused)

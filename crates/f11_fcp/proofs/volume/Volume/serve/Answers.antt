@@ -1,6 +1,6 @@
 use Rattle.std.proofs.Common.{◌≡◌, ◌∙◌, false, sym}
 use Rattle.f11_fcp.specs.Handles.{IsOpen}
-use Rattle.f11_fcp.specs.Places.{table_of}
+use Rattle.f11_fcp.specs.Places.{access_table_of}
 use Rattle.f11_fcp.specs.Serving.{state_in}
 use Rattle.f11_fcp.proofs.ByWindowLemmas.{none-made}
 use Rattle.f11_fcp.proofs.OpenLemmas.{volume-open}
@@ -11,7 +11,7 @@ answer-answer-requires g c = record { «open» = volume-open c.args.self.now c.i
 
 pub invariant_of-self : goal.invariant_of-self
 invariant_of-self g c =
-    let after : c.is_fatal-self.result ≡ false → IsOpen (table_of c.answer-answer.new.self) c.answer-answer.new.files = λ clean. c.answer-answer.ensures.open (sym c.is_fatal-self.ensures ∙ clean) in
+    let after : c.is_fatal-self.result ≡ false → IsOpen (access_table_of c.answer-answer.new.self) c.answer-answer.new.files = λ clean. c.answer-answer.ensures.open (sym c.is_fatal-self.ensures ∙ clean) in
     record { alive = λ clean. (after clean).alive; kept = λ clean. (after clean).kept; windows = λ clean. (after clean).windows }
 
 pub returns-clause-windows : goal.returns-clause-windows

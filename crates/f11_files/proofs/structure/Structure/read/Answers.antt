@@ -1,7 +1,7 @@
 use Rattle.std.proofs.Common.{Err, refl, sym, ap, subst}
 use Rattle.std.proofs.lemmas.Bool.{both_ways}
 use Rattle.f11_vfy.specs.Frames.Read.{frame_index, frame_bitmap}
-use Rattle.f11_files.specs.Opening.Opens.{AreApart}
+use Rattle.f11_files.specs.Opening.Opens.{ArePlacesApart}
 use Rattle.f11_files.proofs.Opening.Opens.{no-home, frame-faulty, frame-fails, not-apart-damage, opens}
 use Rattle.f11_files.proofs.structure.Structure.read.Goals as goal
 
@@ -20,7 +20,7 @@ returns-in-Err-clause-refused g c =
 pub returns-then-not-are_apart-clause-refused : goal.returns-then-not-are_apart-clause-refused
 returns-then-not-are_apart-clause-refused g c =
     not-apart-damage _ (g.met.D.Device.is_image c.args.device.now) c.requires _ _ c.in-Ok.ensures.found _ (frame_bitmap c.in-Ok-Framed.frame) _ (rw c.in-Ok-Framed.field-0-is at c.in-Ok-Framed.ensures.frames)
-    (λ apart. both_ways c.are_apart.result c.if-not-are_apart.true (c.are_apart.ensures.1 (subst AreApart (sym c.places.ensures) apart)))
+    (λ apart. both_ways c.are_apart.result c.if-not-are_apart.true (c.are_apart.ensures.1 (subst ArePlacesApart (sym c.places.ensures) apart)))
 
 pub returns-in-Ok-load-clause-reads : goal.returns-in-Ok-load-clause-reads
 returns-in-Ok-load-clause-reads g c =

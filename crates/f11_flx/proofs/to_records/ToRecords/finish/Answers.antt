@@ -2,7 +2,7 @@ use Rattle.std.proofs.Common.{[], List, ℕ, ◌<◌, length, refl, sym, ap, ◌
 use Rattle.f11_flx.specs.Lines.{has_crlf}
 use Rattle.f11_flx.specs.Stage.{given_in, lines_from, with_cr}
 use Rattle.f11_flx.specs.declared.stage.Stage.TheVariants.{Giving}
-use Rattle.f11_flx.proofs.ReadLemmas.{GoesOn-same, is_too_long-end, lines_left-end}
+use Rattle.f11_flx.proofs.ReadLemmas.{GivesBytes-same, is_too_long-end, lines_left-end}
 use Rattle.f11_flx.proofs.TextLemmas.{some-left}
 use Rattle.f11_flx.proofs.to_records.ToRecords.finish.Goals as goal
 
@@ -17,6 +17,6 @@ pub returns-else-is_empty-clause-ends : goal.returns-else-is_empty-clause-ends
 returns-else-is_empty-clause-ends c =
     let some : 0 < length (with_cr c.args.self.now.line.items c.in-Reading.cr) = omega (arith, some-left _ (sym c.is_empty.ensures ∙ c.if-is_empty.false), ap length c.keep_cr.ensures) in
     record {
-      goes_on = GoesOn-same c.args.self.now _ [] [] (lines_left-end c.args.self.now c.in-Reading.cr c.in-Reading.is some ∙ ap (λ (line : List ℕ). lines_from line (Giving 0) []) (sym c.keep_cr.ensures)) (ap given_in c.in-Reading.is) refl;
+      goes_on = GivesBytes-same c.args.self.now _ [] [] (lines_left-end c.args.self.now c.in-Reading.cr c.in-Reading.is some ∙ ap (λ (line : List ℕ). lines_from line (Giving 0) []) (sym c.keep_cr.ensures)) (ap given_in c.in-Reading.is) refl;
       none_open = refl;
     }

@@ -1,7 +1,7 @@
 use Rattle.std.proofs.Common.{refl, sym, ap, ◌∙◌, ne_eqb, arith}
 use Rattle.f11_flx.specs.Lines.{has_crlf}
 use Rattle.f11_flx.specs.Stage.{given_in}
-use Rattle.f11_flx.proofs.ReadLemmas.{GoesOn-same, lines_left-lf, is_too_long-push, whole-push, ended-push}
+use Rattle.f11_flx.proofs.ReadLemmas.{GivesBytes-same, lines_left-lf, is_too_long-push, whole-push, ended-push}
 use Rattle.f11_flx.proofs.to_records.ToRecords.read.Goals as goal
 
 pub invariant_of-self : goal.invariant_of-self
@@ -10,7 +10,7 @@ invariant_of-self c = record { whole = refl; ended = refl; given = omega arith }
 
 pub returns-then-ends_line-clause-reads : goal.returns-then-ends_line-clause-reads
 returns-then-ends_line-clause-reads c = record {
-  goes_on = λ bytes. GoesOn-same c.args.self.now _ _ _ (lines_left-lf c.args.self.now c.args.cr c.args.byte bytes c.requires (sym c.ends_line.ensures ∙ c.if-ends_line.true)) (ap given_in c.requires) refl;
+  goes_on = λ bytes. GivesBytes-same c.args.self.now _ _ _ (lines_left-lf c.args.self.now c.args.cr c.args.byte bytes c.requires (sym c.ends_line.ensures ∙ c.if-ends_line.true)) (ap given_in c.requires) refl;
   unended = omega arith;
 }
 

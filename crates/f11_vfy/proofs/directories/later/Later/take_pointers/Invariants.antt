@@ -3,7 +3,7 @@ use Rattle.f11_dev.specs.Looked.{Looked}
 use Rattle.f11_header.specs.Fields.{map_area}
 use Rattle.f11_map.specs.HeaderBlock.{blocks_named}
 use Rattle.f11_map.specs.MapArea.{runs_of, blocks_in}
-use Rattle.f11_vfy.specs.Directory.Reading.{HoldsBlocks, until, wanted}
+use Rattle.f11_vfy.specs.Directory.Reading.{HoldsDirectoryBlocks, until, wanted}
 use Rattle.f11_vfy.specs.Directory.Later.{TakesOn}
 use Rattle.f11_vfy.proofs.directories.later.Later.take_pointers.Given as goal
 
@@ -14,6 +14,6 @@ invariant-loop-i g l =
     record {
       place : l.behind ≡ l.at + length (blocks_in (take l.i (runs_of (map_area l.block))));
       few : l.behind ≤ l.at + 256 * l.i;
-      takes : TakesOn l.slots l.dir.d (HoldsBlocks old (blocks_named l.block) l.at) (until l.dir.end l.at) (until l.dir.end l.behind) l.fn.self l.self;
+      takes : TakesOn l.slots l.dir.d (HoldsDirectoryBlocks old (blocks_named l.block) l.at) (until l.dir.end l.at) (until l.dir.end l.behind) l.fn.self l.self;
       looked : Looked old (g.D.Device.disk l.device) (wanted l.dir.end l.at (l.behind - l.at)) 0;
     }

@@ -1,7 +1,7 @@
 use Rattle.std.proofs.Common.{refl}
 use Rattle.f11_files.proofs.Extending.Growing.{taking-stays}
 use Rattle.f11_files.proofs.Extending.Take.{takes-run, take-stays, finds-none, fails-taking}
-use Rattle.f11_files.proofs.structure.Structure.take_run.Goals as goal
+use Rattle.f11_files.proofs.structure.Structure.take_next_run.Goals as goal
 
 pub returns-in-Ok-Some-clause-taken : goal.returns-in-Ok-Some-clause-taken
 returns-in-Ok-Some-clause-taken g c =
