@@ -1,18 +1,20 @@
--- The order of findings, and lists that are exactly what is found.
-use Rattle.std.proofs.Common.{◌≡◌, ◌⊎◌, inl, inr, ℕ, zero, suc, ◌+◌, ◌-◌, ◌<◌, ◌≤◌, refl, sym, subst, List, [], ◌∷◌, ◌++◌, length, get_or, take, drop, ◌==◌, ◌&&◌, true, false, Bool, add-one, arith}
-use Rattle.std.specs.List.{All, Contains, insert}
+-- The order of findings, and one that is put at its place.
+use Rattle.std.proofs.Common.{◌≡◌, ◌⊎◌, inl, inr, ℕ, zero, suc, ◌+◌, ◌-◌, ◌<◌, ◌≤◌, refl, sym, subst, List, [], ◌∷◌, ◌++◌, length, get_or}
+use Rattle.std.proofs.Common.{take, drop, ◌==◌, ◌&&◌, true, arith}
+use Rattle.std.specs.List.{Contains, insert}
 use Rattle.std.proofs.lemmas.Bool.{cases_lt, cases_eq, and_parts}
 use Rattle.std.proofs.lemmas.Bool.Decides.{nat_tests}
 use Rattle.std.proofs.lemmas.List.{take-append-drop}
 use Rattle.std.proofs.lemmas.List.Edits.{length-insert, get_or-insert_below, get_or-insert_at, get_or-insert_above}
-use Rattle.std.proofs.lemmas.List.Elements.{All-contains, Contains-get_or, Contains-append_left, Contains-append_right, Contains-append_cases}
+use Rattle.std.proofs.lemmas.List.Elements.{Contains-append_left, Contains-append_right, Contains-append_cases}
 use Rattle.f11_findings.specs.declared.finding.Finding.{Finding}
-use Rattle.f11_findings.specs.Finding.{finding, IsBefore, IsInOrder, IsExactly, AddsFindings, IsPlaceFor, gather, if_so}
+use Rattle.f11_findings.specs.Finding.{IsBefore, IsInOrder, AddsFindings, IsPlaceFor}
 
 -- findings that are found to be equal are one
 pub same_finding : (f g : Finding) → (f.code == g.code && (f.a == g.a && f.b == g.b)) ≡ true → f ≡ g
 same_finding f g equal =
-    let code : (f.code == g.code ≡ true) × (f.a == g.a && f.b == g.b ≡ true) = and_parts (f.code == g.code) (f.a == g.a && f.b == g.b) equal in
+    let code : (f.code == g.code ≡ true) × (f.a == g.a && f.b == g.b ≡ true) = and_parts (f.code == g.code)
+    (f.a == g.a && f.b == g.b) equal in
     let numbers : (f.a == g.a ≡ true) × (f.b == g.b ≡ true) = and_parts (f.a == g.a) (f.b == g.b) code.1 in
     let same_code : f.code ≡ g.code = grind (arith, nat_tests) in
     let same_a : f.a ≡ g.a = grind (arith, nat_tests) in
@@ -66,17 +68,20 @@ IsInOrder-insert found f at order place i j d less within = go (cases_lt i at) (
     both : (k m : ℕ) → at ≤ k → k < m → m < length found + 1 → IsBefore (get_or (insert found at f) k d) (get_or found (m - 1) d)
     both k m behind less end = elim (cases_eq k at) [
       | inl same ↦ subst (λ (n : ℕ). IsBefore (get_or (insert found at f) n d) (get_or found (m - 1) d)) (sym same)
-          (subst (λ (g : Finding). IsBefore g (get_or found (m - 1) d)) (sym (get_or-insert_at found at f d le)) (place.behind (m - 1) d (omega arith) (omega arith)))
+          (subst (λ (g : Finding). IsBefore g (get_or found (m - 1) d)) (sym (get_or-insert_at found at f d le))
+          (place.behind (m - 1) d (omega arith) (omega arith)))
       | inr further ↦
           let next : k - 1 + 1 ≡ k = omega arith in
           subst (λ (n : ℕ). IsBefore (get_or (insert found at f) n d) (get_or found (m - 1) d)) next
-          (subst (λ (g : Finding). IsBefore g (get_or found (m - 1) d)) (sym (there (k - 1) (omega arith))) (order (k - 1) (m - 1) d (omega arith) (omega arith)))
+          (subst (λ (g : Finding). IsBefore g (get_or found (m - 1) d)) (sym (there (k - 1) (omega arith)))
+          (order (k - 1) (m - 1) d (omega arith) (omega arith)))
     ]
 
     go : (i < at) ⊎ (at ≤ i) → (j < at) ⊎ (at ≤ j) → IsBefore (get_or (insert found at f) i d) (get_or (insert found at f) j d)
     go (inl one) (inl two) = subst (λ (g : Finding). IsBefore g (get_or (insert found at f) j d)) (sym (here i one))
         (subst (IsBefore (get_or found i d)) (sym (here j two)) (order i j d less (omega (arith, le))))
-    go (inl one) (inr two) = subst (λ (g : Finding). IsBefore g (get_or (insert found at f) j d)) (sym (here i one)) (across j one two (omega (arith, size)))
+    go (inl one) (inr two) = subst (λ (g : Finding). IsBefore g (get_or (insert found at f) j d)) (sym (here i one))
+        (across j one two (omega (arith, size)))
     go (inr one) (inl two) = absurd (omega arith)
     go (inr one) (inr two) =
         let next : j - 1 + 1 ≡ j = omega arith in
@@ -84,7 +89,8 @@ IsInOrder-insert found f at order place i j d less within = go (cases_lt i at) (
         (subst (IsBefore (get_or (insert found at f) i d)) (sym (there (j - 1) (omega arith))) (both i j one less (omega (arith, size))))
 
 -- an element of a list with one put in is that one or one of the list's
-Contains-insert_cases : (found : List Finding) (f g : Finding) (at : ℕ) → at ≤ length found → Contains (insert found at f) g → Contains found g ⊎ (f ≡ g)
+Contains-insert_cases : (found : List Finding) (f g : Finding) (at : ℕ) → at ≤ length found → Contains (insert found at f) g
+    → Contains found g ⊎ (f ≡ g)
 Contains-insert_cases found f g at le has = go (Contains-append_cases (take at found) (f ∷ drop at found) g has)
   where
     parts : take at found ++ drop at found ≡ found
@@ -93,7 +99,8 @@ Contains-insert_cases found f g at le has = go (Contains-append_cases (take at f
     behind : Contains (f ∷ drop at found) g → Contains found g ⊎ (f ≡ g)
     behind (zero, within, is) = inr is
     behind (suc k, within, is) =
-        inl (subst (λ (xs : List Finding). Contains xs g) parts (Contains-append_right (take at found) (drop at found) g (k, omega arith, is)))
+        inl (subst (λ (xs : List Finding). Contains xs g) parts
+        (Contains-append_right (take at found) (drop at found) g (k, omega arith, is)))
 
     go : Contains (take at found) g ⊎ Contains (f ∷ drop at found) g → Contains found g ⊎ (f ≡ g)
     go (inl front) = inl (subst (λ (xs : List Finding). Contains xs g) parts (Contains-append_left (take at found) (drop at found) g front))
@@ -103,7 +110,8 @@ Contains-insert_cases found f g at le has = go (Contains-append_cases (take at f
 pub Adds-insert : (found : List Finding) (f : Finding) (at : ℕ) → IsPlaceFor found f at → AddsFindings found (insert found at f) (f ∷ [])
 Adds-insert found f at place = record {
   kept = λ g is. kept_in g is;
-  added = λ g one. subst (Contains (insert found at f)) (one_is g one) (Contains-append_right (take at found) (f ∷ drop at found) f (0, omega arith, refl));
+  added = λ g one. subst (Contains (insert found at f)) (one_is g one)
+      (Contains-append_right (take at found) (f ∷ drop at found) f (0, omega arith, refl));
   no_others = λ g has. elim (Contains-insert_cases found f g at place.within has) [
     | inl is ↦ inl is
     | inr is ↦ inr (subst (λ (h : Finding). Contains (f ∷ []) h) is (0, omega arith, refl))
@@ -119,10 +127,11 @@ Adds-insert found f at place = record {
     next g (k, within, is) = (suc k, omega arith, is)
 
     kept_in : (g : Finding) → Contains found g → Contains (insert found at f) g
-    kept_in g is = elim (Contains-append_cases (take at found) (drop at found) g (subst (λ (xs : List Finding). Contains xs g) (sym (take-append-drop at found)) is)) [
-      | inl front ↦ Contains-append_left (take at found) (f ∷ drop at found) g front
-      | inr rest ↦ Contains-append_right (take at found) (f ∷ drop at found) g (next g rest)
-    ]
+    kept_in g is = elim (Contains-append_cases (take at found) (drop at found) g
+        (subst (λ (xs : List Finding). Contains xs g) (sym (take-append-drop at found)) is)) [
+          | inl front ↦ Contains-append_left (take at found) (f ∷ drop at found) g front
+          | inr rest ↦ Contains-append_right (take at found) (f ∷ drop at found) g (next g rest)
+        ]
 
 -- none was added
 pub Adds-none : (found : List Finding) → AddsFindings found found []
@@ -132,78 +141,3 @@ Adds-none found = record {
   no_others = λ g is. inl is;
   order = λ was. was;
 }
-
--- some and then more
-pub Adds-more : {a b c more then : List Finding} → AddsFindings a b more → AddsFindings b c then → AddsFindings a c (more ++ then)
-Adds-more {a = a} {c = c} {more = more} {then = then} one two = record {
-  kept = λ g is. two.kept g (one.kept g is);
-  added = λ g is. elim (Contains-append_cases more then g is) [
-    | inl front ↦ two.kept g (one.added g front)
-    | inr rest ↦ two.added g rest
-  ];
-  no_others = λ g is. elim (two.no_others g is) [
-    | inl before ↦ elim (one.no_others g before) [
-      | inl first ↦ inl first
-      | inr front ↦ inr (Contains-append_left more then g front)
-    ]
-    | inr rest ↦ inr (Contains-append_right more then g rest)
-  ];
-  order = λ was. two.order (one.order was);
-}
-
--- A list to which just what is found was added, from none on, is exactly what is found.
-pub IsExactly-added : (R : ℕ → ℕ → ℕ → Type 0) (found more : List Finding) → AddsFindings [] found more → All (λ f. R f.code f.a f.b) more
-    → ((code a b : ℕ) → R code a b → Contains more (finding code a b)) → IsExactly R found
-IsExactly-added R found more adds each all = record {
-  each = λ k d within. elim (adds.no_others (get_or found k d) (Contains-get_or found k d within)) [
-    | inl none ↦ absurd (omega arith)
-    | inr is ↦ All-contains (λ f. R f.code f.a f.b) more (get_or found k d) each is
-  ];
-  all = λ code a b is. adds.added (finding code a b) (all code a b is);
-  order = adds.order (λ i j d less within. absurd (omega arith));
-}
-
--- none so far
-pub Adds-gather_none : (f : ℕ → List Finding) (found : List Finding) → AddsFindings found found (gather f 0)
-unfolding gather
-Adds-gather_none f found = Adds-none found
-
--- those of one more
-pub Adds-gather_more : (f : ℕ → List Finding) (n : ℕ) {a b c : List Finding} → AddsFindings a b (gather f n) → AddsFindings b c (f n) → AddsFindings a c (gather f (n + 1))
-unfolding gather
-Adds-gather_more f n {a = a} {c = c} so_far then = subst (λ (m : ℕ). AddsFindings a c (gather f m)) (sym (add-one n)) (Adds-more so_far then)
-
--- what is found of one of them is found of all, and the other way round
-pub Contains-gather : (f : ℕ → List Finding) (n k : ℕ) (g : Finding) → k < n → Contains (f k) g → Contains (gather f n) g
-unfolding gather
-Contains-gather f zero k g within has = absurd (omega arith)
-Contains-gather f (suc n) k g within has = elim (cases_lt k n) [
-  | inl before ↦ Contains-append_left (gather f n) (f n) g (Contains-gather f n k g before has)
-  | inr last ↦
-      let same : k ≡ n = omega arith in
-      Contains-append_right (gather f n) (f n) g (subst (λ (m : ℕ). Contains (f m) g) same has)
-]
-
-pub gathered : (f : ℕ → List Finding) (n : ℕ) (g : Finding) → Contains (gather f n) g → (k : ℕ) × (k < n) × Contains (f k) g
-unfolding gather
-gathered f zero g has = absurd (omega arith)
-gathered f (suc n) g has = elim (Contains-append_cases (gather f n) (f n) g has) [
-  | inl before ↦ let one : (k : ℕ) × (k < n) × Contains (f k) g = gathered f n g before in (one.0, omega (arith, one.1), one.2)
-  | inr last ↦ (n, omega arith, last)
-]
-
--- a finding that is found where a test holds
-pub Contains-if_so : (holds : Bool) (f : Finding) → holds ≡ true → Contains (if_so holds f) f
-Contains-if_so holds f is = subst (λ (b : Bool). Contains (if_so b f) f) (sym is) (0, omega arith, refl)
-
-pub if_so_is : (holds : Bool) (f g : Finding) → Contains (if_so holds f) g → (holds ≡ true) × (f ≡ g)
-if_so_is true f g (zero, within, is) = (refl, is)
-if_so_is true f g (suc k, within, is) = absurd (omega arith)
-if_so_is false f g (k, within, is) = absurd (omega arith)
-
--- as findings that are these
-pub Adds-same : {a b more same : List Finding} → more ≡ same → AddsFindings a b more → AddsFindings a b same
-Adds-same {a = a} {b = b} is adds = subst (AddsFindings a b) is adds
-
-pub Adds-if_so : {a b : List Finding} {was holds : Bool} {f g : Finding} → was ≡ holds → f ≡ g → AddsFindings a b (if_so was f) → AddsFindings a b (if_so holds g)
-Adds-if_so {a = a} {b = b} test is adds = subst (AddsFindings a b) (λ i. if_so (test i) (is i)) adds

@@ -1,6 +1,6 @@
 -- What a verifier finds (profile).
-use Rattle.std.specs.Prelude.{◌≡◌, ◌⊎◌, ℕ, zero, suc, ◌+◌, ◌<◌, ◌≤◌, Bool, if◌then◌else◌, List, [], ◌∷◌}
-use Rattle.std.specs.Prelude.{◌++◌, length, All, AllPairs, Contains, slice_index_or}
+use Rattle.std.specs.Prelude.{◌≡◌, ◌⊎◌, ℕ, ◌+◌, ◌<◌, ◌≤◌, Bool, if◌then◌else◌, List, [], ◌∷◌}
+use Rattle.std.specs.Prelude.{length, All, AllPairs, Contains, slice_index_or}
 use Rattle.f11_findings.specs.declared.finding.Finding.{Finding}
 
 -- the finding of this code and these numbers
@@ -34,11 +34,6 @@ pub record AddsFindings (old new more : List Finding) : Type 0 where
 -- the finding, where the test holds
 abbrev pub if_so : Bool → Finding → List Finding
 if_so holds f = if holds then f ∷ [] else []
-
--- the findings of each of the first n, one behind the other
-unfoldable pub gather : (ℕ → List Finding) → ℕ → List Finding
-gather f zero = []
-gather f (suc n) = gather f n ++ f n
 
 -- A finding stands before those from this place on, and behind the one in front of it.
 pub record IsPlaceFor (found : List Finding) (f : Finding) (at : ℕ) : Type 0 where

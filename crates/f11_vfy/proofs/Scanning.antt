@@ -1,5 +1,4 @@
 -- What is found of a volume that was read, all of it and nothing else.
-pub mod Found
 pub mod Lost
 pub mod Exact
 pub mod Contiguous

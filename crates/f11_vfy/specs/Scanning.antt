@@ -1,5 +1,4 @@
 -- What is found of a volume that was read.
-pub mod Found
 pub mod Scans
 pub mod Contiguous
 pub mod Parts

@@ -1,7 +1,6 @@
 -- What is wrong with an RT-11 volume and what is worth a note is found, all of it and nothing else.
-pub mod Judging
-pub mod Faults
-pub mod Notes
+pub mod Tests
+pub mod Exact
 pub mod Verdict
 pub mod Sound
 pub mod Keep

@@ -14,7 +14,7 @@ use Rattle.f11_vfy.specs.Surveying.Bits.{has}
 use Rattle.f11_vfy.specs.Chain.{KeepsTable, KnowsNexts}
 use Rattle.f11_vfy.specs.Directory.Reading.{LooksFor, TakesDirectory, most_reads}
 use Rattle.f11_vfy.specs.Directory.Notes.{IsLaterNote, has_directory, reads_at, JudgesSlot, JudgesUpTo, LooksAt, LooksUpTo, LooksThrough}
-use Rattle.f11_vfy.specs.Scanning.Found.{Finds, FoundAmong}
+use Rattle.f11_findings.specs.Found.{Finds, FoundAmong}
 use Rattle.f11_vfy.specs.Directory.Later.{FlawsUpTo, IsNewLater, ShowsLater}
 use Rattle.f11_volume.specs.Notes.{IsDirectory, IsEntered, IsVolumeNote, blocks_lost, header_dead, orphan, marked, not_closed, in_no_directory, names_no_file, name_repeated, no_name, not_contiguous}
 use Rattle.f11_vfy.specs.Scanning.Reading.{ShowsVolume, volume_in}
@@ -29,7 +29,7 @@ use Rattle.f11_vfy.proofs.Directory.Later.{later-new, later-still, later-next}
 use Rattle.f11_vfy.proofs.Scanning.Reading.{directory-said}
 use Rattle.f11_vfy.proofs.Surveying.Slots.{live-from, live-to}
 use Rattle.f11_vfy.proofs.Surveying.Sums.{sum_to-more, sum_to-le}
-use Rattle.f11_vfy.proofs.Scanning.Found.{finds-more, finds-same}
+use Rattle.f11_findings.proofs.FoundLemmas.{finds-more, finds-same}
 use Rattle.f11_vfy.proofs.Directory.Records.{flaw-low, flaw-high}
 use Rattle.f11_vfy.specs.declared.directories.flaws.Flaw.{Flaw}
 use Rattle.f11_vfy.specs.declared.directories.flaws.Flaw.TheVariants.{NoFile, Repeated, NoName}

@@ -7,7 +7,7 @@ use Rattle.f11_findings.specs.declared.finding.Finding.{Finding}
 use Rattle.f11_store.specs.Directory.{entry_count}
 use Rattle.f11_volume.specs.Contents.{file_of}
 use Rattle.f11_vfy.specs.Directory.Flaws.{EntersIn, HasFlaw, flaw_code}
-use Rattle.f11_vfy.specs.Scanning.Found.{Finds, FoundAmong}
+use Rattle.f11_findings.specs.Found.{Finds, FoundAmong}
 use Rattle.f11_vfy.specs.Directory.Later.{FindsFlaws, FlawsUpTo, IsEnteredUpTo, IsNewLater, ShowsLater, TakesRecords}
 use Rattle.f11_volume.specs.Notes.{IsDirectory, IsRecord}
 use Rattle.f11_volume.specs.Volume.{Volume}
@@ -15,7 +15,7 @@ use Rattle.f11_vfy.specs.declared.directories.flaws.Flaw.{Flaw}
 use Rattle.f11_vfy.specs.declared.directories.flaws.Flaw.TheVariants.{NoFile, Repeated, NoName}
 use Rattle.f11_vfy.specs.declared.directories.later.Later.{Later}
 use Rattle.f11_vfy.proofs.Directory.Blank.{blank-none}
-use Rattle.f11_vfy.proofs.Scanning.Found.{finds-none, finds-more, finds-same}
+use Rattle.f11_findings.proofs.FoundLemmas.{finds-none, finds-more, finds-same}
 use Rattle.f11_vfy.proofs.Directory.Records.{flaw-low, flaw-high, flaw-noted, noted-flaw, noted-directory, enters-noted, enters-found}
 
 module _ (image : Image) (v : Volume) (low : (n : ℕ) → v.table.in_use n ≡ true → 1 ≤ n) where

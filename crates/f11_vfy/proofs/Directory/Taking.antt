@@ -27,7 +27,7 @@ use Rattle.f11_vfy.specs.declared.directories.later.Later.{Later}
 use Rattle.f11_vfy.specs.declared.survey.bits.Bits.{Bits}
 use Rattle.f11_vfy.specs.declared.survey.slot.Slot.{Slot}
 use Rattle.f11_vfy.proofs.Directory.Flaws.{enters-more}
-use Rattle.f11_vfy.proofs.Scanning.Found.{among-none, among-more, finds-same}
+use Rattle.f11_findings.proofs.FoundLemmas.{among-none, among-more, finds-same}
 use Rattle.f11_vfy.proofs.Directory.Repeats.{no-names, names-more, names-repeat}
 
 -- nothing more

@@ -12,7 +12,7 @@ use Rattle.f11_map.specs.HeaderBlock.{blocks_named}
 use Rattle.f11_store.specs.File.{has_contiguous_mark}
 use Rattle.f11_vfy.specs.Chain.{KeepsTable, KnowsNexts, numbered}
 use Rattle.f11_vfy.specs.Scanning.Contiguous.{IsMarkedContiguous, IsApart, IsLastNote}
-use Rattle.f11_vfy.specs.Scanning.Found.{Finds, FoundAmong}
+use Rattle.f11_findings.specs.Found.{Finds, FoundAmong}
 use Rattle.f11_vfy.specs.Scanning.Reading.{ShowsVolume}
 use Rattle.f11_vfy.specs.Surveying.Extent.{LieAs}
 use Rattle.f11_vfy.specs.Surveying.Slot.{KeepsSlot, kept_slot, unused_slot}
@@ -26,7 +26,7 @@ use Rattle.f11_volume.specs.Notes.{AreContiguous, IsVolumeNote, blocks_lost, hea
 use Rattle.f11_volume.specs.Volume.{Volume}
 use Rattle.f11_volume.proofs.FileLemmas.{following-none}
 use Rattle.f11_vfy.proofs.FollowingLemmas.{numbered-some, next-kept, next-live, following-more, following-zero}
-use Rattle.f11_vfy.proofs.Scanning.Found.{finds-same}
+use Rattle.f11_findings.proofs.FoundLemmas.{finds-same}
 use Rattle.f11_vfy.proofs.Surveying.Extents.{lie-apart}
 use Rattle.f11_vfy.proofs.Surveying.Slots.{live-from, live-to}
 

@@ -3,7 +3,6 @@ use Rattle.std.proofs.Common.{◌≡◌, ◌≢◌, ◌≤◌, ◌<◌, ◌+◌,
 use Rattle.std.specs.Int.{bit_at}
 use Rattle.std.specs.List.{Contains}
 use Rattle.std.proofs.lemmas.Bool.{cases_eq, leb-true, le-leb, and_parts, and_from, both_ways, false_from_ne_true}
-use Rattle.std.proofs.lemmas.List.{get_or_default}
 use Rattle.f11_dev.specs.Image.{Image}
 use Rattle.f11_findings.specs.Finding.{finding, IsExactly}
 use Rattle.f11_findings.specs.declared.finding.Finding.{Finding}
@@ -15,7 +14,7 @@ use Rattle.f11_vfy.specs.Surveying.Bits.{has, limit_of}
 use Rattle.f11_vfy.specs.Chain.{IsLinkedTwice}
 use Rattle.f11_volume.specs.Contents.{file_of}
 use Rattle.f11_volume.specs.Faults.{IsVolumeFault, header_bad, pointer_outside, named_twice, named_free, wrong_link, linked_twice, link_past_last, link_to_volume}
-use Rattle.f11_vfy.specs.Scanning.Found.{Finds, FoundAmong}
+use Rattle.f11_findings.specs.Found.{Finds, FoundAmong}
 use Rattle.f11_volume.specs.Notes.{IsVolumeNote, blocks_lost, header_dead, orphan, marked, not_closed, in_no_directory, names_no_file, name_repeated, no_name, not_contiguous}
 use Rattle.f11_vfy.specs.Scanning.Parts.{IsReading}
 use Rattle.f11_vfy.specs.Scanning.Reading.{ShowsVolume, IsFirstNote}
@@ -31,25 +30,9 @@ use Rattle.f11_vfy.specs.declared.survey.slot.Slot.{Slot}
 use Rattle.f11_vfy.specs.declared.survey.slot.State.TheVariants.{Live}
 use Rattle.f11_vfy.proofs.Surveying.Cells.{named-some, some-named, named-twice, twice-named}
 use Rattle.f11_vfy.proofs.ChainLemmas.{held_live}
-use Rattle.f11_vfy.proofs.Scanning.Found.{finds-more}
+use Rattle.f11_findings.proofs.FoundLemmas.{finds-both, finds-same, exactly}
 use Rattle.f11_vfy.proofs.Scanning.Lost.{lost-means, run-holds, run-ends, run-begins}
 use Rattle.f11_vfy.proofs.Surveying.Slots.{live-from, live-to, dead-from, dead-to, bad-from, bad-to}
-
--- two parts
-finds-both : (R S : ℕ → ℕ → ℕ → Type 0) (a b c : List Finding) → Finds R a b → Finds S b c → Finds (λ code x y. R code x y ⊎ S code x y) a c
-finds-both R S a b c one other = finds-more R S (λ code x y. R code x y ⊎ S code x y) a b c one other (λ code x y r. inl r) (λ code x y s. inr s) (λ code x y t. t)
-
--- a list of all parts
-exactly : (U R : ℕ → ℕ → ℕ → Type 0) (found : List Finding) → Finds U [] found → ((code a b : ℕ) → U code a b → R code a b) → ((code a b : ℕ) → R code a b → U code a b) → IsExactly R found
-exactly U R found finds sound complete = record {
-  each = λ k d below. go (get_or found k d) (finds.no_others (get_or found k d) (k, below, get_or_default found k (get_or found k d) d below));
-  all = λ code a b r. finds.added code a b (complete code a b r);
-  order = finds.order (λ i j d low high. absurd (omega arith));
-}
-  where
-    go : (f : Finding) → Contains [] f ⊎ U f.code f.a f.b → R f.code f.a f.b
-    go f (inl none) = absurd (omega (arith, none.1))
-    go f (inr u) = sound f.code f.a f.b u
 
 -- what is found among numbers is what is said of each
 among-out : (R : ℕ → ℕ → ℕ → Type 0) (P : ℕ → Type 0) (found : ℕ → Finding) (n : ℕ) → ((k : ℕ) → k < n → P k → R (found k).code (found k).a (found k).b)
@@ -209,7 +192,7 @@ module _ (v : Volume) (r : Reading) (is : ShowsVolume v r) where
       → Finds (HeadersFound r LinkPastLast) f g → Finds (HeadersFound r LinkToVolume) g h → Finds FaultsFound [] h
   unfolding FaultsFound
   faults-found a b c d e f g h one two three four five six seven eight =
-      finds-both _ _ _ _ _ (finds-both _ _ _ _ _ (finds-both _ _ _ _ _ (finds-both _ _ _ _ _ (finds-both _ _ _ _ _ (finds-both _ _ _ _ _ (finds-both _ _ _ _ _ one two) three) four) five) six) seven) eight
+      finds-both (finds-both (finds-both (finds-both (finds-both (finds-both (finds-both one two) three) four) five) six) seven) eight
 
   module _ (whole : IsReading r.survey r.chains r.free) where
     faults-complete : (code a b : ℕ) → IsVolumeFault v code a b → FaultsFound code a b
@@ -244,7 +227,7 @@ module _ (v : Volume) (r : Reading) (is : ShowsVolume v r) where
         inr (header-in LinkToVolume n (held-used n linked.in_file) (linked-there n linked, λ none. elsewhere (ap (λ (i : FileId). i.volume) (sym (held-kept n linked.in_file).link) ∙ none)))
 
     pub all-faults : (found : List Finding) → Finds FaultsFound [] found → IsExactly (IsVolumeFault v) found
-    all-faults found finds = exactly FaultsFound (IsVolumeFault v) found finds faults-sound faults-complete
+    all-faults found finds = exactly (IsVolumeFault v) found (finds-same FaultsFound (IsVolumeFault v) [] found finds faults-sound faults-complete)
 
   -- what each part of the notes finds is one
   lost-sound : (image : Image) (code a b : ℕ) → FoundAmong (λ k. ends_lost r.survey.tally.once r.free k ≡ true) (λ k. finding 1 (start_of (is_lost r.survey.tally.once r.free) k) k) (limit_of r.free) code a b
@@ -336,7 +319,7 @@ module _ (v : Volume) (r : Reading) (is : ShowsVolume v r) where
       → Finds (FoundAmong (λ k. ends_lost r.survey.tally.once r.free k ≡ true) (λ k. finding 1 (start_of (is_lost r.survey.tally.once r.free) k) k) (limit_of r.free)) [] a
       → Finds (HeadersFound r DeadHeader) a b → Finds (HeadersFound r Orphan) b c → Finds (HeadersFound r Marked) c d → Finds (HeadersFound r NotClosed) d e → Finds NotesFound [] e
   unfolding NotesFound
-  notes-found a b c d e one two three four five = finds-both _ _ _ _ _ (finds-both _ _ _ _ _ (finds-both _ _ _ _ _ (finds-both _ _ _ _ _ one two) three) four) five
+  notes-found a b c d e one two three four five = finds-both (finds-both (finds-both (finds-both one two) three) four) five
 
   pub all-notes : (image : Image) (found : List Finding) → Finds NotesFound [] found → IsExactly (IsFirstNote image v) found
-  all-notes image found finds = exactly NotesFound (IsFirstNote image v) found finds (notes-sound image) (λ code a b n. notes-complete image code a b n.note n.first)
+  all-notes image found finds = exactly (IsFirstNote image v) found (finds-same NotesFound (IsFirstNote image v) [] found finds (notes-sound image) (λ code a b n. notes-complete image code a b n.note n.first))

@@ -1,10 +1,10 @@
 -- Runs of lost blocks, by a test.
-use Rattle.std.proofs.Common.{◌≡◌, ◌≤◌, ◌<◌, ◌+◌, ◌-◌, ◌*◌, ◌⊎◌, ◌↔◌, ◌&&◌, ◌||◌, inl, inr, ℕ, zero, suc, refl, ap, sym, subst, ◌∙◌, arith, Bool, true, false, cond, not, ltb, List}
-use Rattle.std.proofs.lemmas.Bool.{cases_lt, and_parts, and_from, not-true, not_from_false, false_from_ne_true, ltb-true, lt-ltb, leb-true, le-leb, both_ways}
+use Rattle.std.proofs.Common.{◌≡◌, ◌≤◌, ◌<◌, ◌+◌, ◌-◌, ◌*◌, ◌⊎◌, ◌↔◌, ◌&&◌, ◌||◌, inl, inr, ℕ, zero, suc, refl, ap, sym, subst, ◌∙◌, arith, Bool, true, false, cond, not, ltb, List, add-one}
+use Rattle.std.proofs.lemmas.Bool.{cases_lt, and_parts, and_from, not-true, not_from_false, false_from_ne_true, ltb-true, lt-ltb, leb-true, le-leb, both_ways, cond-true, cond-false}
 use Rattle.f11_findings.specs.Finding.{finding}
 use Rattle.f11_findings.specs.declared.finding.Finding.{Finding}
 use Rattle.f11_vfy.specs.Surveying.Bits.{has, limit_of}
-use Rattle.f11_vfy.specs.Scanning.Found.{Finds, FoundAmong}
+use Rattle.f11_findings.specs.Found.{Finds, FoundAmong}
 use Rattle.f11_vfy.specs.Chain.{IsFit}
 use Rattle.f11_vfy.specs.Surveying.Count.{Shows, times_named}
 use Rattle.f11_volume.specs.Notes.{IsLost, IsLostRun}
@@ -13,8 +13,19 @@ use Rattle.f11_vfy.specs.Scanning.Scans.{is_lost, ends_lost, start_of}
 use Rattle.f11_volume.specs.Volume.{Volume}
 use Rattle.f11_vfy.specs.declared.survey.bits.Bits.{Bits}
 use Rattle.f11_vfy.specs.declared.survey.tally.Tally.{Tally}
-use Rattle.f11_vfy.proofs.Scanning.Found.{finds-none, start-moves}
+use Rattle.f11_findings.proofs.FoundLemmas.{finds-none}
 use Rattle.f11_vfy.proofs.Surveying.Cells.{named-some, some-named}
+
+-- where a run begins: the next number's, and at a gap
+pub start-next : (p : ℕ → Bool) (k : ℕ) → start_of p (k + 1) ≡ cond (p k) (start_of p k) (k + 1)
+unfolding start_of
+start-next p k = ap (start_of p) (add-one k) ∙ ap (λ z. cond (p k) (start_of p k) z) (sym (add-one k))
+
+pub start-stays : (p : ℕ → Bool) (k s : ℕ) → p k ≡ true → s ≡ start_of p k → s ≡ start_of p (k + 1)
+start-stays p k s here is = is ∙ sym (cond-true (p k) _ _ here) ∙ sym (start-next p k)
+
+pub start-moves : (p : ℕ → Bool) (k : ℕ) → p k ≡ false → k + 1 ≡ start_of p (k + 1)
+start-moves p k gap = sym (cond-false (p k) _ _ gap) ∙ sym (start-next p k)
 
 -- what the test means
 pub lost-means : (v : Volume) (t : Tally) (free : Bits) → IsFit v.table → Shows t (times_named v.table v.table.slots) → ShowsFree v free → (k : ℕ) → is_lost t.once free k ≡ true ↔ IsLost v k

@@ -1,17 +1,16 @@
 -- What the verifier finds is exactly an image's faults and notes.
-use Rattle.std.proofs.Common.{inl, inr, ℕ, zero, suc, sym, ap, subst, ◌∙◌, arith, List, [], ◌∷◌, get_or}
-use Rattle.std.specs.Prelude.{Contains, All}
+use Rattle.std.proofs.Common.{inl, inr, ℕ, true, refl, sym, subst, arith, List, [], ◌∷◌, get_or}
 use Rattle.std.proofs.lemmas.Bool.{cases_lt}
 use Rattle.std.proofs.lemmas.List.Elements.{All-contains, Contains-get_or}
 use Rattle.f11_dev.specs.Image.{Image}
 use Rattle.f11_findings.specs.Finding.{finding, IsExactly, IsInOrder, AddsFindings}
 use Rattle.f11_findings.specs.declared.finding.Finding.{Finding}
-use Rattle.f11_findings.proofs.FindingLemmas.{IsExactly-added}
+use Rattle.f11_findings.proofs.FoundLemmas.{exactly, finds-if}
 use Rattle.f11_home.specs.Home.{HomeFields}
 use Rattle.f11_home.proofs.HomeLemmas.{home-unique}
 use Rattle.f11_vfy.specs.Directory.Notes.{IsLaterNote}
 use Rattle.f11_volume.specs.Faults.{IsFramed, IsFrameFault, IsVolumeFault}
-use Rattle.f11_vfy.specs.Scanning.Found.{Finds}
+use Rattle.f11_findings.specs.Found.{Finds}
 use Rattle.f11_volume.specs.Notes.{IsVolumeNote}
 use Rattle.f11_vfy.specs.Scanning.Contiguous.{IsLastNote}
 use Rattle.f11_vfy.specs.Scanning.Reading.{IsFirstNote}
@@ -30,16 +29,10 @@ exactly-same R S found to from is = record {
 
 -- a fault of the frame is the only one, and there is no note beside it
 pub one-fault : (image : Image) (code a : ℕ) (found : List Finding) → IsFrameFault image code a → AddsFindings [] found (finding code a 0 ∷ []) → IsExactly (IsFault image) found
-one-fault image code a found fault adds = IsExactly-added (IsFault image) found (finding code a 0 ∷ []) adds (first-only (finding code a 0) (of_frame code a fault)) only
-  where
-    first-only : (f : Finding) → IsFault image f.code f.a f.b → All (λ g. IsFault image g.code g.a g.b) (f ∷ [])
-    first-only f is zero d below = is
-    first-only f is (suc k) d below = absurd (omega (arith, below))
-
-    only : (c x y : ℕ) → IsFault image c x y → Contains (finding code a 0 ∷ []) (finding c x y)
-    only c x y is =
-        let same = frame-only image code a c x y fault is in
-        (0, omega arith, ap (λ k. finding k a 0) same.0 ∙ ap (λ k. finding c k 0) same.1 ∙ ap (finding c x) (sym same.2))
+one-fault image code a found fault adds =
+    exactly (IsFault image) found (finds-if (IsFault image) true (finding code a 0) [] found adds (λ _. of_frame code a fault) (λ c x y is.
+    let same = frame-only image code a c x y fault is in
+    (refl, λ i. finding (sym same.0 i) (sym same.1 i) (same.2 i))))
 
 none-in-order : IsInOrder []
 none-in-order = λ i j d less below. absurd (omega (arith, below))

@@ -6,8 +6,8 @@ use Rattle.std.proofs.Math.Bool.{or-false}
 use Rattle.f11_findings.specs.declared.finding.Finding.{Finding}
 use Rattle.f11_vfy.specs.Surveying.Bits.{has, in_word, limit_of, IsCommon}
 use Rattle.f11_vfy.specs.declared.survey.bits.Bits.{Bits}
-use Rattle.f11_vfy.specs.Scanning.Found.{Finds, FoundAmong}
-use Rattle.f11_vfy.proofs.Scanning.Found.{finds-same}
+use Rattle.f11_findings.specs.Found.{Finds, FoundAmong}
+use Rattle.f11_findings.proofs.FoundLemmas.{finds-same}
 use Rattle.f11_vfy.proofs.Surveying.Words.{word-both}
 
 -- a set has those below a number that are in two sets, and none from there on

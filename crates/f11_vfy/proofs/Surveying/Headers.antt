@@ -7,7 +7,7 @@ use Rattle.f11_map.specs.HeaderBlock.{blocks_named}
 use Rattle.f11_index.specs.Table.{Table, IsLive}
 use Rattle.f11_index.specs.Headers.{is_live}
 use Rattle.f11_vfy.specs.Surveying.Count.{Shows, times_among, times_by, times_named}
-use Rattle.f11_vfy.specs.Scanning.Found.{Finds}
+use Rattle.f11_findings.specs.Found.{Finds}
 use Rattle.f11_vfy.specs.Surveying.Slot.{HasState, KeepsValidHeader, KeepsSlot, KeepsSlots}
 use Rattle.f11_vfy.specs.Surveying.Headers.{IsOutside, OutsideOf, OutsideUpTo, TakesSlot, IsSurvey, Surveys, IsNewSurvey}
 use Rattle.f11_volume.specs.Volume.{HasPointer}
@@ -15,7 +15,7 @@ use Rattle.f11_vfy.specs.declared.survey.slot.Slot.{Slot}
 use Rattle.f11_vfy.specs.declared.survey.slot.State.{State}
 use Rattle.f11_vfy.specs.declared.survey.slot.State.TheVariants.{Unused, Dead, Bad, Live}
 use Rattle.f11_vfy.specs.declared.survey.headers.Survey.{Survey}
-use Rattle.f11_vfy.proofs.Scanning.Found.{finds-none, finds-more, finds-same}
+use Rattle.f11_findings.proofs.FoundLemmas.{finds-none, finds-more, finds-same}
 use Rattle.f11_index.proofs.NextLemmas.{live-tested}
 use Rattle.f11_vfy.proofs.Surveying.Slots.{live-from, live-to}
 use Rattle.f11_vfy.proofs.Surveying.Sums.{sum_to-none, sum_to-more}

@@ -14,7 +14,7 @@ use Rattle.f11_index.specs.IndexFile.{Index, index_of}
 use Rattle.f11_index.specs.Table.{table_in}
 use Rattle.f11_vfy.specs.Directory.Notes.{directory_reads, LooksThrough, AddsDirectoryNotes, IsLaterNote}
 use Rattle.f11_volume.specs.Faults.{IsVolumeFault}
-use Rattle.f11_vfy.specs.Scanning.Found.{Finds}
+use Rattle.f11_findings.specs.Found.{Finds}
 use Rattle.f11_vfy.specs.Frames.Frame.{AreOf, ReadsFrame, FindsFrameFault, frame_reads}
 use Rattle.f11_vfy.specs.Scanning.Reading.{most_read, volume_in, ShowsVolume, ReadsVolume}
 use Rattle.f11_vfy.specs.Verify.{LooksOverVolume, LooksOver, ExaminesVolume, Examines}

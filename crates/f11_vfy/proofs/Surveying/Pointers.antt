@@ -11,10 +11,10 @@ use Rattle.f11_map.specs.MapArea.{runs_of, blocks_in}
 use Rattle.f11_map.proofs.MapLemmas.{blocks_in-append}
 use Rattle.f11_map.specs.HeaderBlock.{blocks_named}
 use Rattle.f11_vfy.specs.Surveying.Count.{times_among, within, Shows}
-use Rattle.f11_vfy.specs.Scanning.Found.{Finds}
+use Rattle.f11_findings.specs.Found.{Finds}
 use Rattle.f11_vfy.specs.Surveying.Headers.{IsOutside, OutsideOf}
 use Rattle.f11_vfy.specs.declared.survey.tally.Tally.{Tally}
-use Rattle.f11_vfy.proofs.Scanning.Found.{finds-none, finds-more, finds-same, finds-if}
+use Rattle.f11_findings.proofs.FoundLemmas.{finds-none, finds-more, finds-same, finds-if}
 use Rattle.f11_vfy.proofs.Surveying.Tally.{shows_same}
 use Rattle.f11_vfy.proofs.Surveying.Times.{times-nil, times-append, times-range}
 

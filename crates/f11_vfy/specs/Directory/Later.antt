@@ -8,7 +8,7 @@ use Rattle.f11_vfy.specs.Surveying.Bits.{has, limit_of}
 use Rattle.f11_vfy.specs.Chain.{KeepsTable}
 use Rattle.f11_vfy.specs.Directory.Blank.{HoldNoRecord}
 use Rattle.f11_vfy.specs.Directory.Flaws.{EntersIn, HasFlaw, KeepsNames, flaw_code}
-use Rattle.f11_vfy.specs.Scanning.Found.{Finds, FoundAmong}
+use Rattle.f11_findings.specs.Found.{Finds, FoundAmong}
 use Rattle.f11_volume.specs.Notes.{IsEntered, IsVolumeNote}
 use Rattle.f11_volume.specs.Volume.{Volume}
 use Rattle.f11_vfy.specs.declared.directories.flaws.Flaw.{Flaw}

@@ -14,7 +14,7 @@ use Rattle.f11_vfy.specs.Surveying.Bits.{limit_of}
 use Rattle.f11_volume.specs.Contents.{file_of}
 use Rattle.f11_vfy.specs.Surveying.Count.{sum_to}
 use Rattle.f11_vfy.specs.Directory.Reading.{most_reads}
-use Rattle.f11_vfy.specs.Scanning.Found.{Finds}
+use Rattle.f11_findings.specs.Found.{Finds}
 use Rattle.f11_vfy.specs.Directory.Later.{ShowsLater}
 use Rattle.f11_volume.specs.Notes.{IsVolumeNote}
 use Rattle.f11_vfy.specs.Scanning.Reading.{ShowsVolume, volume_in}

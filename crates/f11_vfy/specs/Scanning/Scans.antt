@@ -4,7 +4,7 @@ use Rattle.std.specs.Int.{bit_at}
 use Rattle.f11_findings.specs.Finding.{finding}
 use Rattle.f11_findings.specs.declared.finding.Finding.{Finding}
 use Rattle.f11_vfy.specs.Surveying.Bits.{has, limit_of}
-use Rattle.f11_vfy.specs.Scanning.Found.{Finds, FoundAmong}
+use Rattle.f11_findings.specs.Found.{Finds, FoundAmong}
 use Rattle.f11_vfy.specs.declared.survey.bits.Bits.{Bits}
 use Rattle.f11_vfy.specs.declared.findings.scans.Kind.{Kind}
 use Rattle.f11_vfy.specs.declared.findings.scans.Kind.TheVariants.{

@@ -12,7 +12,7 @@ use Rattle.f11_index.specs.Table.{Table, table_in}
 use Rattle.f11_map.specs.MapArea.{runs_of}
 use Rattle.f11_vfy.specs.Surveying.Bits.{limit_of}
 use Rattle.f11_vfy.specs.Surveying.Count.{Shows, times_among, times_named, sum_to}
-use Rattle.f11_vfy.specs.Scanning.Found.{Finds}
+use Rattle.f11_findings.specs.Found.{Finds}
 use Rattle.f11_vfy.specs.Surveying.Slot.{HasState, KeepsValidHeader, KeepsSlots}
 use Rattle.f11_volume.specs.Volume.{HasPointer}
 use Rattle.f11_vfy.specs.declared.survey.slot.Slot.{Slot}

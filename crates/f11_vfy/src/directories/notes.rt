@@ -3,7 +3,7 @@ ghost use Rattle.std.specs.Prelude.{◌≡◌, ◌↔◌, ◌<◌, ◌+◌, fals
 ghost use Rattle.f11_findings.specs.Finding.{finding};
 ghost use Rattle.f11_index.specs.Kept.{index_kept, IndexLiesWithin};
 ghost use Rattle.f11_vfy.specs.Surveying.Bits.{has, limit_of};
-ghost use Rattle.f11_vfy.specs.Scanning.Found.{Finds, FoundAmong};
+ghost use Rattle.f11_findings.specs.Found.{Finds, FoundAmong};
 ghost use Rattle.f11_vfy.specs.Scanning.Scans.{IsFileSlot};
 ghost use Rattle.f11_vfy.specs.Surveying.Slot.{kept_slot};
 

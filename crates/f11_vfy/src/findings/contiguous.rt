@@ -4,7 +4,7 @@ ghost use Rattle.f11_findings.specs.Finding.{finding};
 ghost use Rattle.f11_index.specs.Table.{Table, IsLive};
 ghost use Rattle.f11_vfy.specs.Chain.{KeepsTable, KnowsNexts};
 ghost use Rattle.f11_vfy.specs.Scanning.Contiguous.{IsMarkedContiguous, IsApart};
-ghost use Rattle.f11_vfy.specs.Scanning.Found.{Finds, FoundAmong};
+ghost use Rattle.f11_findings.specs.Found.{Finds, FoundAmong};
 ghost use Rattle.f11_vfy.specs.Surveying.Extent.{LieAs};
 ghost use Rattle.f11_volume.specs.Contents.{blocks_reached};
 

@@ -4,7 +4,7 @@ ghost use Rattle.std.specs.Int.{bit_at};
 ghost use Rattle.f11_findings.specs.Finding.{finding};
 ghost use Rattle.f11_vfy.specs.Surveying.Bits.{has, limit_of};
 ghost use Rattle.f11_vfy.specs.Chain.{IsSized};
-ghost use Rattle.f11_vfy.specs.Scanning.Found.{Finds, FoundAmong};
+ghost use Rattle.f11_findings.specs.Found.{Finds, FoundAmong};
 ghost use Rattle.f11_vfy.specs.Scanning.Scans.{code_of, Holds, FindsLost, IsLinkedSlot, is_lost, ends_lost, start_of};
 ghost use Rattle.f11_vfy.specs.Surveying.Slot.{kept_slot};
 

@@ -4,7 +4,7 @@ ghost use Rattle.f11_header.specs.Header.{holds_header};
 ghost use Rattle.f11_map.specs.HeaderBlock.{blocks_named};
 ghost use Rattle.f11_vfy.specs.Surveying.Bits.{limit_of};
 ghost use Rattle.f11_vfy.specs.Surveying.Count.{Shows, times_among};
-ghost use Rattle.f11_vfy.specs.Scanning.Found.{Finds};
+ghost use Rattle.f11_findings.specs.Found.{Finds};
 ghost use Rattle.f11_vfy.specs.Surveying.Headers.{OutsideOf};
 
 use crate::survey::tally::Tally;

@@ -10,7 +10,6 @@ use Rattle.std.specs.Prelude.{
   Bool,
   true,
   false,
-  IsTrue,
   List,
   [],
   length,

@@ -1,9 +1,14 @@
 //! The faults of the segments that were visited.
-ghost use Rattle.std.specs.Prelude.{◌≡◌, ◌<◌, ◌≤◌, ◌^◌, nat_lt, [], length, OnOk, IfOk};
-ghost use Rattle.std.specs.List.{list_any, range_with_len};
-ghost use Rattle.f11_findings.specs.Finding.{AddsFindings, gather, if_so, finding};
-ghost use Rattle.rt11_volume.specs.Verifying.Judging.{end_ahead, entry_faults, links_back, link_faults, area_faults, is_wrong_at, visit_faults, is_highest_wrong, faults_of};
+ghost use Rattle.std.specs.Prelude.{◌≡◌, ◌<◌, ◌^◌, ◌↔◌, ℕ, nat_lt, [], length, IsTrue, OnOk, IfOk};
+ghost use Rattle.std.specs.List.{list_any};
+ghost use Rattle.f11_dev.specs.Image.{Image};
+ghost use Rattle.f11_findings.specs.Finding.{finding};
+ghost use Rattle.f11_findings.specs.Found.{Finds, FoundOfEach};
+ghost use Rattle.rt11_volume.specs.Directory.{is_extra_wrong, end_before};
+ghost use Rattle.rt11_volume.specs.InHand.{visits};
 ghost use Rattle.rt11_volume.specs.Segment.{segment_with, entries, extra_bytes};
+ghost use Rattle.rt11_volume.specs.Verifying.Faults.{IsWrong, IsDirectoryFault};
+ghost use Rattle.rt11_volume.specs.Verifying.Scans.{number_at, EntryFaults, LinkFaults, AreaFaults, SegmentFaults, IsHighestWrong};
 
 use crate::directory::{Visited, are_extra_wrong, has_number, visit_at};
 use crate::entry::is_one_kind;
@@ -34,9 +39,8 @@ fn add_entry_faults(
     segment: &Segment,
     blocks: u32,
 ) -> Result<(), NoMemory>
-    ensures { OnOk result (AddsFindings faults.old faults.new
-        (gather (entry_faults blocks (segment_with number segment.now))
-        (length (entries (extra_bytes segment.now) segment.now)))) }
+    ensures { OnOk result (Finds (FoundOfEach (EntryFaults blocks (segment_with number segment.now))
+        (length (entries (extra_bytes segment.now) segment.now))) faults.old faults.new) }
 {
     let most = blocks.min(MOST_BLOCKS);
     let mut end = u32::from(segment.first());
@@ -52,7 +56,8 @@ fn add_entry_faults(
 /// Adds the faults of the link of the segment at place `j`.
 fn add_link_faults(faults: &mut Findings, visited: &[Visited], j: usize) -> Result<(), NoMemory>
     requires { j < length visited.now }
-    ensures { OnOk result (AddsFindings faults.old faults.new (link_faults visited.now j)) }
+    ensures { OnOk result ((image : Image) → visited.now ≡ visits image
+        → Finds (LinkFaults image j (number_at image j)) faults.old faults.new) }
 {
     let here = visit_at(visited, j);
     let next = here.segment.next();
@@ -63,21 +68,20 @@ fn add_link_faults(faults: &mut Findings, visited: &[Visited], j: usize) -> Resu
     Ok(())
 }
 
-/// Adds the faults of the areas of the segment at place `j`, where those before end at a block.
+/// Adds the faults of the areas of the segment at place `j`, on a device of so many blocks.
 fn add_area_faults(
     faults: &mut Findings,
     visited: &[Visited],
     j: usize,
-    ahead: u32,
     blocks: u32,
 ) -> Result<(), NoMemory>
-    requires inside { j < length visited.now }
-    requires ahead { ahead ≡ end_ahead visited.now j }
-    ensures { OnOk result (AddsFindings faults.old faults.new (area_faults blocks visited.now j)) }
+    requires { j < length visited.now }
+    ensures { OnOk result ((image : Image) → visited.now ≡ visits image → blocks ≡ length image
+        → Finds (AreaFaults image j (number_at image j)) faults.old faults.new) }
 {
     let here = visit_at(visited, j);
     faults.add_if(!here.segment.has_end(), finding(5, here.number, 0))?;
-    let early = u32::from(here.segment.first()) < ahead;
+    let early = u32::from(here.segment.first()) < end_ahead(visited, j);
     faults.add_if(early, finding(8, here.number, 0))?;
     add_entry_faults(faults, here.number, &here.segment, blocks)?;
     Ok(())
@@ -86,7 +90,8 @@ fn add_area_faults(
 /// Whether the extra bytes of the segment at place `j` are wrong.
 pub(crate) fn is_wrong_at(visited: &[Visited], j: usize) -> bool
     requires { j < length visited.now }
-    ensures { result ≡ is_wrong_at visited.now j }
+    ensures { (image : Image) → visited.now ≡ visits image
+        → result ≡ is_extra_wrong image (number_at image j) }
 {
     are_extra_wrong(
         visit_at(visited, 0).segment.extra(),
@@ -97,7 +102,7 @@ pub(crate) fn is_wrong_at(visited: &[Visited], j: usize) -> bool
 /// Where the areas of the segment before place `j` end, or the directory.
 pub(crate) fn end_ahead(visited: &[Visited], j: usize) -> u32
     requires { j < length visited.now }
-    ensures { result ≡ end_ahead visited.now j }
+    ensures { (image : Image) → visited.now ≡ visits image → result ≡ end_before image j }
 {
     if j == 0 {
         6 + 2 * u32::from(visit_at(visited, 0).segment.count())
@@ -114,20 +119,22 @@ fn add_visit_faults(
     blocks: u32,
 ) -> Result<(), NoMemory>
     requires { j < length visited.now }
-    ensures { OnOk result (AddsFindings faults.old faults.new (visit_faults blocks visited.now j)) }
+    ensures { OnOk result ((image : Image) → visited.now ≡ visits image → blocks ≡ length image
+        → Finds (SegmentFaults image j (number_at image j)) faults.old faults.new) }
 {
     if is_wrong_at(visited, j) {
         faults.add(finding(4, visit_at(visited, j).number, 0))?;
         return Ok(());
     }
     add_link_faults(faults, visited, j)?;
-    add_area_faults(faults, visited, j, end_ahead(visited, j), blocks)?;
+    add_area_faults(faults, visited, j, blocks)?;
     Ok(())
 }
 
 /// Whether the extra bytes of a segment that was visited are wrong.
 fn is_any_wrong(visited: &[Visited]) -> bool
-    ensures { result ≡ list_any (is_wrong_at visited.now) (range_with_len 0 (length visited.now)) }
+    ensures { (image : Image) → visited.now ≡ visits image
+        → IsTrue result ↔ ((k : ℕ) × IsWrong image k) }
 {
     for j in 0..visited.len() {
         if is_wrong_at(visited, j) {
@@ -145,10 +152,10 @@ fn is_any_above(visited: &[Visited], highest: u16) -> bool
 }
 
 /// Whether the highest segment in use is wrong, where no extra bytes are.
-#[tactic(auto, unfolding(crate::specs::Verifying::Judging::is_highest_wrong))]
 fn is_highest_wrong(visited: &[Visited]) -> bool
     requires { 0 < length visited.now }
-    ensures { result ≡ is_highest_wrong visited.now }
+    ensures { (image : Image) → visited.now ≡ visits image
+        → IsTrue result ↔ IsHighestWrong image }
 {
     let first = &visit_at(visited, 0).segment;
     let highest = first.highest();
@@ -162,7 +169,8 @@ pub(crate) fn find_faults(
     blocks: u32,
 ) -> Result<Findings, NoMemory>
     requires { 0 < length visited.now }
-    ensures { IfOk result (λ faults. AddsFindings [] faults (faults_of blocks visited.now)) }
+    ensures { IfOk result (λ faults. (image : Image) → visited.now ≡ visits image
+        → blocks ≡ length image → Finds (IsDirectoryFault image) [] faults) }
 {
     let mut faults = Findings::new(alloc);
     for j in 0..visited.len() {

@@ -1,14 +1,18 @@
 //! What is noted of the segments that were visited.
-ghost use Rattle.std.specs.Prelude.{◌≡◌, ◌<◌, ◌≤◌, ◌&&◌, not, [], length, take, OnOk, IfOk};
-ghost use Rattle.std.specs.List.{list_any};
-ghost use Rattle.f11_findings.specs.Finding.{AddsFindings, gather};
-ghost use Rattle.rt11_volume.specs.Entry.{is_file_named, is_one_kind, has_bit};
-ghost use Rattle.rt11_volume.specs.RtName.{is_rt_name};
-ghost use Rattle.rt11_volume.specs.Verifying.Judging.{segment_at, has_name_before, entry_notes, visit_notes, notes_of};
+ghost use Rattle.std.specs.Prelude.{◌≡◌, ◌<◌, ◌≤◌, ◌↔◌, List, ℕ, true, [], length, IsTrue, OnOk, IfOk};
+ghost use Rattle.f11_dev.specs.Image.{Image};
+ghost use Rattle.f11_findings.specs.Found.{Finds, FoundOfEach};
+ghost use Rattle.rt11_volume.specs.Directory.{segment_of};
+ghost use Rattle.rt11_volume.specs.Entry.{is_permanent, name_words};
+ghost use Rattle.rt11_volume.specs.InHand.{SaysEntry, visits};
+ghost use Rattle.rt11_volume.specs.RtName.{IsRtName};
 ghost use Rattle.rt11_volume.specs.Segment.{entries, extra_bytes};
+ghost use Rattle.rt11_volume.specs.Verifying.Notes.{IsDirectoryNote, RepeatsName};
+ghost use Rattle.rt11_volume.specs.Verifying.Scans.{number_at, HasFile, EntryNotes, SegmentNotes, entries_at};
 
 use crate::directory::{Visited, visit_at};
 use crate::entry::Entry;
+use crate::lookup::entry::{Wanted, first_in};
 use crate::name::is_name;
 use crate::segment::Segment;
 use crate::verifier::faults::{end_ahead, finding, is_wrong_at};
@@ -16,49 +20,52 @@ use f11_bytes::NoMemory;
 use f11_findings::Findings;
 use std::alloc::Global;
 
-/// Whether one of the first entries of a segment is that of a file of this name.
-fn has_file_named(segment: &Segment, upto: usize, name: [u16; 3]) -> bool
-    requires { upto ≤ length (entries (extra_bytes segment.now) segment.now) }
-    ensures { result ≡ list_any (is_file_named name)
-        (take upto (entries (extra_bytes segment.now) segment.now)) }
+/// Whether an entry of a segment is that of a file of this name.
+fn has_file(segment: &Segment, name: [u16; 3]) -> bool
+    ensures { IsTrue result ↔ HasFile name (entries (extra_bytes segment.now) segment.now)
+        (length (entries (extra_bytes segment.now) segment.now)) }
 {
-    for i in 0..upto {
-        if segment.entry(i).is_file_named(name) {
-            return true;
-        }
+    first_in(segment, &Wanted::File(name)).is_some()
+}
+
+/// Whether one of the first entries of a segment is that of a file of this name.
+fn has_file_before(segment: &Segment, upto: usize, name: [u16; 3]) -> bool
+    ensures { IsTrue result ↔ HasFile name (entries (extra_bytes segment.now) segment.now) upto }
+{
+    match first_in(segment, &Wanted::File(name)) {
+        Some(i) => i < upto,
+        None => false,
     }
-    false
 }
 
 /// Whether a file before entry `i` of the segment at place `j` has this name.
 fn has_name_before(visited: &[Visited], j: usize, i: usize, name: [u16; 3]) -> bool
-    requires place { j < length visited.now }
-    requires entry { i ≤ length (segment_at visited.now j).entries }
-    ensures { result ≡ has_name_before visited.now j i name }
+    requires { j < length visited.now }
+    ensures { (image : Image) (words : List ℕ) → visited.now ≡ visits image
+        → name ≡ name_words words → IsTrue result ↔ RepeatsName image j i words }
 {
     for l in 0..j {
-        let segment = &visit_at(visited, l).segment;
-        if has_file_named(segment, segment.entry_count(), name) {
+        if has_file(&visit_at(visited, l).segment, name) {
             return true;
         }
     }
-    has_file_named(&visit_at(visited, j).segment, i, name)
+    has_file_before(&visit_at(visited, j).segment, i, name)
 }
 
 /// Whether an entry is that of a file without a name.
 fn is_unnamed(entry: &Entry) -> bool
-    ensures { result ≡ ((is_one_kind entry.now.status && has_bit entry.now.status 10)
-        && not (is_rt_name entry.now.name)) }
+    ensures { (words : List ℕ) → SaysEntry entry.now words
+        → IsTrue result ↔ ((is_permanent words ≡ true) × ¬ IsRtName (name_words words)) }
 {
     entry.is_permanent() && !is_name(entry.name[0], entry.name[1], entry.name[2])
 }
 
 /// Whether an entry, `i` of the segment at place `j`, is that of a file with the name of one before it.
 fn is_repeated(visited: &[Visited], j: usize, i: usize, entry: &Entry) -> bool
-    requires place { j < length visited.now }
-    requires entry { i ≤ length (segment_at visited.now j).entries }
-    ensures { result ≡ ((is_one_kind entry.now.status && has_bit entry.now.status 10)
-        && has_name_before visited.now j i entry.now.name) }
+    requires { j < length visited.now }
+    ensures { (image : Image) (words : List ℕ) → visited.now ≡ visits image
+        → SaysEntry entry.now words
+        → IsTrue result ↔ ((is_permanent words ≡ true) × RepeatsName image j i words) }
 {
     entry.is_permanent() && has_name_before(visited, j, i, entry.name)
 }
@@ -71,8 +78,9 @@ fn add_entry_notes(
     i: usize,
 ) -> Result<(), NoMemory>
     requires place { j < length visited.now }
-    requires entry { i < length (segment_at visited.now j).entries }
-    ensures { OnOk result (AddsFindings notes.old notes.new (entry_notes visited.now j i)) }
+    requires entry { i < length (entries_at visited.now j) }
+    ensures { OnOk result ((image : Image) → visited.now ≡ visits image
+        → Finds (EntryNotes image j (number_at image j) i) notes.old notes.new) }
 {
     let here = visit_at(visited, j);
     let entry = here.segment.entry(i);
@@ -86,8 +94,9 @@ fn add_entry_notes(
 /// Adds the notes of the entries of the segment at place `j`.
 fn add_notes_of_entries(notes: &mut Findings, visited: &[Visited], j: usize) -> Result<(), NoMemory>
     requires { j < length visited.now }
-    ensures { OnOk result (AddsFindings notes.old notes.new
-        (gather (entry_notes visited.now j) (length (segment_at visited.now j).entries))) }
+    ensures { OnOk result ((image : Image) → visited.now ≡ visits image
+        → Finds (FoundOfEach (EntryNotes image j (number_at image j))
+        (length (segment_of image (number_at image j)).entries)) notes.old notes.new) }
 {
     let count = visit_at(visited, j).segment.entry_count();
     for i in 0..count {
@@ -99,7 +108,8 @@ fn add_notes_of_entries(notes: &mut Findings, visited: &[Visited], j: usize) -> 
 /// Adds the notes of the segment at place `j`.
 fn add_visit_notes(notes: &mut Findings, visited: &[Visited], j: usize) -> Result<(), NoMemory>
     requires { j < length visited.now }
-    ensures { OnOk result (AddsFindings notes.old notes.new (visit_notes visited.now j)) }
+    ensures { OnOk result ((image : Image) → visited.now ≡ visits image
+        → Finds (SegmentNotes image j (number_at image j)) notes.old notes.new) }
 {
     if is_wrong_at(visited, j) {
         return Ok(());
@@ -113,7 +123,8 @@ fn add_visit_notes(notes: &mut Findings, visited: &[Visited], j: usize) -> Resul
 
 /// All notes of the segments that were visited.
 pub(crate) fn find_notes(alloc: Global, visited: &[Visited]) -> Result<Findings, NoMemory>
-    ensures { IfOk result (λ notes. AddsFindings [] notes (notes_of visited.now)) }
+    ensures { IfOk result (λ notes. (image : Image) → visited.now ≡ visits image
+        → Finds (IsDirectoryNote image) [] notes) }
 {
     let mut notes = Findings::new(alloc);
     for j in 0..visited.len() {

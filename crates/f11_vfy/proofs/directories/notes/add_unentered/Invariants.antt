@@ -1,7 +1,7 @@
 use Rattle.std.proofs.Common.{◌≡◌, ◌+◌, false}
 use Rattle.f11_findings.specs.Finding.{finding}
 use Rattle.f11_vfy.specs.Surveying.Bits.{has}
-use Rattle.f11_vfy.specs.Scanning.Found.{Finds, FoundAmong}
+use Rattle.f11_findings.specs.Found.{Finds, FoundAmong}
 use Rattle.f11_vfy.specs.Scanning.Scans.{IsFileSlot}
 use Rattle.f11_vfy.specs.Surveying.Slot.{kept_slot}
 use Rattle.f11_vfy.proofs.directories.notes.add_unentered.Given as goal

@@ -1,4 +1,4 @@
-use Rattle.f11_vfy.proofs.Scanning.Found.{among-none, among-all, among-more}
+use Rattle.f11_findings.proofs.FoundLemmas.{among-none, among-all, among-more}
 use Rattle.f11_vfy.proofs.findings.contiguous.add_apart.Goals as goal
 
 pub loop-k-init : goal.loop-k-init

@@ -3,7 +3,7 @@ use Rattle.f11_findings.specs.Finding.{finding}
 use Rattle.f11_index.specs.Table.{Table}
 use Rattle.f11_vfy.specs.Chain.{KeepsTable, KnowsNexts}
 use Rattle.f11_vfy.specs.Scanning.Contiguous.{IsApart}
-use Rattle.f11_vfy.specs.Scanning.Found.{Finds, FoundAmong}
+use Rattle.f11_findings.specs.Found.{Finds, FoundAmong}
 use Rattle.f11_vfy.proofs.findings.contiguous.add_apart.Given as goal
 
 -- the slots so far are judged

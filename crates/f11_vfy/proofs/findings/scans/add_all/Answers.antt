@@ -1,7 +1,7 @@
 use Rattle.std.proofs.Common.{◌∙◌, refl, sym, true, arith, ◌∷◌, [], subst}
 use Rattle.std.proofs.lemmas.Option.{get_or_from_slice_get}
 use Rattle.f11_findings.specs.Finding.{finding, AddsFindings}
-use Rattle.f11_vfy.proofs.Scanning.Found.{among-none, among-more, among-list}
+use Rattle.f11_findings.proofs.FoundLemmas.{among-none, among-more, among-list}
 use Rattle.f11_vfy.proofs.findings.scans.add_all.Goals as goal
 
 pub loop-i-init : goal.loop-i-init

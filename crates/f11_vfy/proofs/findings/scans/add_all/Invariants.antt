@@ -1,6 +1,6 @@
 use Rattle.std.proofs.Common.{get_or}
 use Rattle.f11_findings.specs.Finding.{finding}
-use Rattle.f11_vfy.specs.Scanning.Found.{Finds, FoundAmong}
+use Rattle.f11_findings.specs.Found.{Finds, FoundAmong}
 use Rattle.f11_vfy.proofs.findings.scans.add_all.Given as goal
 
 abbrev pub invariant-loop-i : goal.invariant-loop-i

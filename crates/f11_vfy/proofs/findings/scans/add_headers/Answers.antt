@@ -1,6 +1,6 @@
 use Rattle.std.proofs.Common.{◌∙◌, arith}
 use Rattle.std.proofs.lemmas.List.{get_or_default}
-use Rattle.f11_vfy.proofs.Scanning.Found.{among-none, among-all, among-more}
+use Rattle.f11_findings.proofs.FoundLemmas.{among-none, among-all, among-more}
 use Rattle.f11_vfy.proofs.findings.scans.add_headers.Goals as goal
 
 pub loop-k-init : goal.loop-k-init

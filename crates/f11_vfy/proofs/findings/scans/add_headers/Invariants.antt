@@ -3,7 +3,7 @@ use Rattle.f11_findings.specs.Finding.{finding}
 use Rattle.f11_vfy.specs.Surveying.Bits.{has}
 use Rattle.f11_vfy.specs.Scanning.Scans.{Holds, code_of}
 use Rattle.f11_vfy.specs.Surveying.Slot.{kept_slot}
-use Rattle.f11_vfy.specs.Scanning.Found.{Finds, FoundAmong}
+use Rattle.f11_findings.specs.Found.{Finds, FoundAmong}
 use Rattle.f11_vfy.proofs.findings.scans.add_headers.Given as goal
 
 abbrev pub invariant-loop-k : goal.invariant-loop-k

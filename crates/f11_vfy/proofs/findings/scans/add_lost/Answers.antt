@@ -2,7 +2,7 @@ use Rattle.std.proofs.Common.{◌≡◌, ◌+◌, ◌*◌, ◌∙◌, true, min,
 use Rattle.f11_findings.specs.Finding.{finding}
 use Rattle.f11_vfy.specs.Surveying.Bits.{limit_of}
 use Rattle.f11_vfy.specs.Scanning.Scans.{is_lost, ends_lost, start_of}
-use Rattle.f11_vfy.proofs.Scanning.Found.{among-none, among-all, among-behind}
+use Rattle.f11_findings.proofs.FoundLemmas.{among-none, among-all, among-behind}
 use Rattle.f11_vfy.proofs.findings.scans.add_lost.Goals as goal
 
 pub loop-i-init : goal.loop-i-init

@@ -1,8 +1,8 @@
 use Rattle.std.proofs.Common.{◌≡◌, ◌≤◌, ◌<◌, ℕ, ◌-◌, ◌*◌, ◌+◌, ◌∙◌, min, true, ap, sym, arith}
 use Rattle.f11_vfy.specs.Surveying.Bits.{limit_of}
 use Rattle.f11_vfy.specs.Scanning.Scans.{is_lost, ends_lost, start_of}
-use Rattle.f11_vfy.proofs.Scanning.Found.{finds-none, among-all, among-more, start-stays, start-moves}
-use Rattle.f11_vfy.proofs.Scanning.Lost.{known-not_lost, no-runs, starts-behind}
+use Rattle.f11_findings.proofs.FoundLemmas.{finds-none, among-all, among-more}
+use Rattle.f11_vfy.proofs.Scanning.Lost.{start-stays, start-moves, known-not_lost, no-runs, starts-behind}
 use Rattle.f11_vfy.proofs.Surveying.Words.{full-words}
 use Rattle.f11_vfy.proofs.findings.scans.add_lost_word.Goals as goal
 use Rattle.f11_vfy.proofs.findings.scans.add_lost_word.Goals.{then-not-is_lost, else-not-is_lost}

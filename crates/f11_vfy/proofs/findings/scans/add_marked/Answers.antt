@@ -1,7 +1,7 @@
 use Rattle.std.proofs.Common.{◌≡◌, ◌+◌, ◌*◌, true, min, arith}
 use Rattle.f11_findings.specs.Finding.{finding}
 use Rattle.f11_vfy.specs.Surveying.Bits.{has, limit_of}
-use Rattle.f11_vfy.proofs.Scanning.Found.{among-none, among-all, among-behind}
+use Rattle.f11_findings.proofs.FoundLemmas.{among-none, among-all, among-behind}
 use Rattle.f11_vfy.proofs.findings.scans.add_marked.Goals as goal
 
 pub loop-i-init : goal.loop-i-init

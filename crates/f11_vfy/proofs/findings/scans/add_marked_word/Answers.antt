@@ -1,6 +1,6 @@
 use Rattle.std.proofs.Common.{◌≡◌, ◌≤◌, ◌*◌, ◌∙◌, true, sym, arith}
 use Rattle.f11_vfy.specs.Surveying.Bits.{has}
-use Rattle.f11_vfy.proofs.Scanning.Found.{finds-none, among-more, among-all}
+use Rattle.f11_findings.proofs.FoundLemmas.{finds-none, among-more, among-all}
 use Rattle.f11_vfy.proofs.Surveying.Words.{zero-word}
 use Rattle.f11_vfy.proofs.findings.scans.add_marked_word.Goals as goal
 

@@ -1,7 +1,7 @@
 use Rattle.std.proofs.Common.{◌≡◌, ◌≤◌, ◌*◌, true}
 use Rattle.f11_findings.specs.Finding.{finding}
 use Rattle.f11_vfy.specs.Surveying.Bits.{has}
-use Rattle.f11_vfy.specs.Scanning.Found.{Finds, FoundAmong}
+use Rattle.f11_findings.specs.Found.{Finds, FoundAmong}
 use Rattle.f11_vfy.proofs.findings.scans.add_marked_word.Given as goal
 
 abbrev pub invariant-loop-k : goal.invariant-loop-k

@@ -3,7 +3,7 @@ use Rattle.f11_header.specs.Fields.{map_area}
 use Rattle.f11_map.specs.MapArea.{runs_of, blocks_in}
 use Rattle.f11_vfy.specs.Surveying.Bits.{limit_of}
 use Rattle.f11_vfy.specs.Surveying.Count.{Shows, times_among}
-use Rattle.f11_vfy.specs.Scanning.Found.{Finds}
+use Rattle.f11_findings.specs.Found.{Finds}
 use Rattle.f11_vfy.specs.Surveying.Headers.{OutsideOf}
 use Rattle.f11_vfy.proofs.survey.pointers.take_pointers.Given as goal
 

@@ -1,8 +1,11 @@
-use Rattle.std.proofs.Common.{[]}
-use Rattle.f11_findings.specs.Finding.{AddsFindings, gather}
-use Rattle.rt11_volume.specs.Verifying.Judging.{visit_notes}
+use Rattle.std.proofs.Common.{◌≡◌, []}
+use Rattle.f11_dev.specs.Image.{Image}
+use Rattle.f11_findings.specs.Found.{Finds, FoundOfEach}
+use Rattle.rt11_volume.specs.InHand.{visits}
+use Rattle.rt11_volume.specs.Verifying.Scans.{number_at, SegmentNotes}
 use Rattle.rt11_volume.proofs.verifier.notes.find_notes.Given as goal
 
 -- the notes of the segments so far
 abbrev pub invariant-loop-j : goal.invariant-loop-j
-invariant-loop-j l = AddsFindings [] l.notes (gather (visit_notes l.visited) l.j)
+invariant-loop-j l = (image : Image) → l.visited ≡ visits image → Finds
+    (FoundOfEach (λ j. SegmentNotes image j (number_at image j)) l.j) [] l.notes

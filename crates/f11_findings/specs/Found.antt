@@ -16,3 +16,17 @@ pub record FoundAmong (P : ℕ → Type 0) (found : ℕ → Finding) (n code a b
   pub below : number < n
   pub holds : P number
   pub is : finding code a b ≡ found number
+
+-- for one of the first n numbers the relation of that number says the finding
+pub record FoundOfEach (R : ℕ → ℕ → ℕ → ℕ → Type 0) (n code a b : ℕ) : Type 0 where
+  pub number : ℕ
+  pub below : number < n
+  pub says : R number code a b
+
+-- this finding and no other, where that holds
+abbrev pub Where : Type 0 → Finding → ℕ → ℕ → ℕ → Type 0
+Where P f code a b = P × (finding code a b ≡ f)
+
+-- what one of two relations says
+abbrev pub Either : (ℕ → ℕ → ℕ → Type 0) → (ℕ → ℕ → ℕ → Type 0) → ℕ → ℕ → ℕ → Type 0
+Either R S code a b = R code a b ⊎ S code a b
